@@ -1,0 +1,141 @@
+-- Tests of lists: a turn of a loop that tests, one element more at the end, one place. Assumes nothing.
+use Prim.Native.Nat.{ℕ, zero, suc, _+_, _-_, _≤_, _<_}
+use mathlib.Core.Path.{_≡_, refl, sym, ap, _∙_}
+use mathlib.Core.Bool.{Bool, true, false, _&&_, not}
+use mathlib.Core.List.{List, [], _∷_, _++_}
+use mathlib.Core.Logic.{⊎-elim}
+use native.Mathlib.Nat.{le-of-suc-le-suc, not-suc-le-zero, eq-or-lt-of-le}
+use native.Mathlib.Numerals.{add-one}
+use native.Mathlib.Omega.{arith}
+use borrow.Author.Tests.{not-true}
+use lib.ListN.{length, drop, getD, set, length-drop}
+use lib.Seq.{getD-drop}
+use Rattle.lists.specs.Tests.{some, every, everyFrom, distinct, allBelow}
+use Rattle.lists.specs.Arrays.{rest}
+use Rattle.lists.proofs.Bools.{and-left, and-right, and-false, or-left, or-right}
+use Rattle.lists.proofs.Arrays.{rest-cons}
+
+module _ {A : Type 0} where
+  -- ---- one turn of a loop that looks among the first n elements: what is left to look at
+  pub some-hit : (p : A → Bool) (d : A) (xs : List A) (n i : ℕ) → i < n → i < length xs → p (getD xs i d) ≡ true → some p (rest xs n i) ≡ true
+  unfolding some rest
+  some-hit p d xs n i h l e = ap (some p) (rest-cons d xs n i h l) ∙ rw e
+
+  pub some-miss : (p : A → Bool) (d : A) (xs : List A) (n i : ℕ) → i < n → i < length xs → p (getD xs i d) ≡ false
+      → some p (rest xs n i) ≡ some p (rest xs n (i + 1))
+  unfolding some rest
+  some-miss p d xs n i h l e = ap (some p) (rest-cons d xs n i h l) ∙ rw e
+
+  -- ---- one element more at the end
+  pub some-snoc : (p : A → Bool) (l : List A) (x : A) → some p l ≡ false → p x ≡ false → some p (l ++ (x ∷ [])) ≡ false
+  unfolding some
+  some-snoc p [] x h e = rw e
+  some-snoc p (y ∷ l) x h e = rw (or-left (p y) (some p l) h) (some-snoc p l x (or-right (p y) (some p l) h) e)
+
+  pub every-snoc : (p : A → Bool) (l : List A) (x : A) → every p l ≡ true → p x ≡ true → every p (l ++ (x ∷ [])) ≡ true
+  unfolding every
+  every-snoc p [] x h e = rw e
+  every-snoc p (y ∷ l) x h e = rw (and-left (p y) (every p l) h) (every-snoc p l x (and-right (p y) (every p l) h) e)
+
+  -- a test of two that does not mind their order
+  module _ (r : A → A → Bool) (swap : (a b : A) → r a b ≡ r b a) where
+    pub distinct-snoc : (l : List A) (x : A) → distinct r l ≡ true → some (r x) l ≡ false → distinct r (l ++ (x ∷ [])) ≡ true
+    unfolding distinct some
+    distinct-snoc [] x h e = refl
+    distinct-snoc (y ∷ l) x h e =
+        let old = and-left (not (some (r y) l)) (distinct r l) h in
+        rw (some-snoc (r y) l x (not-true (some (r y) l) old) (swap y x ∙ or-left (r x y) (some (r x) l) e))
+        (distinct-snoc l x (and-right (not (some (r y) l)) (distinct r l) h) (or-right (r x y) (some (r x) l) e))
+
+  -- ---- at a place
+  pub every-at : (p : A → Bool) (d : A) (l : List A) (i : ℕ) → every p l ≡ true → i < length l → p (getD l i d) ≡ true
+  unfolding every
+  every-at p d [] i h b = absurd (not-suc-le-zero b)
+  every-at p d (y ∷ l) zero h b = and-left (p y) (every p l) h
+  every-at p d (y ∷ l) (suc i) h b = every-at p d l i (and-right (p y) (every p l) h) (le-of-suc-le-suc b)
+
+  -- from place k on, and back
+  pub every-drop : (d : A) (p : A → Bool) (xs : List A) (k : ℕ) → ((i : ℕ) → k ≤ i → i < length xs → p (getD xs i d) ≡ true) → every p (drop k xs) ≡ true
+  unfolding every
+  every-drop d p [] zero h = refl
+  every-drop d p [] (suc k) h = refl
+  every-drop d p (x ∷ xs) zero h = rw (h 0 (omega arith) (omega arith)) (every-drop d p xs zero (λ i a b. h (suc i) (omega arith) (omega arith)))
+  every-drop d p (x ∷ xs) (suc k) h = every-drop d p xs k (λ i a b. h (suc i) (omega arith) (omega arith))
+
+  pub drop-every : (d : A) (p : A → Bool) (xs : List A) (k : ℕ) → every p (drop k xs) ≡ true → (i : ℕ) → k ≤ i → i < length xs → p (getD xs i d) ≡ true
+  drop-every d p xs k h i a b =
+      let e : getD (drop k xs) (i - k) d ≡ getD xs i d = getD-drop k xs (i - k) d ∙ ap (λ (j : ℕ). getD xs j d) (omega arith) in
+      rw (← e) (every-at p d (drop k xs) (i - k) h (omega (arith, length-drop k xs)))
+
+  distinct-suc : (r : A → A → Bool) (d : A) (l : List A) (i : ℕ) → distinct r l ≡ true → i < length l → some (r (getD l i d)) (drop (suc i) l) ≡ false
+  unfolding distinct
+  distinct-suc r d [] i h b = absurd (not-suc-le-zero b)
+  distinct-suc r d (y ∷ l) zero h b = not-true (some (r y) l) (and-left (not (some (r y) l)) (distinct r l) h)
+  distinct-suc r d (y ∷ l) (suc i) h b = distinct-suc r d l i (and-right (not (some (r y) l)) (distinct r l) h) (le-of-suc-le-suc b)
+
+  pub distinct-at : (r : A → A → Bool) (d : A) (l : List A) (i : ℕ) → distinct r l ≡ true → i < length l → some (r (getD l i d)) (drop (i + 1) l) ≡ false
+  distinct-at r d l i h b = rw add-one (distinct-suc r d l i h b)
+
+  pub distinct-from : (d : A) (r : A → A → Bool) (xs : List A) → ((i : ℕ) → i < length xs → some (r (getD xs i d)) (drop (suc i) xs) ≡ false) → distinct r xs ≡ true
+  unfolding distinct
+  distinct-from d r [] h = refl
+  distinct-from d r (x ∷ xs) h = rw (h 0 (omega arith)) (distinct-from d r xs (λ i b. h (suc i) (omega arith)))
+
+  -- ---- by number
+  pub from-each : (d : A) (p : ℕ → A → Bool) (j : ℕ) (xs : List A) → ((i : ℕ) → i < length xs → (m : ℕ) → m ≡ i + j → p m (getD xs i d) ≡ true) → everyFrom p j xs ≡ true
+  unfolding everyFrom
+  from-each d p j [] h = refl
+  from-each d p j (x ∷ xs) h = rw (h 0 (omega arith) j (omega arith)) (from-each d p (suc j) xs (λ i b m e. h (suc i) (omega arith) m (omega arith)))
+
+  pub from-at : (d : A) (p : ℕ → A → Bool) (j : ℕ) (xs : List A) → everyFrom p j xs ≡ true → (i : ℕ) → i < length xs → (m : ℕ) → m ≡ i + j → p m (getD xs i d) ≡ true
+  unfolding everyFrom
+  from-at d p j [] h i b m e = absurd (not-suc-le-zero b)
+  from-at d p j (x ∷ xs) h zero b m e = let n : m ≡ j = omega arith in rw n (and-left (p j x) (everyFrom p (suc j) xs) h)
+  from-at d p j (x ∷ xs) h (suc i) b m e = from-at d p (suc j) xs (and-right (p j x) (everyFrom p (suc j) xs) h) i (le-of-suc-le-suc b) m (omega arith)
+
+  at-number : (p : ℕ → A → Bool) (j k : ℕ) (x : A) → j ≡ k → p j x ≡ true → p k x ≡ true
+  at-number p j k x e h = rw (← e) h
+
+  pub from-snoc : (p : ℕ → A → Bool) (k : ℕ) (xs : List A) (x : A) → everyFrom p k xs ≡ true → p (length xs + k) x ≡ true → everyFrom p k (xs ++ (x ∷ [])) ≡ true
+  unfolding everyFrom
+  from-snoc p k [] x h e = rw (at-number p (0 + k) k x (omega arith) e)
+  from-snoc p k (y ∷ xs) x h e =
+      rw (and-left (p k y) (everyFrom p (suc k) xs) h)
+      (from-snoc p (suc k) xs x (and-right (p k y) (everyFrom p (suc k) xs) h) (at-number p (length (y ∷ xs) + k) (length xs + suc k) x (omega arith) e))
+
+  -- one element changed so that it still passes
+  pub from-set : (d : A) (p : ℕ → A → Bool) (f : A → A) → ((k : ℕ) (x : A) → p k x ≡ true → p k (f x) ≡ true)
+      → (k i : ℕ) (xs : List A) → everyFrom p k xs ≡ true → everyFrom p k (set xs i (f (getD xs i d))) ≡ true
+  unfolding everyFrom
+  from-set d p f keep k i [] h = h
+  from-set d p f keep k zero (x ∷ xs) h =
+      rw (keep k x (and-left (p k x) (everyFrom p (suc k) xs) h)) (and-right (p k x) (everyFrom p (suc k) xs) h)
+  from-set d p f keep k (suc i) (x ∷ xs) h =
+      rw (and-left (p k x) (everyFrom p (suc k) xs) h) (from-set d p f keep (suc k) i xs (and-right (p k x) (everyFrom p (suc k) xs) h))
+
+-- ---- a loop that tests the numbers below n
+pub below-zero : (p : ℕ → Bool) → allBelow p 0 ≡ true
+unfolding allBelow
+below-zero p = refl
+
+pub below-step : (p : ℕ → Bool) (i : ℕ) {b q : Bool} → b ≡ allBelow p i → q ≡ p i → b && q ≡ allBelow p (i + 1)
+unfolding allBelow
+below-step p i h e = rw (add-one, h, e)
+
+below-fail : (p : ℕ → Bool) (n i : ℕ) → i < n → p i ≡ false → allBelow p n ≡ false
+unfolding allBelow
+below-fail p zero i h e = absurd (not-suc-le-zero h)
+below-fail p (suc n) i h e =
+    ⊎-elim (λ (q : i ≡ n). rw (← q, e) (and-false (allBelow p i))) (λ (q : i < n). rw (below-fail p n i q e)) (eq-or-lt-of-le (le-of-suc-le-suc h))
+
+pub below-at : (p : ℕ → Bool) (n i : ℕ) → allBelow p n ≡ true → i < n → p i ≡ true
+below-at p n i h l = go (p i) refl
+  where
+    go : (b : Bool) → p i ≡ b → p i ≡ true
+    go true e = e
+    go false e = let z : true ≡ false = sym h ∙ below-fail p n i l e in e ∙ sym z
+
+pub below-all : (p : ℕ → Bool) (n : ℕ) → ((i : ℕ) → i < n → p i ≡ true) → allBelow p n ≡ true
+unfolding allBelow
+below-all p zero h = refl
+below-all p (suc n) h = rw (below-all p n (λ i b. h i (omega arith)), h n (omega arith))
