@@ -1,0 +1,3 @@
+-- Sets of small numbers as binary digits: what `Marks` and `LoadSet` mean.
+pub mod Bits
+pub mod Sets
