@@ -1,0 +1,99 @@
+-- The test place by place and part by part, as the code goes, is the test of the limits. Assumes nothing.
+use Prim.Native.Nat.{ℕ, zero, suc, _/_, _^_, _≤_, _<_}
+use mathlib.Core.Path.{_≡_, refl, sym}
+use mathlib.Core.Bool.{Bool, true, false, _&&_, _||_}
+use native.Mathlib.Nat.{div-lt-iff-lt-mul, div-eq-of-lt, le-trans}
+use native.Mathlib.Omega.{arith}
+use borrow.Author.Tests.{eqb-true, eq-eqb, ne-eqb, leb-true, le-leb, ltb-true, lt-ltb, le-ltb}
+use lib.Dec.{eqb, leb, ltb}
+use lib.ListN.{length}
+use lib.Pow.{pow-pos, pow-mono}
+use Rattle.lists.specs.Tests.{allBelow}
+use Rattle.lists.specs.Places.{restFree}
+use Rattle.lists.proofs.Bools.{and-false, same-test}
+use Rattle.lists.proofs.Places.{places-limited, places-numbered}
+use Rattle.marks.specs.declared.Marks.{Marks}
+use Rattle.tables.specs.declared.rule.RuleRange.{RuleRange}
+use Rattle.tables.specs.declared.rule.TransitionList.{TransitionList}
+use Rattle.tables.specs.declared.load.LoadList.{LoadList}
+use Rattle.tables.specs.declared.tables.StoredBook.{StoredBook}
+use Rattle.tables.specs.declared.tables.StoredTables.{StoredTables}
+use Rattle.tables.specs.Tables.{Load, noRule, noLoad}
+use Rattle.tables.specs.Limits.{sizeIn, marksIn, ruleIn, sameRule, loadRuleRange, rowRuleRange, rulesIn, maxRules, bookIn, parentIn, loadIn, maxLoads, loadsIn, budgetIn, limits}
+use Rattle.tables.specs.Stored.{rulesOf, loadsOf, bookOf, tablesOf, zeroRule, zeroLoad, keepsLimits}
+use Rattle.tables.specs.Places.{rulePlace, loadPlace, rulesHeld, loadsHeld, bookHeld}
+
+-- ---- marks: none stands past n where the number shifted by n is 0, and none past 8 in a byte
+pub marks-shifted : (n : ℕ) (m : Marks) → eqb (m .0 / 2 ^ n) 0 ≡ marksIn n m
+marks-shifted n m =
+    same-test _ _
+    (λ h.
+    let none : m .0 / 2 ^ n < 1 = omega (arith, eqb-true (m .0 / 2 ^ n) 0 h) in
+    lt-ltb (m .0) (2 ^ n) (omega (arith, div-lt-iff-lt-mul {k = 2 ^ n} {x = m .0} {y = 1} (pow-pos n) .0 none)))
+    (λ h. eq-eqb (m .0 / 2 ^ n) 0 (div-eq-of-lt (ltb-true (m .0) (2 ^ n) h)))
+
+pub marks-all : (n : ℕ) (m : Marks) → m .0 < 2 ^ 8 → 8 ≤ n → true ≡ marksIn n m
+marks-all n m h l = sym (lt-ltb (m .0) (2 ^ n) (le-trans h (pow-mono l)))
+
+-- ---- a load: the root has parent 0, a later load a smaller number
+below-suc : (a n : ℕ) → ltb a (suc n) ≡ leb a n
+below-suc a n = same-test _ _ (λ h. le-leb a n (omega (arith, ltb-true a (suc n) h))) (λ h. lt-ltb a (suc n) (omega (arith, leb-true a n h)))
+
+parent-in : (k p : ℕ) → (eqb k 1 && eqb p 0) || (leb 1 p && ltb p k) ≡ parentIn k p
+parent-in zero p = rw (le-ltb p 0 (omega arith)) (and-false (leb 1 p))
+parent-in (suc zero) zero = refl
+parent-in (suc zero) (suc p) = rw (ne-eqb (suc p) 0 (λ e. omega arith), le-ltb (suc p) 1 (omega arith)) (and-false (leb 1 (suc p)))
+parent-in (suc (suc k)) p = rw (ne-eqb (suc (suc k)) 1 (λ e. omega arith), below-suc p (suc k))
+
+pub load-range : (k : ℕ) (l : Load)
+    → ((eqb k 1 && eqb (l .parent) 0) || (leb 1 (l .parent) && ltb (l .parent) k)) && leb (l .power) 500 && leb (l .worth) 1000 ≡ loadIn k l
+unfolding loadIn
+load-range k l = rw (parent-in k (l .parent))
+
+-- ---- lists
+pub rules-placed : (m : RuleRange) (l : TransitionList) → length (l .items) ≡ maxRules
+    → allBelow (rulePlace m l) maxRules && leb (l .count) maxRules ≡ rulesHeld m l
+unfolding rulePlace rulesHeld
+rules-placed m l e = places-limited noRule zeroRule maxRules (l .count) (l .items) e (ruleIn m) sameRule
+
+pub loads-placed : (l : LoadList) → length (l .items) ≡ maxLoads → allBelow (loadPlace l) maxLoads && leb (l .count) maxLoads ≡ loadsHeld l
+unfolding loadPlace loadsHeld loadsIn
+loads-placed l e = places-numbered noLoad zeroLoad maxLoads (l .count) (l .items) e loadIn
+
+-- ---- the book, and the tables
+book-order : (a b d r x s y : Bool) → a && b && d && (r && x) && (s && y) ≡ r && s && (a && b && d && x && y)
+book-order false b d r x s y = sym (and-false (r && s))
+book-order true false d r x s y = sym (and-false (r && s))
+book-order true true false r x s y = sym (and-false (r && s))
+book-order true true true false x s y = refl
+book-order true true true true false s y = sym (and-false s)
+book-order true true true true true s y = refl
+
+pub book-placed : (b : StoredBook)
+    → sizeIn (b .states) (b .stages) && marksIn (b .states) (b .starts) && marksIn (b .stages) (b .ends)
+    && rulesHeld (loadRuleRange (b .states) (b .stages)) (b .«load_rules») && rulesHeld (rowRuleRange (b .states) (b .stages)) (b .«row_rules»)
+    ≡ bookHeld b
+unfolding rulesHeld bookHeld bookOf bookIn
+book-placed b =
+    book-order
+    (sizeIn (b .states) (b .stages))
+    (marksIn (b .states) (b .starts))
+    (marksIn (b .stages) (b .ends))
+    (restFree zeroRule maxRules (b .«load_rules» .count) (b .«load_rules» .items))
+    (rulesIn (loadRuleRange (b .states) (b .stages)) (rulesOf (b .«load_rules»)))
+    (restFree zeroRule maxRules (b .«row_rules» .count) (b .«row_rules» .items))
+    (rulesIn (rowRuleRange (b .states) (b .stages)) (rulesOf (b .«row_rules»)))
+
+tables-order : (r b q l d : Bool) → (r && b) && (q && l) && d ≡ r && q && (b && l && d)
+tables-order false b q l d = refl
+tables-order true false q l d = sym (and-false q)
+tables-order true true false l d = refl
+tables-order true true true l d = refl
+
+pub tables-placed : (s : StoredTables) → bookHeld (s .book) && loadsHeld (s .loads) && budgetIn (s .budget) ≡ keepsLimits s
+unfolding bookHeld loadsHeld keepsLimits limits tablesOf
+tables-placed s =
+    let load-free = restFree zeroRule maxRules (s .book .«load_rules» .count) (s .book .«load_rules» .items) in
+    let row-free = restFree zeroRule maxRules (s .book .«row_rules» .count) (s .book .«row_rules» .items) in
+    let free = restFree zeroLoad maxLoads (s .loads .count) (s .loads .items) in
+    tables-order (load-free && row-free) (bookIn (bookOf (s .book))) free (loadsIn (loadsOf (s .loads))) (budgetIn (s .budget))

@@ -1,0 +1,139 @@
+-- Tables that keep the limits are the ones that lie in the planner that holds them; the test of tables that are handed in is true exactly
+-- if they are `stored t` for tables t that keep the limits. Assumes nothing.
+use Prim.Native.Nat.{ℕ, _≤_}
+use mathlib.Core.Path.{_≡_, refl, sym, ap, _∙_}
+use mathlib.Core.Bool.{true, _&&_}
+use mathlib.Core.List.{List}
+use mathlib.Core.Logic.{_↔_}
+use borrow.Author.Tests.{eqb-true}
+use lib.Dec.{eqb}
+use lib.ListN.{length}
+use Rattle.lists.specs.Arrays.{laid}
+use Rattle.lists.specs.Places.{restFree}
+use Rattle.lists.proofs.Bools.{and-left, and-right}
+use Rattle.lists.proofs.Arrays.{take-laid}
+use Rattle.lists.proofs.Places.{limited-parts, laid-free, free-laid, free-few, taken-length}
+use Rattle.tables.specs.declared.rule.RuleRange.{RuleRange}
+use Rattle.tables.specs.declared.rule.TransitionList.{TransitionList}
+use Rattle.tables.specs.declared.load.LoadList.{LoadList}
+use Rattle.tables.specs.declared.tables.StoredTables.{StoredTables}
+use Rattle.tables.specs.Tables.{Transition, Load, Tables, noRule, noLoad}
+use Rattle.tables.specs.Limits.{maxRules, maxLoads, ruleIn, sameRule, rulesIn, limits, Limits}
+use Rattle.tables.specs.Stored.{storedRules, storedLoads, storedBook, stored, rulesOf, loadsOf, bookOf, tablesOf, zeroRule, zeroLoad, keepsLimits, Holds}
+use Rattle.tables.proofs.Parts.{limits-parts}
+
+-- the three numbers of a place that holds 0
+zeros : (a b d : ℕ) → eqb a 0 && eqb b 0 && eqb d 0 ≡ true → (a ≡ 0) × (b ≡ 0) × (d ≡ 0)
+zeros a b d h =
+    let h2 = and-left (eqb a 0 && eqb b 0) (eqb d 0) h in (
+      eqb-true a 0 (and-left (eqb a 0) (eqb b 0) h2),
+      eqb-true b 0 (and-right (eqb a 0) (eqb b 0) h2),
+      eqb-true d 0 (and-right (eqb a 0 && eqb b 0) (eqb d 0) h),
+    )
+
+rule-zero : (r : Transition) → zeroRule r ≡ true → r ≡ noRule
+unfolding zeroRule
+rule-zero r h = let z = zeros (r .from) (r .label) (r .to) h in λ i. record { from = z .0 i; label = z .1 i; to = z .2 i }
+
+load-zero : (l : Load) → zeroLoad l ≡ true → l ≡ noLoad
+unfolding zeroLoad
+load-zero l h = let z = zeros (l .parent) (l .power) (l .worth) h in λ i. record { parent = z .0 i; power = z .1 i; worth = z .2 i }
+
+-- ---- a list laid out passes the test of its unused places, and what passes it is a list laid out
+pub rules-few : (m : RuleRange) (rs : List Transition) → rulesIn m rs ≡ true → length rs ≤ maxRules
+rules-few m rs h = limited-parts (ruleIn m) sameRule maxRules rs h .few
+
+rules-free : (rs : List Transition) → length rs ≤ maxRules → restFree zeroRule maxRules (length rs) (laid noRule maxRules rs) ≡ true
+unfolding zeroRule
+rules-free rs h = laid-free noRule zeroRule refl rule-zero maxRules rs h
+
+loads-free : (ls : List Load) → length ls ≤ maxLoads → restFree zeroLoad maxLoads (length ls) (laid noLoad maxLoads ls) ≡ true
+unfolding zeroLoad
+loads-free ls h = laid-free noLoad zeroLoad refl load-zero maxLoads ls h
+
+rules-laid : (l : TransitionList) → length (l .items) ≡ maxRules → restFree zeroRule maxRules (l .count) (l .items) ≡ true → l ≡ storedRules (rulesOf l)
+unfolding zeroRule
+rules-laid l e h =
+    let count = taken-length noRule zeroRule maxRules (l .count) (l .items) e (free-few noRule zeroRule maxRules (l .count) (l .items) e h) in
+    λ i. record { items = free-laid noRule zeroRule refl rule-zero maxRules (l .count) (l .items) e h i; count = sym count i }
+
+loads-laid : (l : LoadList) → length (l .items) ≡ maxLoads → restFree zeroLoad maxLoads (l .count) (l .items) ≡ true → l ≡ storedLoads (loadsOf l)
+unfolding zeroLoad
+loads-laid l e h =
+    let count = taken-length noLoad zeroLoad maxLoads (l .count) (l .items) e (free-few noLoad zeroLoad maxLoads (l .count) (l .items) e h) in
+    λ i. record { items = free-laid noLoad zeroLoad refl load-zero maxLoads (l .count) (l .items) e h i; count = sym count i }
+
+-- ---- tables that keep the limits
+module _ (t : Tables) (h : Limits t) where
+  load-rules-few : length (t .book .loadRules) ≤ maxRules
+  load-rules-few = rules-few _ (t .book .loadRules) (limits-parts t h .book .loadRules)
+
+  row-rules-few : length (t .book .rowRules) ≤ maxRules
+  row-rules-few = rules-few _ (t .book .rowRules) (limits-parts t h .book .rowRules)
+
+  pub tables-stored : tablesOf (stored t) ≡ t
+  unfolding tablesOf bookOf stored storedBook
+  tables-stored = λ i. record {
+    book = record {
+      states = t .book .states;
+      stages = t .book .stages;
+      starts = t .book .starts;
+      ends = t .book .ends;
+      loadRules = take-laid noRule maxRules (t .book .loadRules) load-rules-few i;
+      rowRules = take-laid noRule maxRules (t .book .rowRules) row-rules-few i;
+    };
+    loads = take-laid noLoad maxLoads (t .loads) (limits-parts t h .few) i;
+    budget = t .budget;
+  }
+
+  pub stored-keeps : keepsLimits (stored t) ≡ true
+  unfolding keepsLimits stored storedBook
+  stored-keeps =
+      rw (
+        rules-free (t .book .loadRules) load-rules-few,
+        rules-free (t .book .rowRules) row-rules-few,
+        loads-free (t .loads) (limits-parts t h .few),
+        tables-stored,
+      )
+      h
+
+-- ---- tables that are handed in
+-- the lengths of their arrays, which their type gives
+pub record Lengths (s : StoredTables) : Type 0 where
+  pub loadRules : length (s .book .«load_rules» .items) ≡ maxRules
+  pub rowRules : length (s .book .«row_rules» .items) ≡ maxRules
+  pub loads : length (s .loads .items) ≡ maxLoads
+
+module _ (s : StoredTables) (len : Lengths s) where
+  pub keeps-stored : keepsLimits s ≡ true → (s ≡ stored (tablesOf s)) × Limits (tablesOf s)
+  unfolding keepsLimits stored storedBook tablesOf bookOf
+  keeps-stored h =
+      let load-free = restFree zeroRule maxRules (s .book .«load_rules» .count) (s .book .«load_rules» .items) in
+      let row-free = restFree zeroRule maxRules (s .book .«row_rules» .count) (s .book .«row_rules» .items) in
+      let free = restFree zeroLoad maxLoads (s .loads .count) (s .loads .items) in
+      let h3 = and-left (load-free && row-free && free) (limits (tablesOf s)) h in
+      let h2 = and-left (load-free && row-free) free h3 in
+      let load-rules = rules-laid (s .book .«load_rules») (len .loadRules) (and-left load-free row-free h2) in
+      let row-rules = rules-laid (s .book .«row_rules») (len .rowRules) (and-right load-free row-free h2) in
+      let loads = loads-laid (s .loads) (len .loads) (and-right (load-free && row-free) free h3) in (
+        λ i. record {
+          book = record {
+            states = s .book .states;
+            stages = s .book .stages;
+            starts = s .book .starts;
+            ends = s .book .ends;
+            «load_rules» = load-rules i;
+            «row_rules» = row-rules i;
+          };
+          loads = loads i;
+          budget = s .budget;
+        },
+        and-right (load-free && row-free && free) (limits (tablesOf s)) h,
+      )
+
+  -- the test is true exactly if they are `stored t` for tables t that keep the limits
+  pub keeps-exactly : (keepsLimits s ≡ true) ↔ Holds s
+  keeps-exactly = (
+    λ h. let p = keeps-stored h in (tablesOf s, p .1, p .0),
+    λ (t, h, e). ap keepsLimits e ∙ stored-keeps t h,
+  )

@@ -1,0 +1,97 @@
+-- The limits of "Loads and book" of paper 01, as one test of the tables. Each clause quotes its sentence.
+-- Assumes nothing.
+use Prim.Native.Nat.{ℕ, zero, suc, _^_}
+use mathlib.Core.Path.{_≡_}
+use mathlib.Core.Bool.{Bool, true, false, _&&_, _||_}
+use mathlib.Core.List.{List}
+use lib.Dec.{eqb, leb, ltb}
+use lib.ListN.{length}
+use Rattle.lists.specs.Tests.{everyFrom}
+use Rattle.lists.specs.Places.{limited}
+use Rattle.marks.specs.declared.Marks.{Marks}
+use Rattle.tables.specs.declared.rule.RuleRange.{RuleRange}
+use Rattle.tables.specs.declared.rule.Transition.{Transition}
+use Rattle.tables.specs.declared.load.Load.{Load}
+use Rattle.tables.specs.Tables.{Book, Tables}
+
+-- is x from a to b?
+abbrev pub between : ℕ → ℕ → ℕ → Bool
+between a b x = leb a x && leb x b
+
+-- "S and G from 1 to 8"
+abbrev pub maxStates : ℕ
+maxStates = 8
+
+abbrev pub bookSize : (states stages : ℕ) → Bool
+bookSize s g = between 1 maxStates s && between 1 maxStates g
+
+-- "S and G are both 0 or neither is"
+abbrev pub sizeIn : (states stages : ℕ) → Bool
+sizeIn s g = (eqb s 0 && eqb g 0) || bookSize s g
+
+-- "marks stand only on states up to S and stages up to G"
+abbrev pub marksIn : ℕ → Marks → Bool
+marksIn n m = ltb (m .0) (2 ^ n)
+
+-- "every figure and reference is in range": the three numbers of a rule of either sort
+unfoldable pub ruleIn : RuleRange → Transition → Bool
+ruleIn m r = between 1 (m .from) (r .from) && between (m .low) (m .high) (r .label) && between 1 (m .to) (r .to)
+
+-- "Load rule (state, mark, stage)", mark 0 or 1
+abbrev pub loadRuleRange : (states stages : ℕ) → RuleRange
+loadRuleRange s g = record { from = s; low = 0; high = 1; to = g }
+
+-- "Row rule (stage, state, next stage)"
+abbrev pub rowRuleRange : (states stages : ℕ) → RuleRange
+rowRuleRange s g = record { from = g; low = 1; high = s; to = g }
+
+unfoldable pub sameRule : Transition → Transition → Bool
+sameRule a b = eqb (a .from) (b .from) && eqb (a .label) (b .label) && eqb (a .to) (b .to)
+
+-- "There are at most 32 rules of each sort"; "no rule is there twice"
+abbrev pub maxRules : ℕ
+maxRules = 32
+
+abbrev pub rulesIn : RuleRange → List Transition → Bool
+rulesIn m rs = limited (ruleIn m) sameRule maxRules rs
+
+unfoldable pub bookIn : Book → Bool
+bookIn b =
+    sizeIn (b .states) (b .stages)
+    && marksIn (b .states) (b .starts)
+    && marksIn (b .stages) (b .ends)
+    && rulesIn (loadRuleRange (b .states) (b .stages)) (b .loadRules)
+    && rulesIn (rowRuleRange (b .states) (b .stages)) (b .rowRules)
+
+-- "Load 1 is the root with parent 0; each later load has a parent with a smaller number."
+abbrev pub parentIn : (number parent : ℕ) → Bool
+parentIn zero p = false
+parentIn (suc zero) p = eqb p 0
+parentIn (suc (suc k)) p = between 1 (suc k) p
+
+-- "Power is 0 to 500 watts, worth 0 to 1,000. The budget is 0 to 500 watts."
+abbrev pub powerIn : ℕ → Bool
+powerIn w = leb w 500
+
+abbrev pub worthIn : ℕ → Bool
+worthIn v = leb v 1000
+
+abbrev pub budgetIn : ℕ → Bool
+budgetIn b = leb b 500
+
+unfoldable pub loadIn : (number : ℕ) → Load → Bool
+loadIn k l = parentIn k (l .parent) && powerIn (l .power) && worthIn (l .worth)
+
+-- "numbered 1 to 64"
+abbrev pub maxLoads : ℕ
+maxLoads = 64
+
+unfoldable pub loadsIn : List Load → Bool
+loadsIn ls = leb (length ls) maxLoads && everyFrom loadIn 1 ls
+
+-- the tables keep the limits
+unfoldable pub limits : Tables → Bool
+limits t = bookIn (t .book) && loadsIn (t .loads) && budgetIn (t .budget)
+
+abbrev pub Limits : Tables → Type 0
+Limits t = limits t ≡ true

@@ -1,0 +1,107 @@
+-- What each operation on the tables in a planner gives, for any contents of its arrays: the number, 0 where it is accepted, and the tables
+-- after it. It stands for the refusals 6 and 7 of "Causes and numbers" and for "an accepted line changes them as its row below says, a
+-- refused one not at all" of paper 01. On tables that keep the limits these are the changes on paper (proofs/Changes). Assumes nothing.
+use Prim.Native.Nat.{ℕ, zero, suc, _+_, _-_}
+use mathlib.Core.List.{List}
+use lib.Dec.{leb}
+use lib.ListN.{length, getD, set}
+use Rattle.lists.specs.Tests.{pick, some}
+use Rattle.marks.specs.Bits.{within}
+use Rattle.marks.specs.declared.Marks.{Marks}
+use Rattle.marks.specs.Sets.{marked}
+use Rattle.tables.specs.declared.rule.TransitionList.{TransitionList}
+use Rattle.tables.specs.declared.rule.Appended.{Appended}
+use Rattle.tables.specs.declared.load.LoadList.{LoadList}
+use Rattle.tables.specs.declared.load.LoadsAppended.{LoadsAppended}
+use Rattle.tables.specs.declared.tables.StoredBook.{StoredBook}
+use Rattle.tables.specs.declared.tables.StoredTables.{StoredTables}
+use Rattle.tables.specs.declared.tables.Changed.{Changed}
+use Rattle.tables.specs.Tables.{Transition, Load, noLoad, emptyBook}
+use Rattle.tables.specs.Limits.{maxRules, maxLoads, sameRule}
+use Rattle.tables.specs.Stored.{rulesOf, loadsOf, storedBook}
+use Rattle.tables.specs.Changes.{withPower, withWorth}
+
+-- "64 loads or 32 rules of that sort already": 6; "the same rule already in the book": 7; else 0
+unfoldable pub ruleNumber : List Transition → Transition → ℕ
+ruleNumber rs r = pick (leb maxRules (length rs)) 6 (pick (some (sameRule r) rs) 7 0)
+
+unfoldable pub loadNumber : List Load → ℕ
+loadNumber ls = pick (leb maxLoads (length ls)) 6 0
+
+-- what is new where the number is 0, else what was
+abbrev pub accepted : {A : Type 0} → ℕ → A → A → A
+accepted zero new old = new
+accepted (suc n) new old = old
+
+-- ---- a list in an array: one more at the next place, or another figure of one
+unfoldable pub appended : TransitionList → Transition → Appended
+appended l r =
+    let n = ruleNumber (rulesOf l) r in
+    record { number = n; list = accepted n (record { items = set (l .items) (l .count) r; count = l .count + 1 }) l }
+
+unfoldable pub loadAppended : LoadList → Load → LoadsAppended
+loadAppended l x =
+    let n = loadNumber (loadsOf l) in
+    record { number = n; list = accepted n (record { items = set (l .items) (l .count) x; count = l .count + 1 }) l }
+
+-- load k is at place k - 1; a number outside 1 to 64 reads an unused place, and changes nothing
+unfoldable pub loadAt : LoadList → (number : ℕ) → Load
+loadAt l k = pick (within maxLoads k) (getD (l .items) (k - 1) noLoad) noLoad
+
+unfoldable pub loadReplaced : LoadList → (number : ℕ) → Load → LoadList
+loadReplaced l k x = pick (within maxLoads k) (record { items = set (l .items) (k - 1) x; count = l .count }) l
+
+unfoldable pub powerSet : LoadList → (number watts : ℕ) → LoadList
+powerSet l k w = loadReplaced l k (withPower (loadAt l k) w)
+
+unfoldable pub worthSet : LoadList → (number figure : ℕ) → LoadList
+worthSet l k v = loadReplaced l k (withWorth (loadAt l k) v)
+
+-- ---- tables in a planner, with a part anew
+abbrev pub putBook : StoredTables → StoredBook → StoredTables
+putBook s b = record { book = b; loads = s .loads; budget = s .budget }
+
+abbrev pub putLoads : StoredTables → LoadList → StoredTables
+putLoads s l = record { book = s .book; loads = l; budget = s .budget }
+
+abbrev pub putStarts : StoredBook → Marks → StoredBook
+putStarts b m = record { states = b .states; stages = b .stages; starts = m; ends = b .ends; «load_rules» = b .«load_rules»; «row_rules» = b .«row_rules» }
+
+abbrev pub putEnds : StoredBook → Marks → StoredBook
+putEnds b m = record { states = b .states; stages = b .stages; starts = b .starts; ends = m; «load_rules» = b .«load_rules»; «row_rules» = b .«row_rules» }
+
+abbrev pub putLoadRules : StoredBook → TransitionList → StoredBook
+putLoadRules b l = record { states = b .states; stages = b .stages; starts = b .starts; ends = b .ends; «load_rules» = l; «row_rules» = b .«row_rules» }
+
+abbrev pub putRowRules : StoredBook → TransitionList → StoredBook
+putRowRules b l = record { states = b .states; stages = b .stages; starts = b .starts; ends = b .ends; «load_rules» = b .«load_rules»; «row_rules» = l }
+
+-- ---- the operations
+unfoldable pub bookBegun : StoredTables → (states stages : ℕ) → StoredTables
+bookBegun s q g = putBook s (storedBook (emptyBook q g))
+
+unfoldable pub startMarked : StoredTables → (state : ℕ) → StoredTables
+startMarked s q = putBook s (putStarts (s .book) (marked (s .book .starts) q))
+
+unfoldable pub endMarked : StoredTables → (stage : ℕ) → StoredTables
+endMarked s g = putBook s (putEnds (s .book) (marked (s .book .ends) g))
+
+unfoldable pub loadRuleAdded : StoredTables → Transition → Changed
+loadRuleAdded s r =
+    let a = appended (s .book .«load_rules») r in record { number = a .number; tables = putBook s (putLoadRules (s .book) (a .list)) }
+
+unfoldable pub rowRuleAdded : StoredTables → Transition → Changed
+rowRuleAdded s r =
+    let a = appended (s .book .«row_rules») r in record { number = a .number; tables = putBook s (putRowRules (s .book) (a .list)) }
+
+unfoldable pub loadAdded : StoredTables → Load → Changed
+loadAdded s x = let a = loadAppended (s .loads) x in record { number = a .number; tables = putLoads s (a .list) }
+
+unfoldable pub powerChanged : StoredTables → (number watts : ℕ) → StoredTables
+powerChanged s k w = putLoads s (powerSet (s .loads) k w)
+
+unfoldable pub worthChanged : StoredTables → (number figure : ℕ) → StoredTables
+worthChanged s k v = putLoads s (worthSet (s .loads) k v)
+
+unfoldable pub budgetChanged : StoredTables → ℕ → StoredTables
+budgetChanged s w = record { book = s .book; loads = s .loads; budget = w }

@@ -1,0 +1,76 @@
+-- The tables as a planner holds them, in arrays, and the test of tables that are handed in.
+-- It stands for "A planner handed in keeps these limits when .." of paper 01, with "unused places hold 0". Assumes nothing.
+use mathlib.Core.Path.{_≡_}
+use mathlib.Core.Bool.{Bool, _&&_}
+use mathlib.Core.List.{List}
+use lib.Dec.{eqb}
+use lib.ListN.{length, take}
+use Rattle.lists.specs.Arrays.{laid}
+use Rattle.lists.specs.Places.{restFree}
+use Rattle.tables.specs.declared.rule.TransitionList.{TransitionList}
+use Rattle.tables.specs.declared.load.LoadList.{LoadList}
+use Rattle.tables.specs.declared.tables.StoredBook.{StoredBook}
+use Rattle.tables.specs.declared.tables.StoredTables.{StoredTables}
+use Rattle.tables.specs.declared.rule.Transition.{Transition}
+use Rattle.tables.specs.declared.load.Load.{Load}
+use Rattle.tables.specs.Tables.{Book, Tables, noRule, noLoad}
+use Rattle.tables.specs.Limits.{maxRules, maxLoads, limits, Limits}
+
+-- where the tables lie; "unused places hold 0"
+abbrev pub storedRules : List Transition → TransitionList
+storedRules rs = record { items = laid noRule maxRules rs; count = length rs }
+
+abbrev pub storedLoads : List Load → LoadList
+storedLoads ls = record { items = laid noLoad maxLoads ls; count = length ls }
+
+unfoldable pub storedBook : Book → StoredBook
+storedBook b = record {
+  states = b .states;
+  stages = b .stages;
+  starts = b .starts;
+  ends = b .ends;
+  «load_rules» = storedRules (b .loadRules);
+  «row_rules» = storedRules (b .rowRules);
+}
+
+unfoldable pub stored : Tables → StoredTables
+stored t = record { book = storedBook (t .book); loads = storedLoads (t .loads); budget = t .budget }
+
+-- the tables that lie there
+abbrev pub rulesOf : TransitionList → List Transition
+rulesOf l = take (l .count) (l .items)
+
+abbrev pub loadsOf : LoadList → List Load
+loadsOf l = take (l .count) (l .items)
+
+unfoldable pub bookOf : StoredBook → Book
+bookOf b = record {
+  states = b .states;
+  stages = b .stages;
+  starts = b .starts;
+  ends = b .ends;
+  loadRules = rulesOf (b .«load_rules»);
+  rowRules = rulesOf (b .«row_rules»);
+}
+
+unfoldable pub tablesOf : StoredTables → Tables
+tablesOf s = record { book = bookOf (s .book); loads = loadsOf (s .loads); budget = s .budget }
+
+-- "unused places hold 0"
+unfoldable pub zeroRule : Transition → Bool
+zeroRule r = eqb (r .from) 0 && eqb (r .label) 0 && eqb (r .to) 0
+
+unfoldable pub zeroLoad : Load → Bool
+zeroLoad l = eqb (l .parent) 0 && eqb (l .power) 0 && eqb (l .worth) 0
+
+-- do tables that are handed in keep the limits?
+unfoldable pub keepsLimits : StoredTables → Bool
+keepsLimits s =
+    restFree zeroRule maxRules (s .book .«load_rules» .count) (s .book .«load_rules» .items)
+    && restFree zeroRule maxRules (s .book .«row_rules» .count) (s .book .«row_rules» .items)
+    && restFree zeroLoad maxLoads (s .loads .count) (s .loads .items)
+    && limits (tablesOf s)
+
+-- they hold tables that keep the limits
+abbrev pub Holds : StoredTables → Type 0
+Holds s = (t : Tables) × Limits t × (s ≡ stored t)

@@ -1,0 +1,39 @@
+-- The tables on paper: plain lists and numbers, so that equal tables is plain equality.
+-- They stand for "Book, marks, rules, loads and budget are the tables" and for the first five points of "Loads and book" of paper 01.
+-- Assumes nothing.
+use Prim.Native.Nat.{ℕ}
+use mathlib.Core.List.{List, []}
+use Rattle.marks.specs.declared.Marks.{Marks}
+pub use Rattle.tables.specs.declared.rule.Transition.{Transition}
+pub use Rattle.tables.specs.declared.load.Load.{Load}
+
+-- "State 1 to S and stage 1 to G .. Some states are start states, some stages are end stages."
+-- "Load rule (state, mark, stage)"; "Row rule (stage, state, next stage)"; "numbered from 1 in order of entry"
+pub record Book : Type 0 where
+  pub states : ℕ
+  pub stages : ℕ
+  pub starts : Marks
+  pub ends : Marks
+  pub loadRules : List Transition
+  pub rowRules : List Transition
+
+-- the loads are "numbered 1 to 64 in order of entry"
+pub record Tables : Type 0 where
+  pub book : Book
+  pub loads : List Load
+  pub budget : ℕ
+
+-- what an unused place holds
+abbrev pub noRule : Transition
+noRule = record { from = 0; label = 0; to = 0 }
+
+abbrev pub noLoad : Load
+noLoad = record { parent = 0; power = 0; worth = 0 }
+
+-- "new book: no rules, no marks"
+abbrev pub emptyBook : (states stages : ℕ) → Book
+emptyBook s g = record { states = s; stages = g; starts = record { 0 = 0 }; ends = record { 0 = 0 }; loadRules = []; rowRules = [] }
+
+-- "A fresh planner has 0 states and stages, no rules, no loads and budget 0."
+unfoldable pub fresh : Tables
+fresh = record { book = emptyBook 0 0; loads = []; budget = 0 }

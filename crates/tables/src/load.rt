@@ -1,0 +1,127 @@
+// Loads, and the list of them.
+ghost use mathlib.Core.Path.{_≡_};
+ghost use Rattle.tables.specs.Limits.{loadIn};
+ghost use Rattle.tables.specs.Stored.{zeroLoad};
+ghost use Rattle.tables.specs.Operations.{loadAppended, loadAt, loadReplaced, powerSet, worthSet};
+use crate::refusal::FULL;
+
+pub const MAX_LOADS: usize = 64;
+
+pub const MAX_POWER: u16 = 500;
+
+pub const MAX_WORTH: u16 = 1000;
+
+// A load: the number of its parent, its power in watts and its worth.
+pub struct Load {
+    pub parent: u8,
+    pub power: u16,
+    pub worth: u16,
+}
+
+// Loads in order of entry. The first `count` places are in use.
+pub struct LoadList {
+    pub items: [Load; MAX_LOADS],
+    pub count: usize,
+}
+
+// A list that a load was to be added to, with 0, or with the number of the refusal.
+pub struct LoadsAppended {
+    pub number: u8,
+    pub list: LoadList,
+}
+
+impl Load {
+    // What an unused place holds.
+    pub const NONE: Load = Load {
+        parent: 0,
+        power: 0,
+        worth: 0,
+    };
+
+    pub fn is_zero(self) -> bool
+        ensures { λ r. ⌜ r ≡ zeroLoad self ⌝ }
+    {
+        (self.parent == 0) & (self.power == 0) & (self.worth == 0)
+    }
+
+    // Are the parent and the figures in range for the load of this number? The root has parent 0, a later load a smaller number.
+    pub fn in_range(self, number: usize) -> bool
+        ensures { λ r. ⌜ r ≡ loadIn number self ⌝ }
+    {
+        let parent = self.parent as usize;
+        let root = (number == 1) & (parent == 0);
+        let child = (1 <= parent) & (parent < number);
+        (root | child) & (self.power <= MAX_POWER) & (self.worth <= MAX_WORTH)
+    }
+}
+
+impl LoadList {
+    pub const EMPTY: LoadList = LoadList {
+        items: [Load::NONE; MAX_LOADS],
+        count: 0,
+    };
+
+    // The list with l at its end, unless it is full.
+    pub fn append(self, l: Load) -> LoadsAppended
+        ensures { λ r. ⌜ r ≡ loadAppended self l ⌝ }
+    {
+        let count = self.count;
+        if MAX_LOADS <= count {
+            return LoadsAppended {
+                number: FULL,
+                list: self,
+            };
+        }
+        let mut next = self;
+        next.items[count] = l;
+        next.count = count + 1;
+        LoadsAppended {
+            number: 0,
+            list: next,
+        }
+    }
+
+    // The load of this number. A number outside 1 to 64 gives what an unused place holds.
+    pub fn load(self, number: usize) -> Load
+        ensures { λ r. ⌜ r ≡ loadAt self number ⌝ }
+    {
+        if number == 0 {
+            return Load::NONE;
+        }
+        if MAX_LOADS < number {
+            return Load::NONE;
+        }
+        self.items[number - 1]
+    }
+
+    // The list with another load of this number. A number outside 1 to 64 changes nothing.
+    pub fn replace(self, number: usize, load: Load) -> LoadList
+        ensures { λ r. ⌜ r ≡ loadReplaced self number load ⌝ }
+    {
+        if number == 0 {
+            return self;
+        }
+        if MAX_LOADS < number {
+            return self;
+        }
+        let mut next = self;
+        next.items[number - 1] = load;
+        next
+    }
+
+    pub fn set_power(self, number: usize, watts: u16) -> LoadList
+        ensures { λ r. ⌜ r ≡ powerSet self number watts ⌝ }
+    {
+        let mut load = self.load(number);
+        load.power = watts;
+        self.replace(number, load)
+    }
+
+    pub fn set_worth(self, number: usize, figure: u16) -> LoadList
+        ensures { λ r. ⌜ r ≡ worthSet self number figure ⌝ }
+    {
+        let mut load = self.load(number);
+        load.worth = figure;
+        self.replace(number, load)
+    }
+}

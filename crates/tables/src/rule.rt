@@ -1,0 +1,144 @@
+// Rules of both sorts, and lists of them.
+ghost use mathlib.Core.Path.{_≡_};
+ghost use Rattle.lists.specs.Tests.{some};
+ghost use Rattle.lists.specs.Arrays.{rest};
+ghost use Rattle.tables.specs.Limits.{ruleIn, loadRuleRange, rowRuleRange, sameRule};
+ghost use Rattle.tables.specs.Stored.{zeroRule};
+ghost use Rattle.tables.specs.Operations.{appended};
+use crate::refusal::FULL;
+use crate::refusal::SAME_RULE;
+
+pub const MAX_RULES: usize = 32;
+
+// A transition of the tree automaton. A load rule is (state, mark, stage), a row rule (stage, state, next stage).
+pub struct Transition {
+    pub from: u8,
+    pub label: u8,
+    pub to: u8,
+}
+
+// Rules in order of entry. The first `count` places are in use.
+pub struct TransitionList {
+    pub items: [Transition; MAX_RULES],
+    pub count: usize,
+}
+
+// The ranges of a rule's three numbers: 1 to `from`, `low` to `high`, 1 to `to`.
+pub struct RuleRange {
+    pub from: u8,
+    pub low: u8,
+    pub high: u8,
+    pub to: u8,
+}
+
+// A list that a rule was to be added to, with 0, or with the number of the refusal.
+pub struct Appended {
+    pub number: u8,
+    pub list: TransitionList,
+}
+
+impl Transition {
+    // What an unused place holds.
+    pub const NONE: Transition = Transition {
+        from: 0,
+        label: 0,
+        to: 0,
+    };
+
+    pub fn same(self, other: Transition) -> bool
+        ensures { λ r. ⌜ r ≡ sameRule self other ⌝ }
+    {
+        (self.from == other.from) & (self.label == other.label) & (self.to == other.to)
+    }
+
+    pub fn is_zero(self) -> bool
+        ensures { λ r. ⌜ r ≡ zeroRule self ⌝ }
+    {
+        (self.from == 0) & (self.label == 0) & (self.to == 0)
+    }
+}
+
+impl RuleRange {
+    // A load rule: state, mark 0 or 1, stage.
+    pub fn of_load_rules(states: u8, stages: u8) -> RuleRange
+        ensures { λ r. ⌜ r ≡ loadRuleRange states stages ⌝ }
+    {
+        RuleRange {
+            from: states,
+            low: 0,
+            high: 1,
+            to: stages,
+        }
+    }
+
+    // A row rule: stage, state, next stage.
+    pub fn of_row_rules(states: u8, stages: u8) -> RuleRange
+        ensures { λ r. ⌜ r ≡ rowRuleRange states stages ⌝ }
+    {
+        RuleRange {
+            from: stages,
+            low: 1,
+            high: states,
+            to: stages,
+        }
+    }
+
+    // Is each number of t in its range?
+    pub fn holds(self, t: Transition) -> bool
+        ensures { λ r. ⌜ r ≡ ruleIn self t ⌝ }
+    {
+        let from = (1 <= t.from) & (t.from <= self.from);
+        let label = (self.low <= t.label) & (t.label <= self.high);
+        let to = (1 <= t.to) & (t.to <= self.to);
+        from & label & to
+    }
+}
+
+impl TransitionList {
+    pub const EMPTY: TransitionList = TransitionList {
+        items: [Transition::NONE; MAX_RULES],
+        count: 0,
+    };
+
+    // Is the rule t in the list, from place `start` on?
+    pub fn found_from(self, t: Transition, start: usize) -> bool
+        ensures { λ r. ⌜ r ≡ some (sameRule t) (rest (self .items) (self .count) start) ⌝ }
+    {
+        for i in start..MAX_RULES {
+            if self.count <= i {
+                return false;
+            }
+            let u = self.items[i];
+            if t.same(u) {
+                return true;
+            }
+        }
+        false
+    }
+
+    // The list with t at its end, unless it is full or has t already.
+    pub fn append(self, t: Transition) -> Appended
+        ensures { λ r. ⌜ r ≡ appended self t ⌝ }
+    {
+        let count = self.count;
+        if MAX_RULES <= count {
+            return Appended {
+                number: FULL,
+                list: self,
+            };
+        }
+        if self.found_from(t, 0) {
+            return Appended {
+                number: SAME_RULE,
+                list: self,
+            };
+        }
+        let mut next = self;
+        next.items[count] = t;
+        next.count = count + 1;
+        Appended {
+            number: 0,
+            list: next,
+        }
+    }
+}
