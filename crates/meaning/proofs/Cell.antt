@@ -1,0 +1,76 @@
+-- What the search needs of cells.
+-- Assumes nothing.
+use Prim.Native.Nat.{ℕ, zero, suc, _+_, _-_, _≤_, _<_, zero-le}
+use mathlib.Core.Path.{_≡_, refl, ap}
+use native.Mathlib.Nat.{not-suc-le-zero}
+use native.Mathlib.Omega.{arith}
+use Rattle.meaning.specs.Cell.{cell, powerLimit, empty, _⊕_}
+
+pub ⊕-mono : (x x′ y y′ : ℕ) → x ≤ x′ → y ≤ y′ → x ⊕ y ≤ x′ ⊕ y′
+unfolding _⊕_ cell
+⊕-mono zero x′ y y′ h k = zero-le
+⊕-mono (suc x) x′ zero y′ h k = zero-le
+⊕-mono (suc x) zero (suc y) y′ h k = absurd (not-suc-le-zero h)
+⊕-mono (suc x) (suc x′) (suc y) zero h k = absurd (not-suc-le-zero k)
+⊕-mono (suc x) (suc x′) (suc y) (suc y′) h k = omega arith
+
+pub ⊕-pos : (x y : ℕ) → 0 < x ⊕ y → (0 < x) × (0 < y)
+unfolding _⊕_
+⊕-pos zero y h = absurd (not-suc-le-zero h)
+⊕-pos (suc x) zero h = absurd (not-suc-le-zero h)
+⊕-pos (suc x) (suc y) h = omega arith
+
+-- two cells that are no greater and together as great are as great
+pub ⊕-equal : (x x′ y y′ : ℕ) → x ≤ x′ → y ≤ y′ → 0 < x ⊕ y → x ⊕ y ≡ x′ ⊕ y′ → (x ≡ x′) × (y ≡ y′)
+unfolding _⊕_ cell
+⊕-equal zero x′ y y′ h k l e = absurd (not-suc-le-zero l)
+⊕-equal (suc x) x′ zero y′ h k l e = absurd (not-suc-le-zero l)
+⊕-equal (suc x) zero (suc y) y′ h k l e = absurd (not-suc-le-zero h)
+⊕-equal (suc x) (suc x′) (suc y) zero h k l e = absurd (not-suc-le-zero k)
+⊕-equal (suc x) (suc x′) (suc y) (suc y′) h k l e = omega arith
+
+pub ⊕-empty : (x : ℕ) → x ⊕ empty ≡ x
+unfolding _⊕_ cell
+⊕-empty zero = refl
+⊕-empty (suc x) = omega arith
+
+-- the cell of two sets together is that of their power and worth together
+pub cell-add : (p v p′ v′ : ℕ) → p + p′ < powerLimit → cell p v ⊕ cell p′ v′ ≡ cell (p + p′) (v + v′)
+unfolding _⊕_ cell
+cell-add p v p′ v′ h = omega arith
+
+pub cell-pos : (p v : ℕ) → p < powerLimit → 0 < cell p v
+unfolding cell
+cell-pos p v h = omega arith
+
+-- the greater cell is worth no less
+pub cell-le : (p v p′ v′ : ℕ) → p < powerLimit → p′ < powerLimit → cell p v ≤ cell p′ v′ → v ≤ v′
+unfolding cell
+cell-le p v p′ v′ h h′ l = omega arith
+
+-- sets of equal worth have equal cells
+pub cell-same : (p v p′ v′ : ℕ) → v ≡ v′ → cell p v ≡ cell p′ v′
+unfolding cell
+cell-same p v p′ v′ e = ap suc e
+
+pub cell-worth : (p v p′ v′ : ℕ) → p < powerLimit → p′ < powerLimit → cell p v ≡ cell p′ v′ → v ≡ v′
+unfolding cell
+cell-worth p v p′ v′ h h′ e = omega arith
+
+-- by cases, as code goes
+pub ⊕-left : (x y : ℕ) → x ≡ 0 → x ⊕ y ≡ 0
+unfolding _⊕_
+⊕-left zero y h = refl
+⊕-left (suc x) y h = absurd (omega arith)
+
+pub ⊕-right : (x y : ℕ) → y ≡ 0 → x ⊕ y ≡ 0
+unfolding _⊕_
+⊕-right zero y h = refl
+⊕-right (suc x) zero h = refl
+⊕-right (suc x) (suc y) h = absurd (omega arith)
+
+pub ⊕-both : (x y : ℕ) → (x ≡ 0 → ⊥) → (y ≡ 0 → ⊥) → x ⊕ y ≡ x + y - 1
+unfolding _⊕_ cell
+⊕-both zero y h k = absurd (h refl)
+⊕-both (suc x) zero h k = absurd (k refl)
+⊕-both (suc x) (suc y) h k = refl

@@ -1,0 +1,19 @@
+-- The theorems on the definitions of specs/, from the ground up; Claims has the last one.
+pub mod Cell
+pub mod Tree
+pub mod Ordered
+pub mod Optimal
+pub mod Entries
+pub mod Ranges
+pub mod InOrder
+pub mod Limits
+pub mod Lowest
+pub mod Plan
+pub mod Check
+pub mod Judge
+pub mod Agree
+pub mod Rows
+pub mod Bound
+pub mod Cells
+pub mod Cases
+pub mod Claims

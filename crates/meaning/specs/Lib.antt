@@ -1,0 +1,14 @@
+-- What the tables of paper 01 mean: runs, acceptance, the best set, the choice among equals, the check and the judge.
+-- In the order of the papers; Claims has what is proved of them.
+pub mod Forest
+pub mod Runs
+pub mod Acceptance
+pub mod Sets
+pub mod Cell
+pub mod Best
+pub mod Choice
+pub mod Order
+pub mod Judge
+pub mod Cells
+pub mod Claims
+pub mod Cases

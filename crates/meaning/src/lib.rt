@@ -1,0 +1,1 @@
+// What the tables mean: definitions and theorems. There is no code here.
