@@ -1,0 +1,71 @@
+-- How many bytes an answer has, and that each fits the bytes that must be free. Assumes nothing.
+use Prim.Native.Nat.{ℕ, _+_, _*_, _^_, _≤_, _<_}
+use mathlib.Core.Path.{_≡_, sym}
+use mathlib.Core.List.{List, [], _∷_, _++_, append-assoc, append-nil}
+use native.Mathlib.Omega.{arith}
+use lib.Dec.{lit≤}
+use lib.ListN.{length, length-append}
+use Rattle.lines.specs.Text.{comma, lineFeed, decimal, field}
+use Rattle.lines.specs.Answers.{yes, refused, planLine, LoadLine, loadLine, loadLines, freeBytes, Ranged, AllRanged}
+use Rattle.lines.proofs.Decimal.{decimal-length}
+
+pub field-length : (n after : ℕ) → length (field n after) ≡ length (decimal n) + 1
+unfolding field
+field-length n after = length-append (decimal n) (after ∷ [])
+
+pub refused-length : (n : ℕ) → length (refused n) ≡ 3 + length (field n lineFeed)
+unfolding refused
+refused-length n = simp length-append
+
+pub plan-length : (v w n : ℕ) → length (planLine v w n) ≡ 5 + length (field v comma) + length (field w comma) + length (field n lineFeed)
+unfolding planLine
+plan-length v w n = simp length-append
+
+pub load-length : (l : LoadLine)
+    → length (loadLine l) ≡ length (field (l .number) comma) + length (field (l .mark) comma) + length (field (l .state) comma) + length (field (l .loadRule) comma) + length (field (l .rowRule) lineFeed)
+unfolding loadLine
+load-length l = simp length-append
+
+-- ---- a field of so many digits
+field-fits : (k n after : ℕ) → 1 ≤ k → n < 10 ^ k → length (field n after) ≤ k + 1
+field-fits k n after p h = omega (arith, field-length n after, decimal-length k n p h)
+
+-- a load line has at most 13 bytes
+pub load-fits : (l : LoadLine) → Ranged l → length (loadLine l) ≤ 13
+load-fits l r =
+    omega (
+      arith,
+      load-length l,
+      field-fits 2 (l .number) comma (lit≤ tt) (omega (arith, r .numbered)),
+      field-fits 1 (l .mark) comma (lit≤ tt) (omega (arith, r .marked)),
+      field-fits 1 (l .state) comma (lit≤ tt) (omega (arith, r .inState)),
+      field-fits 2 (l .loadRule) comma (lit≤ tt) (omega (arith, r .byLoadRule)),
+      field-fits 2 (l .rowRule) lineFeed (lit≤ tt) (omega (arith, r .byRowRule)),
+    )
+
+pub loads-fit : (ls : List LoadLine) → AllRanged ls → length (loadLines ls) ≤ 13 * length ls
+unfolding loadLines
+loads-fit [] r = omega arith
+loads-fit (l ∷ ls) r = omega (arith, length-append (loadLine l) (loadLines ls), load-fits l (r .0), loads-fit ls (r .1))
+
+-- one line more, as a loop writes them
+pub loads-more : (ls : List LoadLine) (l : LoadLine) → loadLines (ls ++ (l ∷ [])) ≡ loadLines ls ++ loadLine l
+unfolding loadLines
+loads-more [] l = append-nil (loadLine l)
+loads-more (m ∷ ls) l = rw (loads-more ls l) (sym (append-assoc (loadLine m) (loadLines ls) (loadLine l)))
+
+-- the first line of a plan has at most 18 bytes: worth is at most 64 loads' 1,000, power the budget's 500
+pub plan-line-fits : (v w n : ℕ) → v ≤ 64000 → w ≤ 500 → n ≤ 64 → length (planLine v w n) ≤ 18
+plan-line-fits v w n a b c =
+    omega (arith, plan-length v w n, field-fits 5 v comma (lit≤ tt) (omega arith), field-fits 3 w comma (lit≤ tt) (omega arith), field-fits 2 n lineFeed (lit≤ tt) (omega arith))
+
+-- ---- every answer fits the bytes that must be free
+module _ (ls : List LoadLine) (r : AllRanged ls) (few : length ls ≤ 64) where
+  pub plan-fits : (v w n : ℕ) → v ≤ 64000 → w ≤ 500 → n ≤ 64 → length (planLine v w n ++ loadLines ls) ≤ freeBytes
+  plan-fits v w n a b c = omega (arith, length-append (planLine v w n) (loadLines ls), plan-line-fits v w n a b c, loads-fit ls r)
+
+  pub check-fits : length (yes ++ loadLines ls) ≤ freeBytes
+  check-fits = omega (arith, length-append yes (loadLines ls), loads-fit ls r)
+
+pub refused-fits : (n : ℕ) → n < 100 → length (refused n) ≤ freeBytes
+refused-fits n h = omega (arith, refused-length n, field-fits 2 n lineFeed (lit≤ tt) h)

@@ -1,0 +1,74 @@
+-- Lines of paper 01's session and lines that break the form, as they are read; its answers, as they are printed and read back; and input
+-- cut into lines. All by computation. Assumes nothing.
+use Prim.Native.String.{String}
+use mathlib.Core.Path.{_≡_, refl}
+use mathlib.Core.Bool.{true, false}
+use mathlib.Core.List.{List, [], _∷_, _++_, map}
+use lib.ListN.{replicate, length}
+use Rattle.lists.specs.Tests.{every, some}
+use Rattle.marks.specs.Bits.{withMark}
+use Rattle.lines.specs.declared.Command.{Command}
+use Rattle.lines.specs.declared.Command.the-variants.{Clear, Book, Start, End, Rule, Row, Load, Power, Worth, Budget, Plan, Check, Broken}
+use Rattle.lines.specs.Text.{bytes, same, decimalTo, decimal, field}
+use Rattle.lines.specs.Length.{tooLong}
+use Rattle.lines.specs.Grammar.{fields, isNumber, valueFrom, isBits, joinedFrom, find, parse}
+use Rattle.lines.specs.Answers.{refused, planLine, load, loadLine}
+use Rattle.lines.specs.Input.{lines, feed, feedAll}
+use Rattle.lines.specs.Shown.{loadOf, loadsIn, shown}
+
+abbrev reads : String → Command
+reads s = parse (bytes s)
+
+session : map reads ("book,2,2" ∷ "start,1" ∷ "end,2" ∷ "rule,1,0,2" ∷ "row,2,2,2" ∷ "load,0,10,0" ∷ "budget,30" ∷ "plan" ∷ "check,0100" ∷ "budget,501" ∷ [])
+    ≡ Book 2 2 ∷ Start 1 ∷ End 2 ∷ Rule 1 0 2 ∷ Row 2 2 2 ∷ Load 0 10 0 ∷ Budget 30 ∷ Plan ∷ Check (record { 0 = 2 }) 4 ∷ Budget 501 ∷ []
+unfolding same fields isNumber valueFrom isBits joinedFrom find parse every withMark
+session = refl
+
+others : map reads ("clear" ∷ "power,64,99999" ∷ "worth,0,1000" ∷ "check,1" ∷ []) ≡ Clear ∷ Power 64 99999 ∷ Worth 0 1000 ∷ Check (record { 0 = 1 }) 1 ∷ []
+unfolding same fields isNumber valueFrom isBits joinedFrom find parse every withMark
+others = refl
+
+-- each of these breaks the form: words, blanks, signs, leading zeros, a sixth digit, empty fields, wrong counts, bits that are none
+unsound : List String
+unsound =
+    "" ∷ "," ∷ "Plan" ∷ "plans" ∷ "pla" ∷ "plan," ∷ "clear," ∷ " plan" ∷ "plan " ∷ "plan\n" ∷ "plan\r" ∷ ",plan" ∷ "clear,1" ∷ "save" ∷ "budgets,1"
+    ∷ "budget" ∷ "budget," ∷ "budget,00" ∷ "budget,01" ∷ "budget,000" ∷ "budget,100000" ∷ "budget,000000" ∷ "budget,-1" ∷ "budget,+1" ∷ "budget,1.0" ∷ "budget,1a" ∷ "budget, 1"
+    ∷ "budget,1 " ∷ "budget,501," ∷ "budget,1,2" ∷ "book,1" ∷ "book,1,2,3" ∷ "book,,2" ∷ "load,0,501,x" ∷ "load,0,1" ∷ "load,0,1,1,0"
+    ∷ "check" ∷ "check," ∷ "check,012" ∷ "check,0,1" ∷ "check,01," ∷ "check,,01" ∷ []
+
+all-broken : map reads unsound ≡ replicate (length unsound) Broken
+unfolding unsound same fields isNumber valueFrom isBits joinedFrom find parse every withMark
+all-broken = refl
+
+-- a NUL byte, in front or behind, and a byte above 127
+strange : map parse ((0 ∷ bytes "plan") ∷ (bytes "plan" ++ (0 ∷ [])) ∷ (bytes "budget,3" ++ (0 ∷ [])) ∷ (bytes "plan" ++ (255 ∷ [])) ∷ []) ≡ replicate 4 Broken
+unfolding same fields isNumber valueFrom isBits joinedFrom find parse every withMark
+strange = refl
+
+-- 74 bits are in form, and their count is known
+wide : parse (bytes "check," ++ replicate 74 49) ≡ Check (record { 0 = 18446744073709551615 }) 74
+unfolding same fields isNumber valueFrom isBits joinedFrom find parse every withMark
+wide = refl
+
+-- 80 bytes are no more than a line may have, 81 are, whatever they are
+eighty : map tooLong ((bytes "check," ++ replicate 74 49) ∷ (bytes "check," ++ replicate 75 49) ∷ replicate 81 0 ∷ []) ≡ false ∷ true ∷ true ∷ []
+eighty = refl
+
+-- ---- answers
+printed : planLine 70 30 3 ++ loadLine (load 1 1 1 2 0) ++ loadLine (load 4 0 1 1 1) ++ refused 10 ≡ bytes "plan,70,30,3\n1,1,1,2,0\n4,0,1,1,1\nno,10\n"
+unfolding planLine loadLine refused field decimal decimalTo
+printed = refl
+
+-- the loads on are those printed with mark 1
+read-back : map (shown (bytes "plan,70,30,3\n1,1,1,2,0\n2,1,1,2,1\n3,1,1,2,1\n4,0,1,1,1\n")) (1 ∷ 2 ∷ 3 ∷ 4 ∷ 5 ∷ []) ≡ true ∷ true ∷ true ∷ false ∷ false ∷ []
+unfolding loadsIn loadOf lines fields valueFrom some
+read-back = refl
+
+-- ---- input: none, an empty line, a last line with and without its line feed, a line that is too long
+cut : map lines ([] ∷ bytes "\n" ∷ bytes "plan\n\nclear\n" ∷ bytes "plan\nclear" ∷ []) ≡ [] ∷ ([] ∷ []) ∷ (bytes "plan" ∷ [] ∷ bytes "clear" ∷ []) ∷ (bytes "plan" ∷ bytes "clear" ∷ []) ∷ []
+unfolding lines
+cut = refl
+
+chunks : feedAll [] (bytes "pl" ∷ bytes "an\ncl" ∷ [] ∷ replicate 100 48 ∷ bytes "\n1" ∷ []) ≡ bytes "plan" ∷ (bytes "cl" ++ replicate 79 48) ∷ bytes "1" ∷ []
+unfolding feedAll feed
+chunks = refl

@@ -1,0 +1,251 @@
+-- The loops that read numbers find what the fields hold. Assumes nothing.
+use Prim.Native.Nat.{ℕ, suc, _+_, _-_, _*_, _^_, _≤_, _<_}
+use mathlib.Core.Path.{_≡_, refl, sym, ap, ap₂, _∙_}
+use mathlib.Core.Bool.{Bool, true, false, _&&_, _||_, not}
+use mathlib.Core.List.{List, [], _∷_, _++_, map, append-nil}
+use native.Mathlib.Nat.{zero-add, pow-suc, pow-le-pow-right}
+use native.Mathlib.Numerals.{add-one}
+use native.Mathlib.Omega.{arith}
+use borrow.Author.Tests.{leb-true, le-leb, lt-leb, lt-ltb, le-ltb, ltb-true, ltb-false, eqb-true, eqb-false, ne-eqb}
+use lib.Dec.{leb, ltb, eqb, lit<}
+use lib.ListN.{length, set, drop, getD, replicate}
+use lib.Seq.{append-snoc}
+use Rattle.lists.specs.Tests.{pick, every}
+use Rattle.lists.specs.Arrays.{laid}
+use Rattle.lists.proofs.Bools.{and-left, and-right, and-false, or-true}
+use Rattle.lists.proofs.Arrays.{laid-snoc, length-snoc}
+use Rattle.lines.specs.declared.reading.Numbers.{Numbers}
+use Rattle.lines.specs.Text.{comma, nought}
+use Rattle.lines.specs.Grammar.{onFirst, fields, mostDigits, isDigit, isNumber, valueFrom, value}
+use Rattle.lines.specs.Reading.{fieldsAfter, mostNumbers, mayFollow, noNumbers, numbersIn}
+use Rattle.lines.proofs.Fields.{Cons, cons, fields-cons, fields-end, fields-comma, fields-byte}
+
+-- ---- a field, with d digits and the value v read so far: may it go on so to its end?
+good : ℕ → ℕ → List ℕ → Bool
+good d v [] = ltb 0 d
+good d v (b ∷ bs) = mayFollow d v b && good (d + 1) (v * 10 + (b - nought)) bs
+
+-- past a first digit that is not 0: no more than five, all digits
+good-on : (d v : ℕ) (f : List ℕ) → 0 < d → 0 < v → d ≤ mostDigits → good d v f ≡ leb (d + length f) mostDigits && every isDigit f
+unfolding good every
+good-on d v [] a p l = rw (lt-ltb 0 d a, le-leb (d + 0) mostDigits (omega arith))
+good-on d v (b ∷ bs) a p l = go (ltb d mostDigits) refl (good-on (d + 1) (v * 10 + (b - nought)) bs (omega arith) (omega arith))
+  where
+    swap : (x z w : Bool) → x && true && true && (z && w) ≡ z && (x && w)
+    swap true true w = refl
+    swap true false w = refl
+    swap false true w = refl
+    swap false false w = refl
+
+    stop : (x z w : Bool) → x && false && z && w ≡ false
+    stop true z w = refl
+    stop false z w = refl
+
+    go : (t : Bool) → ltb d mostDigits ≡ t → (d + 1 ≤ mostDigits → good (d + 1) (v * 10 + (b - nought)) bs ≡ leb (d + 1 + length bs) mostDigits && every isDigit bs)
+        → mayFollow d v b && good (d + 1) (v * 10 + (b - nought)) bs ≡ leb (d + suc (length bs)) mostDigits && (isDigit b && every isDigit bs)
+    go true e ih =
+        let n : d + 1 + length bs ≡ d + suc (length bs) = omega arith in
+        rw (e, lt-ltb 0 v p, ne-eqb d 0 (λ z. absurd (omega arith)), ih (omega (arith, ltb-true d mostDigits e)), n) (swap (isDigit b) (leb (d + suc (length bs)) mostDigits) (every isDigit bs))
+    go false e ih =
+        rw (e, lt-leb (d + suc (length bs)) mostDigits (omega (arith, ltb-false d mostDigits e))) (stop (isDigit b) (eqb d 0 || ltb 0 v) (good (d + 1) (v * 10 + (b - nought)) bs))
+
+-- past a first 0: nothing
+good-nought : (f : List ℕ) → good 1 0 f ≡ eqb (length f) 0
+unfolding good
+good-nought [] = refl
+good-nought (b ∷ bs) = rw (ne-eqb (suc (length bs)) 0 (λ e. absurd (omega arith))) (go (isDigit b))
+  where
+    go : (x : Bool) → x && true && false && good (1 + 1) (0 * 10 + (b - nought)) bs ≡ false
+    go true = refl
+    go false = refl
+
+-- a whole field is good exactly if it is a number
+good-number : (f : List ℕ) → good 0 0 f ≡ isNumber f
+unfolding good isNumber every
+good-number [] = refl
+good-number (b ∷ bs) = go (eqb b nought) refl (isDigit b) refl
+  where
+    n : ℕ
+    n = length bs
+
+    alone : (cs : List ℕ) → eqb (length cs) 0 ≡ leb (suc (length cs)) mostDigits && every isDigit cs && (eqb (suc (length cs)) 1 || false)
+    alone [] = refl
+    alone (c ∷ cs) =
+        rw (ne-eqb (suc (length cs)) 0 (λ e. absurd (omega arith)), ne-eqb (suc (suc (length cs))) 1 (λ e. absurd (omega arith)))
+        (sym (and-false (leb (suc (suc (length cs))) mostDigits && every isDigit (c ∷ cs))))
+
+    rest : leb (suc n) mostDigits && every isDigit bs ≡ leb (suc n) mostDigits && every isDigit bs && (eqb (suc n) 1 || true)
+    rest = rw (or-true (eqb (suc n) 1)) (last (leb (suc n) mostDigits) (every isDigit bs))
+      where
+        last : (x y : Bool) → x && y ≡ x && y && true
+        last true true = refl
+        last true false = refl
+        last false y = refl
+
+    go : (t : Bool) → eqb b nought ≡ t → (u : Bool) → isDigit b ≡ u
+        → mayFollow 0 0 b && good 1 (0 + (b - nought)) bs ≡ leb 1 (suc n) && leb (suc n) mostDigits && (isDigit b && every isDigit bs) && (eqb (suc n) 1 || not (eqb b nought))
+    go true e u d = rw (eqb-true b nought e, le-leb 1 (suc n) (omega arith)) (good-nought bs ∙ alone bs)
+    go false e true d =
+        let low = and-left (leb nought b) (leb b (nought + 9)) d in
+        let z : b ≡ nought → ⊥ = eqb-false b nought e in
+        let one : 1 + n ≡ suc n = omega arith in
+        rw (d, le-leb 1 (suc n) (omega arith), e)
+        (good-on 1 (0 + (b - nought)) bs (omega arith) (omega (arith, leb-true nought b low)) (omega arith) ∙ rw one rest)
+    go false e false d = rw (d, le-leb 1 (suc n) (omega arith), and-false (leb (suc n) mostDigits))
+
+-- ---- what the fields from one on give, n numbers being read, and of this field d digits with the value v
+pub collect : ℕ → List ℕ → ℕ → ℕ → List (List ℕ) → Numbers
+collect n vs d v [] = noNumbers
+collect n vs d v (f ∷ []) = pick (good d v f && ltb n mostNumbers) (record { ok = true; count = n + 1; values = set vs n (valueFrom v f) }) noNumbers
+collect n vs d v (f ∷ g ∷ fs) = pick (good d v f && ltb n mostNumbers) (collect (n + 1) (set vs n (valueFrom v f)) 0 0 (g ∷ fs)) noNumbers
+
+-- a field ends, and others follow
+collect-more : (n : ℕ) (vs : List ℕ) (d v : ℕ) (f : List ℕ) (fs : List (List ℕ)) → Cons fs
+    → collect n vs d v (f ∷ fs) ≡ pick (good d v f && ltb n mostNumbers) (collect (n + 1) (set vs n (valueFrom v f)) 0 0 fs) noNumbers
+unfolding collect
+collect-more n vs d v f fs (cons g gs) = refl
+
+-- a byte of a field
+collect-byte : (n : ℕ) (vs : List ℕ) (d v b : ℕ) (u : Bool) → mayFollow d v b ≡ u → (fs : List (List ℕ)) → Cons fs
+    → collect n vs d v (onFirst b fs) ≡ pick u (collect n vs (d + 1) (v * 10 + (b - nought)) fs) noNumbers
+unfolding collect good valueFrom
+collect-byte n vs d v b true e fs (cons f []) = rw e
+collect-byte n vs d v b true e fs (cons f (g ∷ gs)) = rw e
+collect-byte n vs d v b false e fs (cons f []) = rw e
+collect-byte n vs d v b false e fs (cons f (g ∷ gs)) = rw e
+
+-- what a line gives from the end of its word or of a number on: no more numbers, or a comma and more of them
+pub after : List ℕ → ℕ → ℕ → List ℕ → Numbers
+after s i n vs = pick (ltb i (length s)) (collect n vs 0 0 (fields (drop (i + 1) s))) (record { ok = true; count = n; values = vs })
+
+-- ---- one turn
+module _ (s : List ℕ) (i n : ℕ) (vs : List ℕ) (d v : ℕ) where
+  abbrev pub from : Numbers
+  from = collect n vs d v (fields (drop i s))
+
+  module _ (h : i < length s) (k : getD s i 0 ≡ comma → ⊥) where
+    turn : (u : Bool) → mayFollow d v (getD s i 0) ≡ u → from ≡ pick u (collect n vs (d + 1) (v * 10 + (getD s i 0 - nought)) (fields (drop (i + 1) s))) noNumbers
+    turn u e = ap (collect n vs d v) (fields-byte s i h k) ∙ collect-byte n vs d v (getD s i 0) u e (fields (drop (i + 1) s)) (fields-cons (drop (i + 1) s))
+
+    pub digit : mayFollow d v (getD s i 0) ≡ true → from ≡ collect n vs (d + 1) (v * 10 + (getD s i 0 - nought)) (fields (drop (i + 1) s))
+    digit e = turn true e
+
+    pub bad : mayFollow d v (getD s i 0) ≡ false → from ≡ noNumbers
+    bad e = turn false e
+
+  ended : i < length s → getD s i 0 ≡ comma → from ≡ pick (ltb 0 d && ltb n mostNumbers) (collect (n + 1) (set vs n v) 0 0 (fields (drop (i + 1) s))) noNumbers
+  unfolding good valueFrom
+  ended h k = ap (collect n vs d v) (fields-comma s i h k) ∙ collect-more n vs d v [] (fields (drop (i + 1) s)) (fields-cons (drop (i + 1) s))
+
+  -- a number with a digit or more ends at a comma, or at the end of the line
+  pub ends-comma : i < length s → getD s i 0 ≡ comma → (d ≡ 0 → ⊥) → n < mostNumbers → from ≡ after s i (n + 1) (set vs n v)
+  unfolding after
+  ends-comma h k p l = ended h k ∙ rw (lt-ltb 0 d (omega arith), lt-ltb n mostNumbers l, lt-ltb i (length s) h)
+
+  pub ends-line : length s ≤ i → (d ≡ 0 → ⊥) → n < mostNumbers → from ≡ after s i (n + 1) (set vs n v)
+  unfolding collect good valueFrom after
+  ends-line h p l = ap (collect n vs d v) (fields-end s i h) ∙ rw (lt-ltb 0 d (omega arith), lt-ltb n mostNumbers l, le-ltb i (length s) h)
+
+  -- one with none breaks the form
+  pub none-comma : i < length s → getD s i 0 ≡ comma → d ≡ 0 → from ≡ noNumbers
+  none-comma h k p = ended h k ∙ rw p
+
+  pub none-line : length s ≤ i → d ≡ 0 → from ≡ noNumbers
+  unfolding collect good
+  none-line h p = ap (collect n vs d v) (fields-end s i h) ∙ rw p
+
+-- so does a number too many
+full : (n : ℕ) (vs : List ℕ) → mostNumbers ≤ n → (fs : List (List ℕ)) → collect n vs 0 0 fs ≡ noNumbers
+unfolding collect
+full n vs h [] = refl
+full n vs h (f ∷ []) = rw (le-ltb n mostNumbers h, and-false (good 0 0 f))
+full n vs h (f ∷ g ∷ fs) = rw (le-ltb n mostNumbers h, and-false (good 0 0 f))
+
+module _ (s : List ℕ) (i n : ℕ) (vs : List ℕ) where
+  pub at-end : length s ≤ i → after s i n vs ≡ record { ok = true; count = n; values = vs }
+  unfolding after
+  at-end h = rw (le-ltb i (length s) h)
+
+  pub at-comma : i < length s → after s i n vs ≡ from s (i + 1) n vs 0 0
+  unfolding after
+  at-comma h = rw (lt-ltb i (length s) h)
+
+  pub too-many : i < length s → mostNumbers ≤ n → after s i n vs ≡ noNumbers
+  too-many h l = at-comma h ∙ full n vs l (fields (drop (i + 1) s))
+
+-- ---- what a digit is, and the number that it makes
+pub record Digit (d v b : ℕ) : Type 0 where
+  pub low : nought ≤ b
+  pub high : b ≤ nought + 9
+  pub few : d < mostDigits
+  pub small : v * 10 + (b - nought) < 10 ^ (d + 1)
+  pub fits : v * 10 + (b - nought) < 10 ^ mostDigits
+
+pub is-digit : (d v b : ℕ) → v < 10 ^ d → mayFollow d v b ≡ true → Digit d v b
+is-digit d v b h m =
+    let m1 = and-left (isDigit b && ltb d mostDigits) (eqb d 0 || ltb 0 v) m in
+    let m2 = and-left (isDigit b) (ltb d mostDigits) m1 in
+    let few = ltb-true d mostDigits (and-right (isDigit b) (ltb d mostDigits) m1) in
+    let low = leb-true nought b (and-left (leb nought b) (leb b (nought + 9)) m2) in
+    let high = leb-true b (nought + 9) (and-right (leb nought b) (leb b (nought + 9)) m2) in
+    let next : 10 ^ (d + 1) ≡ 10 ^ d * 10 = rw add-one (pow-suc 10 d) in
+    let most : 10 ^ (d + 1) ≤ 10 ^ mostDigits = pow-le-pow-right (lit< tt) {i = d + 1} {j = mostDigits} (omega arith) in
+    record { low = low; high = high; few = few; small = omega arith; fits = omega arith }
+
+-- ---- the numbers of all the fields, laid out after those read
+abbrev told : List ℕ → List (List ℕ) → Numbers
+told xs fs = pick (every isNumber fs && leb (length xs + length fs) mostNumbers) (record { ok = true; count = length xs + length fs; values = laid 0 mostNumbers (xs ++ map value fs) }) noNumbers
+
+told-more : (xs : List ℕ) (f : List ℕ) (fs : List (List ℕ)) → isNumber f ≡ true → told (xs ++ (value f ∷ [])) fs ≡ told xs (f ∷ fs)
+unfolding every
+told-more xs f fs h =
+    let n : length (xs ++ (value f ∷ [])) + length fs ≡ length xs + suc (length fs) = omega (arith, length-snoc xs (value f)) in
+    rw (h, n, append-snoc xs (value f) (map value fs))
+
+-- no number in form, or one too many
+told-broken : (xs : List ℕ) (f : List ℕ) (fs : List (List ℕ)) → isNumber f ≡ false → told xs (f ∷ fs) ≡ noNumbers
+unfolding every
+told-broken xs f fs h = rw h
+
+told-full : (xs : List ℕ) (f : List ℕ) (fs : List (List ℕ)) → mostNumbers ≤ length xs → told xs (f ∷ fs) ≡ noNumbers
+told-full xs f fs h = rw (lt-leb (length xs + suc (length fs)) mostNumbers (omega arith), and-false (every isNumber (f ∷ fs)))
+
+told-last : (xs : List ℕ) → length xs ≤ mostNumbers → told xs [] ≡ record { ok = true; count = length xs; values = laid 0 mostNumbers xs }
+unfolding every
+told-last xs h =
+    let n : length xs + 0 ≡ length xs = omega arith in
+    rw (n, le-leb (length xs) mostNumbers h, append-nil xs)
+
+collect-told : (fs : List (List ℕ)) (f : List ℕ) (xs : List ℕ) → collect (length xs) (laid 0 mostNumbers xs) 0 0 (f ∷ fs) ≡ told xs (f ∷ fs)
+unfolding collect
+collect-told [] f xs = rw (good-number f) (go (isNumber f) refl (ltb (length xs) mostNumbers) refl)
+  where
+    go : (a : Bool) → isNumber f ≡ a → (l : Bool) → ltb (length xs) mostNumbers ≡ l
+        → pick (a && l) (record { ok = true; count = length xs + 1; values = set (laid 0 mostNumbers xs) (length xs) (value f) }) noNumbers ≡ told xs (f ∷ [])
+    go false e l h = sym (told-broken xs f [] e)
+    go true e false h = sym (told-full xs f [] (ltb-false (length xs) mostNumbers h))
+    go true e true h =
+        let k = ltb-true (length xs) mostNumbers h in
+        ap₂ {A = ℕ} {B = List ℕ} (λ c vs. record { ok = true; count = c; values = vs }) (sym (length-snoc xs (value f))) (laid-snoc 0 mostNumbers xs (value f) k)
+        ∙ sym (told-last (xs ++ (value f ∷ [])) (omega (arith, length-snoc xs (value f)))) ∙ told-more xs f [] e
+collect-told (g ∷ fs) f xs = rw (good-number f) (go (isNumber f) refl (ltb (length xs) mostNumbers) refl (collect-told fs g (xs ++ (value f ∷ []))))
+  where
+    go : (a : Bool) → isNumber f ≡ a → (l : Bool) → ltb (length xs) mostNumbers ≡ l
+        → collect (length (xs ++ (value f ∷ []))) (laid 0 mostNumbers (xs ++ (value f ∷ []))) 0 0 (g ∷ fs) ≡ told (xs ++ (value f ∷ [])) (g ∷ fs)
+        → pick (a && l) (collect (length xs + 1) (set (laid 0 mostNumbers xs) (length xs) (value f)) 0 0 (g ∷ fs)) noNumbers ≡ told xs (f ∷ g ∷ fs)
+    go false e l h ih = sym (told-broken xs f (g ∷ fs) e)
+    go true e false h ih = sym (told-full xs f (g ∷ fs) (ltb-false (length xs) mostNumbers h))
+    go true e true h ih =
+        rw (laid-snoc 0 mostNumbers xs (value f) (ltb-true (length xs) mostNumbers h), ← (length-snoc xs (value f))) (ih ∙ told-more xs f (g ∷ fs) e)
+
+-- ---- where the loops begin
+pub begin : (s : List ℕ) (e : ℕ) → numbersIn (fieldsAfter e s) ≡ after s e 0 (replicate mostNumbers 0)
+unfolding numbersIn fieldsAfter after laid every
+begin s e = go (ltb e (length s))
+  where
+    told-all : (fs : List (List ℕ)) → Cons fs → collect 0 (replicate mostNumbers 0) 0 0 fs ≡ told [] fs
+    told-all fs (cons f gs) = collect-told gs f []
+
+    go : (t : Bool) → numbersIn (pick t (fields (drop (e + 1) s)) []) ≡ pick t (collect 0 (replicate mostNumbers 0) 0 0 (fields (drop (e + 1) s))) (record { ok = true; count = 0; values = replicate mostNumbers 0 })
+    go true = sym (told-all (fields (drop (e + 1) s)) (fields-cons (drop (e + 1) s)) ∙ rw zero-add)
+    go false = refl

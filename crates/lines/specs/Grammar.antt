@@ -1,0 +1,99 @@
+-- The commands, and how a line is read: paper 01, "Lines". `parse` gives every line of bytes its command, and `Broken` to each that is
+-- "no command of the table, wrong field count or form". The length of a line is judged apart (`Length`). Assumes nothing.
+use Prim.Native.Nat.{ℕ, suc, _+_, _-_, _*_}
+use mathlib.Core.Bool.{Bool, _&&_, _||_, not}
+use mathlib.Core.List.{List, [], _∷_}
+use lib.Dec.{eqb, leb}
+use lib.ListN.{length, getD}
+use Rattle.lists.specs.Tests.{pick, every}
+use Rattle.marks.specs.declared.LoadSet.{LoadSet}
+use Rattle.marks.specs.Sets.{joined}
+use Rattle.lines.specs.declared.Command.{Command}
+use Rattle.lines.specs.declared.Command.the-variants.{Clear, Book, Start, End, Rule, Row, Load, Power, Worth, Budget, Plan, Check, Broken}
+use Rattle.lines.specs.Text.{bytes, comma, nought, same}
+
+-- ---- "Fields stand in a fixed order, parted by commas, with no quoting and no blanks."
+-- one byte more at the front of the first field
+abbrev pub onFirst : ℕ → List (List ℕ) → List (List ℕ)
+onFirst b [] = []
+onFirst b (f ∷ fs) = (b ∷ f) ∷ fs
+
+unfoldable pub fields : List ℕ → List (List ℕ)
+fields [] = [] ∷ []
+fields (b ∷ bs) = pick (eqb b comma) ([] ∷ fields bs) (onFirst b (fields bs))
+
+-- ---- "A number has one to five decimal digits, with no leading zero unless it is 0 itself."
+abbrev pub mostDigits : ℕ
+mostDigits = 5
+
+abbrev pub isDigit : ℕ → Bool
+isDigit b = leb nought b && leb b (nought + 9)
+
+unfoldable pub isNumber : List ℕ → Bool
+isNumber f = leb 1 (length f) && leb (length f) mostDigits && every isDigit f && (eqb (length f) 1 || not (eqb (getD f 0 0) nought))
+
+-- the value of a number, the digits before it having the value v
+unfoldable pub valueFrom : ℕ → List ℕ → ℕ
+valueFrom v [] = v
+valueFrom v (b ∷ bs) = valueFrom (v * 10 + (b - nought)) bs
+
+abbrev pub value : List ℕ → ℕ
+value f = valueFrom 0 f
+
+-- ---- "check,bits: one 0 or 1 for each load"; "An empty field, or another byte in it, is refusal 3"
+abbrev pub isBit : ℕ → Bool
+isBit b = leb nought b && leb b (nought + 1)
+
+unfoldable pub isBits : List ℕ → Bool
+isBits f = leb 1 (length f) && every isBit f
+
+-- the set with the loads from number k on whose bits are 1
+unfoldable pub joinedFrom : ℕ → LoadSet → List ℕ → LoadSet
+joinedFrom k s [] = s
+joinedFrom k s (b ∷ bs) = joinedFrom (suc k) (pick (eqb b (nought + 1)) (joined s k) s) bs
+
+-- the loads whose bit is 1: bit 1 is the first byte
+abbrev pub loadsOf : List ℕ → LoadSet
+loadsOf f = joinedFrom 1 (record { 0 = 0 }) f
+
+-- ---- the table: a line has a word and some fields, each a number, or one field of bits
+pub data Form : Type 0 where
+  numbers : (word : List ℕ) (count : ℕ) (command : (ℕ → ℕ) → Command) → Form
+  bits : (word : List ℕ) (command : LoadSet → ℕ → Command) → Form
+
+abbrev pub table : List Form
+table =
+    numbers (bytes "clear") 0 (λ n. Clear)
+    ∷ numbers (bytes "book") 2 (λ n. Book (n 1) (n 2))
+    ∷ numbers (bytes "start") 1 (λ n. Start (n 1))
+    ∷ numbers (bytes "end") 1 (λ n. End (n 1))
+    ∷ numbers (bytes "rule") 3 (λ n. Rule (n 1) (n 2) (n 3))
+    ∷ numbers (bytes "row") 3 (λ n. Row (n 1) (n 2) (n 3))
+    ∷ numbers (bytes "load") 3 (λ n. Load (n 1) (n 2) (n 3))
+    ∷ numbers (bytes "power") 2 (λ n. Power (n 1) (n 2))
+    ∷ numbers (bytes "worth") 2 (λ n. Worth (n 1) (n 2))
+    ∷ numbers (bytes "budget") 1 (λ n. Budget (n 1))
+    ∷ numbers (bytes "plan") 0 (λ n. Plan)
+    ∷ bits (bytes "check") (λ s n. Check s n)
+    ∷ []
+
+-- has a line with this word and these fields the form?
+abbrev pub fits : Form → List ℕ → List (List ℕ) → Bool
+fits (numbers w n c) v fs = same w v && eqb (length fs) n && every isNumber fs
+fits (bits w c) v fs = same w v && eqb (length fs) 1 && every isBits fs
+
+-- and what it asks for then: field k is the k-th after the word
+abbrev pub asked : Form → List (List ℕ) → Command
+asked (numbers w n c) fs = c (λ k. value (getD fs (k - 1) []))
+asked (bits w c) fs = c (loadsOf (getD fs 0 [])) (length (getD fs 0 []))
+
+unfoldable pub find : List Form → (word : List ℕ) → (fields : List (List ℕ)) → Command
+find [] v fs = Broken
+find (x ∷ xs) v fs = pick (fits x v fs) (asked x fs) (find xs v fs)
+
+abbrev pub command : List (List ℕ) → Command
+command [] = Broken
+command (v ∷ fs) = find table v fs
+
+unfoldable pub parse : List ℕ → Command
+parse s = command (fields s)

@@ -1,0 +1,9 @@
+-- Lines of bytes: how they are read, what is printed, and how input is cut into lines.
+pub mod Text
+pub mod Length
+pub mod Grammar
+pub mod Written
+pub mod Answers
+pub mod Reading
+pub mod Input
+pub mod Shown

@@ -1,0 +1,109 @@
+// Writing answers into the free part of the lent output, which the caller lends on. Each function writes from a place on and returns the
+// place after what it wrote; all other bytes keep their values.
+use crate::COMMA;
+use crate::LINE_FEED;
+use crate::NOUGHT;
+ghost use mathlib.Core.List.{[], _∷_};
+ghost use Prim.Native.Nat.{_+_, _≤_};
+ghost use lib.ListN.{length};
+ghost use Rattle.lines.specs.Text.{decimal, field};
+ghost use Rattle.lines.specs.Answers.{Wrote, ok, yes, refused, planLine, load, loadLine};
+
+// One byte.
+fn put(out: &mut [u8], at: usize, b: u8) -> usize
+    requires { ⌜ at + 1 ≤ length (now out) ⌝ }
+    ensures { λ r. ⌜ Wrote (now (out .entry)) (now (out .exit)) at r (b ∷ []) ⌝ }
+{
+    out[at] = b;
+    at + 1
+}
+
+// A text.
+fn put_text(out: &mut [u8], at: usize, text: &[u8]) -> usize
+    requires { ⌜ at + length (now text) ≤ length (now out) ⌝ }
+    ensures { λ r. ⌜ Wrote (now (out .entry)) (now (out .exit)) at r (now (text .entry)) ⌝ }
+{
+    let mut i: usize = 0;
+    while i < text.len() {
+        out[at + i] = text[i];
+        i += 1;
+    }
+    at + i
+}
+
+// A number in decimal. It calls itself once for each digit but the last.
+fn put_decimal(out: &mut [u8], at: usize, n: u32) -> usize
+    requires { ⌜ at + length (decimal n) ≤ length (now out) ⌝ }
+    ensures { λ r. ⌜ Wrote (now (out .entry)) (now (out .exit)) at r (decimal n) ⌝ }
+{
+    if n < 10 {
+        return put(&mut *out, at, NOUGHT + (n as u8));
+    }
+    let next = put_decimal(&mut *out, at, n / 10);
+    put(&mut *out, next, NOUGHT + ((n % 10) as u8))
+}
+
+// A number and the byte after it.
+fn put_field(out: &mut [u8], at: usize, n: u32, after: u8) -> usize
+    requires { ⌜ at + length (field n after) ≤ length (now out) ⌝ }
+    ensures { λ r. ⌜ Wrote (now (out .entry)) (now (out .exit)) at r (field n after) ⌝ }
+{
+    let next = put_decimal(&mut *out, at, n);
+    put(&mut *out, next, after)
+}
+
+// The answer to an accepted change.
+pub fn write_ok(out: &mut [u8], at: usize) -> usize
+    requires { ⌜ at + length ok ≤ length (now out) ⌝ }
+    ensures { λ r. ⌜ Wrote (now (out .entry)) (now (out .exit)) at r ok ⌝ }
+{
+    put_text(out, at, b"ok\n")
+}
+
+// The first line of the answer to an allowed check.
+pub fn write_yes(out: &mut [u8], at: usize) -> usize
+    requires { ⌜ at + length yes ≤ length (now out) ⌝ }
+    ensures { λ r. ⌜ Wrote (now (out .entry)) (now (out .exit)) at r yes ⌝ }
+{
+    put_text(out, at, b"yes\n")
+}
+
+// A refusal and its number.
+pub fn write_no(out: &mut [u8], at: usize, number: u32) -> usize
+    requires { ⌜ at + length (refused number) ≤ length (now out) ⌝ }
+    ensures { λ r. ⌜ Wrote (now (out .entry)) (now (out .exit)) at r (refused number) ⌝ }
+{
+    let next = put_text(&mut *out, at, b"no,");
+    put_field(&mut *out, next, number, LINE_FEED)
+}
+
+// The first line of a plan: worth, power and the number of loads on.
+pub fn write_plan(out: &mut [u8], at: usize, worth: u32, power: u32, n: u32) -> usize
+    requires { ⌜ at + length (planLine worth power n) ≤ length (now out) ⌝ }
+    ensures { λ r. ⌜ Wrote (now (out .entry)) (now (out .exit)) at r (planLine worth power n) ⌝ }
+{
+    let a = put_text(&mut *out, at, b"plan,");
+    let b = put_field(&mut *out, a, worth, COMMA);
+    let c = put_field(&mut *out, b, power, COMMA);
+    put_field(&mut *out, c, n, LINE_FEED)
+}
+
+// The line of one load.
+pub fn write_load(
+    out: &mut [u8],
+    at: usize,
+    number: u32,
+    mark: u32,
+    state: u32,
+    load_rule: u32,
+    row_rule: u32,
+) -> usize
+    requires { ⌜ at + length (loadLine (load number mark state «load_rule» «row_rule»)) ≤ length (now out) ⌝ }
+    ensures { λ r. ⌜ Wrote (now (out .entry)) (now (out .exit)) at r (loadLine (load number mark state «load_rule» «row_rule»)) ⌝ }
+{
+    let a = put_field(&mut *out, at, number, COMMA);
+    let b = put_field(&mut *out, a, mark, COMMA);
+    let c = put_field(&mut *out, b, state, COMMA);
+    let d = put_field(&mut *out, c, load_rule, COMMA);
+    put_field(&mut *out, d, row_rule, LINE_FEED)
+}
