@@ -1,0 +1,11 @@
+pub mod Numbers
+pub mod Tables
+pub mod Lawful
+pub mod Strips
+pub mod Shares
+pub mod Places
+pub mod Rules
+pub mod Served
+pub mod Stretches
+pub mod Filling
+pub mod Agreement

@@ -1,0 +1,28 @@
+-- Cells as numbers: that of the empty set, and the bound that every cell of a search keeps. A request that changes what is best changes
+-- this file. Of 64 loads worth 1,000 each no cell passes 130,001; as worth × 512 + 512 − power, and of 128 loads, none would pass
+-- 132,096,512, which is below the limit of 2 ^ 30, and two below it fit 32 bits together. Assumes nothing.
+use Prim.Native.Nat.{ℕ, _+_, _*_, _≤_, _<_}
+use mathlib.Core.Path.{_≡_, refl}
+use native.Mathlib.Numerals.{add-one}
+use native.Mathlib.Omega.{arith}
+use Rattle.tables.specs.Limits.{maxLoads}
+use Rattle.meaning.specs.Cell.{cell, empty}
+use Rattle.cells.specs.Problem.{maxWorth}
+use Rattle.cells.specs.Work.{cellLimit, heldIn}
+
+pub empty-is : 1 ≡ empty
+unfolding cell
+empty-is = refl
+
+pub cell-is : (p v : ℕ) → v + 1 ≡ cell p v
+unfolding cell
+cell-is p v = add-one v
+
+-- the cells of so many loads fit
+pub cell-fits : (n x : ℕ) → n ≤ maxLoads → x ≤ cell 0 (maxWorth + (maxWorth + maxWorth * n + maxWorth * n)) → x < cellLimit
+unfolding cell
+cell-fits n x h l = omega arith
+
+-- a cell that fits is read as it is
+pub held-same : (x : ℕ) → x < cellLimit → heldIn x ≡ x
+held-same x h = omega arith

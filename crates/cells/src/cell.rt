@@ -1,0 +1,45 @@
+// Cells as 32-bit numbers. A request that changes what is best changes this file.
+ghost use mathlib.Core.Path.{_≡_};
+ghost use Prim.Native.Nat.{max, _≤_, _<_};
+ghost use Rattle.meaning.specs.Cell.{cell, powerLimit, _⊕_};
+ghost use Rattle.cells.specs.Problem.{maxWorth};
+ghost use Rattle.cells.specs.Work.{cellLimit, heldIn};
+
+// The cell of the empty set.
+pub const EMPTY: u32 = 1;
+
+// What a cell says, whatever it holds.
+pub fn held(x: u32) -> u32
+    ensures { λ r. ⌜ r ≡ heldIn x ⌝ }
+{
+    x % 1073741824
+}
+
+pub fn greater(x: u32, y: u32) -> u32
+    ensures { λ r. ⌜ r ≡ max x y ⌝ }
+{
+    if x < y { y } else { x }
+}
+
+// The cell of two disjoint sets together. Where x stays the same a loop over y has no branch.
+pub fn join(x: u32, y: u32) -> u32
+    requires { ⌜ (x ≤ cellLimit) × (y ≤ cellLimit) ⌝ }
+    ensures { λ r. ⌜ r ≡ x ⊕ y ⌝ }
+{
+    if x == 0 {
+        return 0;
+    }
+    let mut more: u32 = 0;
+    if y != 0 {
+        more = x - EMPTY;
+    }
+    y + more
+}
+
+// The cell of one load that is on.
+pub fn cell_of(power: usize, worth: u32) -> u32
+    requires { ⌜ (power < powerLimit) × (worth ≤ maxWorth) ⌝ }
+    ensures { λ r. ⌜ (r ≡ cell power worth) × (r ≤ cellLimit) ⌝ }
+{
+    worth + EMPTY
+}
