@@ -1,0 +1,136 @@
+-- Runs by value: a load more, and the set of the loads that are on. Assumes nothing.
+use Prim.Native.Nat.{ℕ, zero, suc, _+_, _-_, _≤_, _<_}
+use mathlib.Core.Path.{_≡_, refl, sym, ap, ap₂, _∙_, subst, fun-ext}
+use mathlib.Core.Bool.{Bool, true, false, cond, _||_}
+use mathlib.Core.List.{List, [], _∷_, _++_, map}
+use native.Mathlib.Numerals.{one-add}
+use native.Mathlib.Omega.{arith}
+use borrow.Author.Tests.{eqb-true, eqb-false, ne-eqb, le-leb}
+use lib.Dec.{eqb}
+use lib.ListN.{length, set, length-map}
+use Rattle.lists.specs.Tests.{pick}
+use Rattle.lists.specs.Argmax.{guard}
+use Rattle.lists.specs.Arrays.{laid}
+use Rattle.lists.proofs.Arrays.{laid-snoc}
+use Rattle.marks.specs.declared.LoadSet.{LoadSet}
+use Rattle.marks.specs.Bits.{within, hasMark}
+use Rattle.marks.specs.Sets.{joined, markIn}
+use Rattle.marks.proofs.Laws.{has-zero, has-over, has-with-same, has-with-other}
+use Rattle.tables.specs.Limits.{maxLoads}
+use Rattle.meaning.specs.Choice.{Entry, noEntry, find, inOrder, marksOf, shownSet}
+use Rattle.meaning.specs.Claims.{Numbered}
+use Rattle.engine.specs.declared.run.Run.{Run}
+use Rattle.engine.specs.Shown.{marking, markAll, runOf, withEntry, outcomeOf}
+
+-- ---- entries in load order
+pub order-length : (es : List Entry) (k n : ℕ) → length (inOrder es k n) ≡ n
+unfolding inOrder
+order-length es k zero = refl
+order-length es k (suc n) = ap suc (order-length es (suc k) n)
+
+order-snoc : (es : List Entry) (k n : ℕ) → inOrder es k (suc n) ≡ inOrder es k n ++ (find es (k + n) ∷ [])
+unfolding inOrder
+order-snoc es k zero = ap (λ i. find es i ∷ []) (omega arith)
+order-snoc es k (suc n) =
+    ap (λ (l : List Entry). find es k ∷ l) (order-snoc es (suc k) n ∙ ap (λ i. inOrder es (suc k) n ++ (find es i ∷ [])) (omega arith))
+
+pub order-next : (es : List Entry) (n : ℕ) → inOrder es 1 (suc n) ≡ inOrder es 1 n ++ (find es (suc n) ∷ [])
+order-next es n = rw (order-snoc es 1 n, one-add)
+
+pub order-numbered : (es : List Entry) (k n : ℕ) → ((i : ℕ) → k ≤ i → i < k + n → find es i .number ≡ i) → Numbered k (inOrder es k n)
+unfolding inOrder
+order-numbered es k zero h = tt
+order-numbered es k (suc n) h = (h k (omega arith) (omega arith), order-numbered es (suc k) n (λ i a b. h i (omega arith) (omega arith)))
+
+-- ---- a load more
+map-snoc : (f : Entry → ℕ) (es : List Entry) (e : Entry) → map f (es ++ (e ∷ [])) ≡ map f es ++ (f e ∷ [])
+map-snoc f [] e = refl
+map-snoc f (x ∷ es) e = ap (λ (l : List ℕ). f x ∷ l) (map-snoc f es e)
+
+mark-snoc : (s : LoadSet) (es : List Entry) (e : Entry) → markAll s (es ++ (e ∷ [])) ≡ marking (markAll s es) e
+unfolding markAll
+mark-snoc s [] e = refl
+mark-snoc s (x ∷ es) e = mark-snoc (marking s x) es e
+
+laid-more : (f : Entry → ℕ) (es : List Entry) (e : Entry) (n : ℕ) → n ≡ suc (length es) → length es < maxLoads
+    → set (laid 0 maxLoads (map f es)) (n - 1) (f e) ≡ laid 0 maxLoads (map f (es ++ (e ∷ [])))
+laid-more f es e n q h =
+    let i : n - 1 ≡ length (map f es) = omega (arith, length-map es f) in
+    ap (λ i. set (laid 0 maxLoads (map f es)) i (f e)) i
+    ∙ laid-snoc 0 maxLoads (map f es) (f e) (omega (arith, length-map es f))
+    ∙ ap (laid 0 maxLoads) (sym (map-snoc f es e))
+
+abbrev runFrom : List ℕ → List ℕ → List ℕ → LoadSet → Run
+runFrom a b c s = record { states = a; «load_rules» = b; «row_rules» = c; set = s }
+
+pub run-snoc : (es : List Entry) (e : Entry) → e .number ≡ suc (length es) → length es < maxLoads → withEntry (runOf es) e ≡ runOf (es ++ (e ∷ []))
+unfolding runOf withEntry
+run-snoc es e q h =
+    ap₂ (λ a b. runFrom a b (set (laid 0 maxLoads (map (λ e. e .rowRule) es)) (e .number - 1) (e .rowRule)) (marking (markAll (record { 0 = 0 }) es) e))
+    (laid-more (λ e. e .state) es e (e .number) q h) (laid-more (λ e. e .loadRule) es e (e .number) q h)
+    ∙ ap₂ (λ a s. runFrom (laid 0 maxLoads (map (λ e. e .state) (es ++ (e ∷ [])))) (laid 0 maxLoads (map (λ e. e .loadRule) (es ++ (e ∷ [])))) a s)
+    (laid-more (λ e. e .rowRule) es e (e .number) q h) (sym (mark-snoc (record { 0 = 0 }) es e))
+
+-- ---- the set
+or-none : (a : Bool) → a || false ≡ a
+or-none true = refl
+or-none false = refl
+
+find-before : (es : List Entry) (k n : ℕ) → Numbered k es → n < k → find es n ≡ noEntry
+unfolding find
+find-before [] k n o h = refl
+find-before (e ∷ es) k n o h = rw (ne-eqb (e .number) n (λ q. absurd (omega (arith, o .0)))) (find-before es (suc k) n (o .1) (omega arith))
+
+-- a load is in the set if it was, or if its entry is on
+has-marked : (s : LoadSet) (es : List Entry) (k n : ℕ) → Numbered (suc k) es → k + length es ≤ maxLoads
+    → hasMark (markAll s es .0) n ≡ eqb (find es n .mark) 1 || hasMark (s .0) n
+unfolding markAll find
+has-marked s [] k n o h = refl
+has-marked s (e ∷ es) k n o h =
+    has-marked (marking s e) es (suc k) n (o .1) (omega arith) ∙ go (eqb (e .number) n) refl
+  where
+    here : e .number ≡ n → (t : Bool) → eqb (e .mark) 1 ≡ t → hasMark (pick t (joined s (e .number)) s .0) n ≡ t || hasMark (s .0) n
+    here q true m = subst (λ i. hasMark (joined s (e .number) .0) i ≡ true) q (has-with-same 64 (s .0) (e .number) (ap (within 64) (o .0) ∙ le-leb (suc k) 64 (omega arith)))
+    here q false m = refl
+
+    there : (e .number ≡ n → ⊥) → (t : Bool) → hasMark (pick t (joined s (e .number)) s .0) n ≡ hasMark (s .0) n
+    there q true = has-with-other 64 (s .0) (e .number) n (λ x. q (sym x))
+    there q false = refl
+
+    go : (t : Bool) → eqb (e .number) n ≡ t → eqb (find es n .mark) 1 || hasMark (marking s e .0) n ≡ eqb (cond t e (find es n) .mark) 1 || hasMark (s .0) n
+    go true q =
+        ap (λ (x : Entry). eqb (x .mark) 1 || hasMark (marking s e .0) n) (find-before es (suc (suc k)) n (o .1) (omega (arith, o .0, eqb-true (e .number) n q)))
+        ∙ here (eqb-true _ _ q) (eqb (e .mark) 1) refl
+    go false q = ap (λ b. eqb (find es n .mark) 1 || b) (there (eqb-false _ _ q) (eqb (e .mark) 1))
+
+find-past : (es : List Entry) (k n : ℕ) → Numbered k es → k + length es ≤ n → find es n ≡ noEntry
+unfolding find
+find-past [] k n o h = refl
+find-past (e ∷ es) k n o h = rw (ne-eqb (e .number) n (λ q. absurd (omega (arith, o .0)))) (find-past es (suc k) n (o .1) (omega arith))
+
+has-none : (n : ℕ) → hasMark 0 n ≡ false
+has-none zero = sym (has-zero 0 0 refl)
+has-none (suc n) = sym (has-over 0 0 (suc n) (omega arith) (omega arith))
+
+module _ (es : List Entry) (o : Numbered 1 es) (few : length es ≤ maxLoads) where
+  pub has-shown : (n : ℕ) → hasMark (runOf es .set .0) n ≡ eqb (marksOf es n) 1
+  unfolding runOf
+  has-shown n = has-marked (record { 0 = 0 }) es 0 n o (omega arith) ∙ rw (has-none n) (or-none (eqb (marksOf es n) 1))
+
+  -- the run's set is the loads that are shown with mark 1
+  pub shown-set : markIn (runOf es .set) ≡ shownSet es
+  shown-set = fun-ext (λ n. ap (λ t. guard t 1) (has-shown n))
+
+  -- none of them is past the last
+  pub shown-within : (n : ℕ) → length es < n → hasMark (runOf es .set .0) n ≡ false
+  shown-within n h = has-shown n ∙ ap (λ (e : Entry). eqb (e .mark) 1) (find-past es 1 n o (omega arith))
+
+-- ---- what a search answers
+pub outcome-none : (v : ℕ) (es : List Entry) → v ≡ 0 → record { found = false; run = runOf [] } ≡ outcomeOf v es
+unfolding outcomeOf
+outcome-none v es e = rw e
+
+pub outcome-some : (v : ℕ) (es : List Entry) → 0 < v → record { found = true; run = runOf es } ≡ outcomeOf v es
+unfolding outcomeOf
+outcome-some zero es h = absurd (omega arith)
+outcome-some (suc v) es h = refl

@@ -1,0 +1,6 @@
+-- What planning and checking answer, and how the run is read back from filled cells.
+pub mod Figures
+pub mod Shown
+pub mod Search
+pub mod Parts
+pub mod Pass

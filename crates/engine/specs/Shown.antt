@@ -1,0 +1,53 @@
+-- The entries of a plan as a run by value: three numbers for each load in load order, and the set of the loads that are on.
+-- They stand for "then for each load number,mark,state,load rule,row rule" and "chosen set held as a u64 of marks" of paper 01.
+-- Assumes nothing.
+use Prim.Native.Nat.{ℕ, zero, suc, _-_}
+use mathlib.Core.Bool.{true, false}
+use mathlib.Core.List.{List, [], _∷_, map}
+use lib.Dec.{eqb}
+use lib.ListN.{set}
+use Rattle.lists.specs.Tests.{pick}
+use Rattle.lists.specs.Arrays.{laid}
+use Rattle.marks.specs.declared.LoadSet.{LoadSet}
+use Rattle.marks.specs.Sets.{joined}
+use Rattle.tables.specs.Limits.{maxLoads}
+use Rattle.meaning.specs.Choice.{Entry}
+use Rattle.engine.specs.declared.run.Run.{Run}
+use Rattle.engine.specs.declared.run.Outcome.{Outcome}
+use Rattle.engine.specs.declared.run.Shown.{Shown}
+
+-- a load's line, as the code holds it
+abbrev pub entryOf : Shown → Entry
+entryOf e = record { number = e .number; mark = e .mark; state = e .state; loadRule = e .«load_rule»; rowRule = e .«row_rule» }
+
+-- a set with the load of an entry, if it is on
+abbrev pub marking : LoadSet → Entry → LoadSet
+marking s e = pick (eqb (e .mark) 1) (joined s (e .number)) s
+
+-- a set with the loads of the entries that are on
+unfoldable pub markAll : LoadSet → List Entry → LoadSet
+markAll s [] = s
+markAll s (e ∷ es) = markAll (marking s e) es
+
+-- the run that entries in load order show
+unfoldable pub runOf : List Entry → Run
+runOf es = record {
+  states = laid 0 maxLoads (map (λ e. e .state) es);
+  «load_rules» = laid 0 maxLoads (map (λ e. e .loadRule) es);
+  «row_rules» = laid 0 maxLoads (map (λ e. e .rowRule) es);
+  set = markAll (record { 0 = 0 }) es;
+}
+
+-- a run with one more entry
+unfoldable pub withEntry : Run → Entry → Run
+withEntry r e = record {
+  states = set (r .states) (e .number - 1) (e .state);
+  «load_rules» = set (r .«load_rules») (e .number - 1) (e .loadRule);
+  «row_rules» = set (r .«row_rules») (e .number - 1) (e .rowRule);
+  set = marking (r .set) e;
+}
+
+-- what a search answers: its best cell is 0 where it finds nothing
+unfoldable pub outcomeOf : ℕ → List Entry → Outcome
+outcomeOf zero es = record { found = false; run = runOf [] }
+outcomeOf (suc v) es = record { found = true; run = runOf es }

@@ -1,0 +1,53 @@
+// The whole plan, and the check of a set.
+use crate::pass::trace;
+use crate::run::Outcome;
+use cells::fill::fill;
+use cells::problem::check_problem;
+use cells::problem::plan_problem;
+use cells::problem::shape_of;
+use cells::work::cells_needed;
+use cells::work::clear;
+use marks::LoadSet;
+use tables::tables::StoredTables;
+ghost use mathlib.Core.Path.{_≡_};
+ghost use mathlib.Core.Bool.{true};
+ghost use mathlib.Core.List.{_++_};
+ghost use Prim.Native.Nat.{_≤_, _<_};
+ghost use lib.ListN.{length, drop, replicate};
+ghost use Rattle.tables.specs.Stored.{tablesOf, keepsLimits};
+ghost use Rattle.meaning.specs.Best.{bestPlan, bestCheck};
+ghost use Rattle.meaning.specs.Choice.{planEntries, checkEntries};
+ghost use Rattle.marks.specs.Sets.{markIn};
+ghost use Rattle.engine.specs.Shown.{outcomeOf};
+ghost use Rattle.meaning.specs.Cells.{cellsOf};
+
+// The cells of a check: 64 loads, 8 states and 8 stages, one allowance.
+const CHECK_CELLS: usize = 1024;
+
+// The plan of the tables, worked out in the lent cells, which are 0 afterwards.
+pub fn plan(t: StoredTables, work: &mut [u32]) -> Outcome
+    requires { ⌜ keepsLimits t ≡ true ⌝ }
+    requires { ⌜ (0 < t .loads .count) × (cellsOf (tablesOf t) ≤ length (now work)) ⌝ }
+    ensures { λ r. ⌜ r ≡ outcomeOf (bestPlan (tablesOf t)) (planEntries (tablesOf t)) ⌝ }
+    ensures { λ _. ⌜ now (work .exit) ≡ replicate (cellsOf (tablesOf t)) 0 ++ drop (cellsOf (tablesOf t)) (now (work .entry)) ⌝ }
+{
+    let p = plan_problem(t);
+    let n = cells_needed(shape_of(p));
+    fill(p, work, 0, n);
+    let found = trace(p, &work[..]);
+    clear(work, n);
+    found
+}
+
+// The run of a checked set, worked out in cells of its own.
+pub fn check(t: StoredTables, set: LoadSet) -> Outcome
+    requires { ⌜ keepsLimits t ≡ true ⌝ }
+    requires { ⌜ 0 < t .loads .count ⌝ }
+    ensures { λ r. ⌜ r ≡ outcomeOf (bestCheck (tablesOf t) (markIn set)) (checkEntries (tablesOf t) (markIn set)) ⌝ }
+{
+    let p = check_problem(t, set);
+    let n = cells_needed(shape_of(p));
+    let mut work = [0u32; CHECK_CELLS];
+    fill(p, &mut work[..], 0, n);
+    trace(p, &work[..])
+}
