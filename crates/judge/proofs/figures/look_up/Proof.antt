@@ -1,0 +1,122 @@
+-- `look_up` meets its contract: each list is filled from the front with the loads' figures. Assumes nothing.
+use Prim.Native.Nat.{ℕ, suc, _-_, _*_, _≤_, _<_}
+use mathlib.Core.Path.{_≡_, refl, sym, ap, _∙_}
+use mathlib.Core.List.{List}
+use native.Mathlib.Omega.{arith}
+use borrow.Author.Needs.{needs}
+use lib.ListN.{length, getD}
+use lib.Seq.{getD-take}
+use Rattle.lists.proofs.Arrays.{of-map}
+use Rattle.tables.specs.declared.rule.TransitionList.{TransitionList}
+use Rattle.tables.specs.declared.load.LoadList.{LoadList}
+use Rattle.tables.specs.Tables.{noLoad}
+use Rattle.tables.specs.Limits.{maxLoads}
+use Rattle.tables.specs.Stored.{rulesOf, bookOf, tablesOf}
+use Rattle.judge.specs.declared.figures.Step.{Step}
+use Rattle.judge.specs.Verdict.{proposed}
+use Rattle.judge.specs.Figures.{stepOf}
+use Rattle.judge.proofs.Kept.{kept, loads-counted}
+use Rattle.judge.proofs.Places.{Filled, fill-none, fill-next}
+use Rattle.judge.proofs.figures.look_up.Statement.{statement}
+use Rattle.judge.proofs.figures.look_up.Tie as tie
+
+-- the parent and the step of the load at place j
+abbrev parentOf : LoadList → ℕ → ℕ
+parentOf loads j = getD (loads .items) j noLoad .parent
+
+abbrev stepFor : TransitionList → TransitionList → List ℕ → ℕ → Step
+stepFor load-rules row-rules run j = stepOf (rulesOf load-rules) (rulesOf row-rules) (proposed run (suc j))
+
+abbrev Inv-loop : tie.InvT-loop
+Inv-loop run loads load-rules row-rules parents₀ begins₀ stages₀ nexts₀ i₀ i-end parents begins stages nexts i =
+    (i ≤ i-end)
+    × (i-end ≤ maxLoads)
+    × (length run ≡ 3 * i-end)
+    × Filled maxLoads (parentOf loads) parents i
+    × Filled maxLoads (λ j. stepFor load-rules row-rules run j .begin) begins i
+    × Filled maxLoads (λ j. stepFor load-rules row-rules run j .stage) stages i
+    × Filled maxLoads (λ j. stepFor load-rules row-rules run j .next) nexts i
+
+abbrev μ-loop : tie.MeasureT-loop
+μ-loop run loads load-rules row-rules parents₀ begins₀ stages₀ nexts₀ i₀ i-end parents begins stages nexts i = i-end - i
+
+loop-holds : tie.Need-loop-holds Inv-loop μ-loop
+loop-holds c =
+    let s = c .before .before .before .before in (
+      omega arith,
+      kept (s .args .t) (s .pre .0) .loads,
+      s .pre .1,
+      fill-none maxLoads _ _ refl,
+      fill-none maxLoads _ _ refl,
+      fill-none maxLoads _ _ refl,
+      fill-none maxLoads _ _ refl,
+    )
+
+step-of-requires : tie.Need-step-of-requires Inv-loop μ-loop
+step-of-requires c κs =
+    let s = c .before .before .before .before .before .before .before .before .before in
+    let k = kept (s .args .t) (s .pre .0) in
+    (k .loadRules, k .rowRules)
+
+loop-again : tie.Need-loop-again Inv-loop μ-loop
+loop-again c =
+    let i = c .before .before .before .before .before .loop .i in
+    let inv = c .before .before .before .before .before .loop .inv in
+    let e = c .step-of .ensures in
+    let l : i < maxLoads = omega arith in (
+      omega arith,
+      inv .1,
+      inv .2,
+      fill-next maxLoads _ _ i _ (inv .3) l refl,
+      fill-next maxLoads _ _ i _ (inv .4) l (ap (λ s. s .begin) e),
+      fill-next maxLoads _ _ i _ (inv .5) l (ap (λ s. s .stage) e),
+      fill-next maxLoads _ _ i _ (inv .6) l (ap (λ s. s .next) e),
+    )
+
+returns : tie.Need-returns Inv-loop μ-loop
+unfolding tablesOf bookOf
+returns c =
+    let s = c .before .before .before .before .before .before in
+    let loads = s .args .t .loads in
+    let k = kept (s .args .t) (s .pre .0) in
+    let inv = c .before .loop .inv in
+    let counted = loads-counted (s .args .t) (search (needs, of-map)) k in
+    record {
+      lawful = k .lawful;
+      count = counted;
+      endStages = refl;
+      parent = λ j b.
+          let l : j < loads .count = omega (arith, counted) in
+          inv .3 .filled j (omega arith) ∙ sym (ap (λ l. l .parent) (getD-take (loads .count) (loads .items) j noLoad l));
+      begin = λ j b. inv .4 .filled j (omega arith);
+      stage = λ j b. inv .5 .filled j (omega arith);
+      next = λ j b. inv .6 .filled j (omega arith);
+    }
+
+pub look-up-spec : {M : Type 1} → statement M
+look-up-spec =
+    tie.close
+    (tie.spec
+    Inv-loop
+    μ-loop
+    loop-holds
+    (λ c. omega arith)
+    (λ c. omega arith)
+    (λ c. omega arith)
+    (λ c. omega arith)
+    (λ c. omega arith)
+    (λ c. omega arith)
+    (λ c. omega arith)
+    (λ c. omega arith)
+    (λ c. omega arith)
+    step-of-requires
+    (λ c. omega arith)
+    (λ c. omega arith)
+    (λ c. omega arith)
+    (λ c. omega arith)
+    (λ c. omega arith)
+    (λ c. omega arith)
+    (λ c. omega arith)
+    (λ c. omega arith)
+    loop-again
+    returns)

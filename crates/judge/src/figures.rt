@@ -1,0 +1,103 @@
+// What the walk needs of each load, looked up once: the loads' parents, and the numbers of a run turned into stages.
+// The walk is lent these lists of numbers, so that no call in it copies the book or the loads: it may be two calls deep for each load, and
+// book and loads are 600 bytes.
+ghost use Prim.Native.Nat.{_*_, _≤_};
+ghost use mathlib.Core.Path.{_≡_};
+ghost use mathlib.Core.Bool.{true};
+ghost use lib.ListN.{length};
+ghost use Rattle.lists.specs.Argmax.{guard};
+ghost use Rattle.tables.specs.Limits.{maxRules};
+ghost use Rattle.tables.specs.Stored.{rulesOf, tablesOf, keepsLimits};
+ghost use Rattle.meaning.specs.Runs.{rule};
+ghost use Rattle.judge.specs.Verdict.{proposed};
+ghost use Rattle.judge.specs.Figures.{stepOf, LookedUp};
+use tables::load::MAX_LOADS;
+use tables::rule::Transition;
+use tables::rule::TransitionList;
+use tables::tables::StoredTables;
+
+// Of one load: the stage at which the row of its children begins, the stage at which its row rule begins, and the stage at which its row
+// goes on. A stage is 0 where the rule names nothing or does not fit the load's state.
+pub struct Step {
+    pub begin: u8,
+    pub stage: u8,
+    pub next: u8,
+}
+
+// Of every load, load k's at place k - 1: its parent, and its step.
+pub struct Figures {
+    pub parents: [u8; MAX_LOADS],
+    pub begins: [u8; MAX_LOADS],
+    pub stages: [u8; MAX_LOADS],
+    pub nexts: [u8; MAX_LOADS],
+}
+
+// The rule with number n, counted from 1. A number that names nothing gives the rule of zeros.
+fn rule_at(rules: TransitionList, n: u32) -> Transition
+    requires { ⌜ rules .count ≤ maxRules ⌝ }
+    ensures { λ r. ⌜ r ≡ rule (rulesOf rules) n ⌝ }
+{
+    let number = n as usize;
+    if number == 0 {
+        return Transition::NONE;
+    }
+    if rules.count < number {
+        return Transition::NONE;
+    }
+    rules.items[number - 1]
+}
+
+// The stage x where the test passes, else none.
+fn only(test: bool, x: u8) -> u8
+    ensures { λ r. ⌜ r ≡ guard test x ⌝ }
+{
+    if test { x } else { 0 }
+}
+
+// The step of a load with these three numbers.
+fn step_of(
+    load_rules: TransitionList,
+    row_rules: TransitionList,
+    state: u32,
+    load_rule: u32,
+    row_rule: u32,
+) -> Step
+    requires { ⌜ («load_rules» .count ≤ maxRules) × («row_rules» .count ≤ maxRules) ⌝ }
+    ensures { λ r. ⌜ r ≡ stepOf (rulesOf «load_rules») (rulesOf «row_rules») (record { state = state; loadRule = «load_rule»; rowRule = «row_rule» }) ⌝ }
+{
+    let l = rule_at(load_rules, load_rule);
+    let r = rule_at(row_rules, row_rule);
+    Step {
+        begin: only(l.from as u32 == state, l.to),
+        stage: only(r.label as u32 == state, r.from),
+        next: r.to,
+    }
+}
+
+// The figures of every load, by the numbers that the run gives it.
+pub fn look_up(t: StoredTables, run: &[u32]) -> Figures
+    requires { ⌜ (keepsLimits t ≡ true) × (length (now run) ≡ 3 * t .loads .count) ⌝ }
+    ensures { λ r. ⌜ LookedUp (tablesOf t) (proposed (now (run .entry))) (t .loads .count) (t .book .ends) (r .parents) (r .begins) (r .stages) (r .nexts) ⌝ }
+{
+    let loads = t.loads;
+    let load_rules = t.book.load_rules;
+    let row_rules = t.book.row_rules;
+    let mut parents = [0u8; MAX_LOADS];
+    let mut begins = [0u8; MAX_LOADS];
+    let mut stages = [0u8; MAX_LOADS];
+    let mut nexts = [0u8; MAX_LOADS];
+    for i in 0..loads.count {
+        let at = 3 * i;
+        let s = step_of(load_rules, row_rules, run[at], run[at + 1], run[at + 2]);
+        parents[i] = loads.items[i].parent;
+        begins[i] = s.begin;
+        stages[i] = s.stage;
+        nexts[i] = s.next;
+    }
+    Figures {
+        parents,
+        begins,
+        stages,
+        nexts,
+    }
+}
