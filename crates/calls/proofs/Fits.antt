@@ -1,0 +1,144 @@
+-- Every answer fits the bytes that must be free. Assumes nothing.
+use Prim.Native.Nat.{ℕ, zero, suc, _+_, _*_, _≤_, _<_, zero-le}
+use mathlib.Core.Path.{_≡_, refl}
+use mathlib.Core.Bool.{Bool, true, false, _&&_}
+use mathlib.Core.List.{List, [], _∷_, map}
+use native.Mathlib.Nat.{mul-suc}
+use native.Mathlib.Omega.{arith}
+use borrow.Author.Tests.{leb-true, eqb-false}
+use lib.Dec.{lit≤, eqb, ltb}
+use lib.ListN.{length, length-map}
+use Rattle.lists.specs.Tests.{everyFrom}
+use Rattle.lists.specs.Argmax.{guard}
+use Rattle.lists.proofs.Bools.{and-left, and-right}
+use Rattle.marks.specs.Sets.{markIn}
+use Rattle.lines.specs.declared.Command.{Command}
+use Rattle.lines.specs.declared.Command.the-variants as line
+use Rattle.lines.specs.Grammar.{parse}
+use Rattle.lines.specs.Answers.{freeBytes, AllRanged}
+use Rattle.lines.proofs.Answers.{plan-fits, check-fits, refused-fits}
+use Rattle.tables.specs.declared.load.Load.{Load}
+use Rattle.tables.specs.Tables.{Tables}
+use Rattle.tables.specs.Limits.{powerIn, worthIn, parentIn, loadIn, Limits}
+use Rattle.tables.proofs.Parts.{limits-parts}
+use Rattle.meaning.specs.Forest.{sum}
+use Rattle.meaning.specs.Sets.{counted, power, worth, numberOn}
+use Rattle.meaning.specs.Best.{bestPlan}
+use Rattle.meaning.specs.Choice.{Entry, find, inOrder, plan, check, planEntries, checkEntries, shownSet}
+use Rattle.meaning.proofs.Ranges.{Bounded, plan-bounded, check-bounded}
+use Rattle.meaning.proofs.Entries.{Listed, plan-listed, check-listed}
+use Rattle.meaning.proofs.InOrder.{listed-length}
+use Rattle.meaning.proofs.Limits.{lawful, narrow}
+use Rattle.meaning.proofs.Claims.{claims}
+use Rattle.meaning.specs.Cells.{cellsOf}
+use Rattle.calls.specs.Causes.{lowest, noneFits, causes, allCauses, refusal}
+use Rattle.calls.specs.Printing.{lineOf, planText, checkText, printed, text}
+use Rattle.calls.specs.Calls.{Call, answer}
+use Rattle.calls.proofs.Numbers.{passed, refusal-most}
+use Rattle.calls.proofs.Answers.{positive}
+
+-- ---- load lines
+ranged : (es : List Entry) → ((i : ℕ) → Bounded (find es i)) → (k n : ℕ) → ((i : ℕ) → k ≤ i → i < k + n → find es i .number ≤ 64)
+    → AllRanged (map lineOf (inOrder es k n))
+unfolding inOrder
+ranged es b k zero h = tt
+ranged es b k (suc n) h = (
+  record { numbered = h k (omega arith) (omega arith); marked = b k .mark; inState = b k .state; byLoadRule = b k .loadRule; byRowRule = b k .rowRule },
+  ranged es b (suc k) n (λ i c d. h i (omega arith) (omega arith)),
+)
+
+all-ranged : (es : List Entry) (n : ℕ) → n ≤ 64 → Listed es n → ((i : ℕ) → Bounded (find es i)) → AllRanged (map lineOf (inOrder es 1 n))
+all-ranged es n few l b = ranged es b 1 n (λ i c d. omega (arith, l .number i c (omega arith)))
+
+-- ---- the figures of a set
+sum-most : (w : ℕ → Load → ℕ) (m : ℕ) → ((j : ℕ) (l : Load) → loadIn j l ≡ true → w j l ≤ m)
+    → (ls : List Load) (k : ℕ) → everyFrom loadIn k ls ≡ true → sum w ls k ≤ m * length ls
+unfolding sum everyFrom
+sum-most w m f [] k h = zero-le
+sum-most w m f (l ∷ ls) k h =
+    omega (
+      arith,
+      mul-suc m (length ls),
+      f k l (and-left (loadIn k l) (everyFrom loadIn (suc k) ls) h),
+      sum-most w m f ls (suc k) (and-right (loadIn k l) (everyFrom loadIn (suc k) ls) h),
+    )
+
+counted-most : (m x b : ℕ) → x ≤ b → counted m x ≤ b
+counted-most zero x b h = zero-le
+counted-most (suc m) x b h = h
+
+worth-most : (l : Load) (k : ℕ) → loadIn k l ≡ true → l .worth ≤ 1000
+unfolding loadIn
+worth-most l k h = leb-true (l .worth) 1000 (and-right (parentIn k (l .parent) && powerIn (l .power)) (worthIn (l .worth)) h)
+
+one-most : (b : Bool) → guard b 1 ≤ 1
+one-most true = lit≤ tt
+one-most false = lit≤ tt
+
+module _ (t : Tables) (h : Limits t) (σ : ℕ → ℕ) where
+  all-worth : worth t σ ≤ 64000
+  all-worth =
+      omega (arith, limits-parts t h .few, sum-most (λ k l. counted (σ k) (l .worth)) 1000 (λ k l e. counted-most (σ k) (l .worth) 1000 (worth-most l k e)) (t .loads) 1 (limits-parts t h .loads))
+
+  all-on : numberOn t σ ≤ 64
+  all-on = omega (arith, limits-parts t h .few, sum-most (λ k l. guard (eqb (σ k) 1) 1) 1 (λ k l e. one-most (eqb (σ k) 1)) (t .loads) 1 (limits-parts t h .loads))
+
+-- ---- answers
+module _ (t : Tables) (h : Limits t) where
+  few : length (t .loads) ≤ 64
+  few = limits-parts t h .few
+
+  pub plan-ranged : AllRanged (map lineOf (planEntries t))
+  unfolding planEntries
+  plan-ranged = all-ranged (plan t) (length (t .loads)) few (plan-listed t (lawful t h .ordered)) (plan-bounded t (narrow t h))
+
+  pub check-ranged : (σ : ℕ → ℕ) → AllRanged (map lineOf (checkEntries t σ))
+  unfolding checkEntries
+  check-ranged σ = all-ranged (check t σ) (length (t .loads)) few (check-listed t (lawful t h .ordered) σ) (check-bounded t (narrow t h) σ)
+
+  plan-few : length (map lineOf (planEntries t)) ≤ 64
+  unfolding planEntries
+  plan-few = omega (arith, few, length-map (planEntries t) lineOf, listed-length (plan t) (length (t .loads)) (plan-listed t (lawful t h .ordered)))
+
+  check-few : (σ : ℕ → ℕ) → length (map lineOf (checkEntries t σ)) ≤ 64
+  unfolding checkEntries
+  check-few σ = omega (arith, few, length-map (checkEntries t σ) lineOf, listed-length (check t σ) (length (t .loads)) (check-listed t (lawful t h .ordered) σ))
+
+  pub planned-fits : noneFits t ≡ false → length (planText t (planEntries t)) ≤ freeBytes
+  unfolding planText noneFits
+  planned-fits e =
+      let σ = shownSet (planEntries t) in
+      let fits = claims t h .planned (positive (eqb-false (bestPlan t) 0 e)) .optimum .fits in
+      plan-fits (map lineOf (planEntries t)) plan-ranged plan-few (worth t σ) (power t σ) (numberOn t σ)
+      (all-worth t h σ) (omega (arith, fits, leb-true (t .budget) 500 (limits-parts t h .budget))) (all-on t h σ)
+
+  printed-fits : (cells : ℕ) (c : Command) → lowest (causes t cells c) ≡ 0 → length (printed t c) ≤ freeBytes
+  unfolding printed causes checkText
+  printed-fits n line.Clear e = lit≤ tt
+  printed-fits n (line.Book s g) e = lit≤ tt
+  printed-fits n (line.Start q) e = lit≤ tt
+  printed-fits n (line.End g) e = lit≤ tt
+  printed-fits n (line.Rule q m g) e = lit≤ tt
+  printed-fits n (line.Row g q k) e = lit≤ tt
+  printed-fits n (line.Load p w v) e = lit≤ tt
+  printed-fits n (line.Power k w) e = lit≤ tt
+  printed-fits n (line.Worth k v) e = lit≤ tt
+  printed-fits n (line.Budget b) e = lit≤ tt
+  printed-fits n line.Plan e =
+      planned-fits (passed 8 (noneFits t) [] (passed 7 (ltb n (cellsOf t)) _ (passed 3 (eqb (length (t .loads)) 0) _ e .1) .1) .0)
+  printed-fits n (line.Check s k) e = check-fits (map lineOf (checkEntries t (markIn s))) (check-ranged (markIn s)) (check-few (markIn s))
+  printed-fits n line.Broken e = lit≤ tt
+
+  -- of a number of the table, and 0 only where no cause applies
+  pub text-fits : (cells n : ℕ) (c : Command) → n ≤ 10 → (n ≡ 0 → lowest (causes t cells c) ≡ 0) → length (text t n c) ≤ freeBytes
+  unfolding text
+  text-fits cells zero c m e = printed-fits cells c (e refl)
+  text-fits cells (suc zero) c m e = lit≤ tt
+  text-fits cells (suc (suc n)) c m e = refused-fits (suc (suc n)) (omega arith)
+
+  -- every answer fits
+  pub answer-fits : (c : Call) → answer t c .count ≤ freeBytes
+  unfolding answer refusal allCauses
+  answer-fits c =
+      text-fits (length (c .work)) _ (parse (c .line)) (refusal-most t (length (c .work)) (c .line) (length (c .output)) (c .place))
+      (λ e. passed 1 _ _ (passed 0 _ _ e .1) .1)

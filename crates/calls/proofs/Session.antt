@@ -1,0 +1,30 @@
+-- The session prints what paper 01 says: computed from the definitions. Assumes nothing.
+use mathlib.Core.Path.{_≡_, refl}
+use mathlib.Core.Bool.{true}
+use Rattle.lists.specs.Tests.{some, every, everyFrom, distinct}
+use Rattle.lists.specs.Arrays.{laid}
+use Rattle.lists.specs.Places.{limited}
+use Rattle.lists.specs.Argmax.{argmax}
+use Rattle.marks.specs.Bits.{hasMark, withMark}
+use Rattle.lines.specs.Text.{same, decimalTo, decimal, field}
+use Rattle.lines.specs.Grammar.{fields, isNumber, valueFrom, isBits, joinedFrom, parse, find as findForm}
+use Rattle.lines.specs.Answers.{refused, planLine, loadLine, loadLines}
+use Rattle.lines.specs.Input.{lines}
+use Rattle.tables.specs.Tables.{fresh}
+use Rattle.tables.specs.Limits.{ruleIn, sameRule, bookIn, loadIn, loadsIn, limits}
+use Rattle.tables.specs.Stored.{storedBook, stored, bookOf, tablesOf, zeroRule, zeroLoad, keepsLimits}
+use Rattle.meaning.specs.Forest.{row, tree, sum}
+use Rattle.meaning.specs.Cell.{cell, _⊕_}
+use Rattle.meaning.specs.Best.{best, bestTree, bestPlan, bestCheck}
+use Rattle.meaning.specs.Choice.{choose, chooseTree, plan, check, find, inOrder, planEntries, checkEntries}
+use Rattle.meaning.specs.Cells.{cellsOf}
+use Rattle.calls.specs.Causes.{lowest, noneFits, notAllowed, causes, allCauses, refusal}
+use Rattle.calls.specs.Effects.{effect, changed}
+use Rattle.calls.specs.Printing.{planText, checkText, printed, text, zeroed, workAfter}
+use Rattle.calls.specs.Calls.{answer, called}
+use Rattle.calls.specs.Program.{exchanges, printedBy, sessionWith}
+use Rattle.calls.specs.Session.{sessionRight}
+
+pub session-right : sessionRight ≡ true
+unfolding some every everyFrom distinct laid limited argmax hasMark withMark same decimalTo decimal field fields isNumber valueFrom isBits joinedFrom parse findForm refused planLine loadLine loadLines lines fresh ruleIn sameRule bookIn loadIn loadsIn limits storedBook stored bookOf tablesOf zeroRule zeroLoad keepsLimits row tree sum cell _⊕_ best bestTree bestPlan bestCheck choose chooseTree plan check find inOrder planEntries checkEntries lowest cellsOf noneFits notAllowed causes allCauses refusal effect changed planText checkText printed text zeroed workAfter answer called exchanges printedBy sessionWith sessionRight
+session-right = refl
