@@ -1,0 +1,128 @@
+-- A change on a planner that holds tables within the limits answers and leaves what its row of causes and its effect say. Assumes nothing.
+use Prim.Native.Nat.{ℕ, zero, suc, _≤_}
+use mathlib.Core.Path.{_≡_, refl, sym, ap, _∙_}
+use mathlib.Core.Bool.{Bool, true, false, not}
+use mathlib.Core.List.{List, [], _∷_}
+use native.Mathlib.Omega.{arith}
+use borrow.Author.Tests.{not-true, not-false}
+use lib.Dec.{leb}
+use lib.ListN.{length}
+use Rattle.lists.specs.Tests.{pick, some}
+use Rattle.lines.specs.declared.Command.{Command}
+use Rattle.tables.specs.declared.tables.StoredTables.{StoredTables}
+use Rattle.tables.specs.declared.tables.Changed as operation
+use Rattle.tables.specs.declared.rule.RuleRange.{RuleRange}
+use Rattle.tables.specs.declared.rule.Transition.{Transition}
+use Rattle.tables.specs.declared.load.Load.{Load}
+use Rattle.tables.specs.Tables.{Tables}
+use Rattle.tables.specs.Limits.{ruleIn, sameRule, maxRules, loadIn, maxLoads, Limits}
+use Rattle.tables.specs.Stored.{stored, tablesOf, Holds}
+use Rattle.tables.specs.Operations.{accepted, ruleNumber, loadNumber}
+use Rattle.tables.proofs.Parts.{limits-parts}
+use Rattle.tables.proofs.Stored.{tables-stored}
+use Rattle.calls.specs.Causes.{Cause, _if_, lowest, causes}
+use Rattle.calls.specs.Effects.{effect, acted}
+use Rattle.planner.specs.declared.changes.Changed.{Changed}
+use Rattle.planner.specs.declared.changes.NamedRule.{NamedRule}
+use Rattle.planner.specs.declared.changes.NamedLoad.{NamedLoad}
+use Rattle.planner.specs.Changes.{namedRule, namedLoad, settled, changedBy}
+
+-- ---- numbers: "value out of its range" comes first, then what the list of rules or loads says
+five : (b : Bool) (cs : List Cause) → b ≡ false → lowest ((5 if not b) ∷ cs) ≡ 5
+unfolding lowest
+five b cs e = rw e
+
+no-five : (b : Bool) (cs : List Cause) → b ≡ true → lowest ((5 if not b) ∷ cs) ≡ lowest cs
+unfolding lowest
+no-five b cs e = rw e
+
+rule-lowest : (rs : List Transition) (r : Transition)
+    → lowest ((6 if leb maxRules (length rs)) ∷ (7 if some (sameRule r) rs) ∷ []) ≡ ruleNumber rs r
+unfolding lowest ruleNumber
+rule-lowest rs r = go (leb maxRules (length rs)) (some (sameRule r) rs)
+  where
+    go : (a b : Bool) → lowest ((6 if a) ∷ (7 if b) ∷ []) ≡ pick a 6 (pick b 7 0)
+    go true b = refl
+    go false true = refl
+    go false false = refl
+
+pub load-lowest : (ls : List Load) → lowest ((6 if leb maxLoads (length ls)) ∷ []) ≡ loadNumber ls
+unfolding lowest loadNumber
+load-lowest ls = go (leb maxLoads (length ls))
+  where
+    go : (a : Bool) → lowest ((6 if a) ∷ []) ≡ pick a 6 0
+    go true = refl
+    go false = refl
+
+-- ---- what a planner within the limits holds
+module _ (s : StoredTables) (h : Holds s) where
+  same-tables : tablesOf s ≡ h .0
+  same-tables = ap tablesOf (h .2) ∙ tables-stored (h .0) (h .1)
+
+  pub lawful : Limits (tablesOf s)
+  lawful = rw same-tables (h .1)
+
+  pub is-stored : s ≡ stored (tablesOf s)
+  is-stored = h .2 ∙ ap stored (sym same-tables)
+
+  pub load-count : s .loads .count ≡ length (tablesOf s .loads)
+  unfolding stored
+  load-count = ap (λ (x : StoredTables). x .loads .count) is-stored
+
+  pub few : s .loads .count ≤ maxLoads
+  few = omega (arith, load-count, limits-parts (tablesOf s) lawful .few)
+
+acted-accepted : (t : Tables) (n : ℕ) (c : Command) → acted t n c ≡ accepted n (effect t c) t
+acted-accepted t zero c = refl
+acted-accepted t (suc n) c = refl
+
+-- ---- the ways out of a change whose first cause is "value out of its range"
+module _ (s : StoredTables) (h : Holds s) (c : Command) {r : Changed} (b : Bool) (cs : List Cause) (first : causes (tablesOf s) 0 c ≡ (5 if not b) ∷ cs) where
+  -- out of range: 5, and the planner as it was
+  pub out-of-range : b ≡ false → r ≡ settled 5 s → r ≡ changedBy (tablesOf s) c
+  unfolding changedBy
+  out-of-range e is = is ∙ rw (first, five b cs e) (ap (settled 5) (is-stored s h))
+
+  -- in range: the number and the tables that the operation gives
+  pub operated : b ≡ true → (d : operation.Changed) → d ≡ record { number = lowest cs; tables = stored (accepted (lowest cs) (effect (tablesOf s) c) (tablesOf s)) }
+      → r ≡ settled (d .number) (d .tables) → r ≡ changedBy (tablesOf s) c
+  unfolding changedBy
+  operated e d given is = is ∙ rw (given, first, no-five b cs e, acted-accepted (tablesOf s) (lowest cs) c)
+
+-- in range, where that is the only cause: accepted
+pub accepts : (s : StoredTables) (h : Holds s) (c : Command) {r : Changed} (b : Bool) → causes (tablesOf s) 0 c ≡ (5 if not b) ∷ [] → b ≡ true
+    → (u : StoredTables) → u ≡ stored (effect (tablesOf s) c) → r ≡ settled 0 u → r ≡ changedBy (tablesOf s) c
+unfolding lowest
+accepts s h c b first e u given is = operated s h c b [] first e (record { number = 0; tables = u }) (λ i. record { number = 0; tables = given i }) is
+
+-- ---- the rule or the load that a line names
+named-fits : (m : RuleRange) (r : Transition) {x : NamedRule} → x ≡ namedRule m r → x .fits ≡ ruleIn m r
+unfolding namedRule
+named-fits m r is = ap (λ (x : NamedRule). x .fits) is
+
+named-is : (m : RuleRange) (r : Transition) {x : NamedRule} → x ≡ namedRule m r → ruleIn m r ≡ true → x .rule ≡ r
+unfolding namedRule
+named-is m r is e = ap (λ (x : NamedRule). x .rule) is ∙ rw e
+
+pub load-fits : (k : ℕ) (l : Load) {x : NamedLoad} → x ≡ namedLoad k l → x .fits ≡ loadIn k l
+unfolding namedLoad
+load-fits k l is = ap (λ (x : NamedLoad). x .fits) is
+
+pub load-is : (k : ℕ) (l : Load) {x : NamedLoad} → x ≡ namedLoad k l → loadIn k l ≡ true → x .load ≡ l
+unfolding namedLoad
+load-is k l is e = ap (λ (x : NamedLoad). x .load) is ∙ rw e
+
+-- a rule of either sort, in a book with the rules rs of that sort
+module _ (s : StoredTables) (h : Holds s) (c : Command) (m : RuleRange) (r : Transition) (rs : List Transition)
+    (first : causes (tablesOf s) 0 c ≡ (5 if not (ruleIn m r)) ∷ (6 if leb maxRules (length rs)) ∷ (7 if some (sameRule r) rs) ∷ [])
+    {x : NamedRule} (is : x ≡ namedRule m r) {d : Changed} where
+  pub rule-refused : not (x .fits) ≡ true → d ≡ settled 5 s → d ≡ changedBy (tablesOf s) c
+  rule-refused e = out-of-range s h c (ruleIn m r) _ first (sym (named-fits m r is) ∙ not-true _ e)
+
+  pub rule-added : not (x .fits) ≡ false → (add : StoredTables → Transition → operation.Changed)
+      → add (stored (tablesOf s)) r ≡ record { number = ruleNumber rs r; tables = stored (accepted (ruleNumber rs r) (effect (tablesOf s) c) (tablesOf s)) }
+      → (o : operation.Changed) → o ≡ add s (x .rule) → d ≡ settled (o .number) (o .tables) → d ≡ changedBy (tablesOf s) c
+  rule-added e add law o given =
+      let fits = sym (named-fits m r is) ∙ not-false _ e in
+      operated s h c (ruleIn m r) _ first fits o
+      (given ∙ ap (add s) (named-is m r is fits) ∙ ap (λ (y : StoredTables). add y r) (is-stored s h) ∙ rw (rule-lowest rs r) law)

@@ -1,0 +1,94 @@
+-- `Planner::call` meets its contract: turned away with number 1, or decided and written. Assumes nothing.
+use mathlib.Core.Path.{refl, sym, ap, _∙_}
+use native.Mathlib.Omega.{arith}
+use borrow.Author.Needs.{needs}
+use borrow.Author.Tests.{not-true, not-false}
+use Rattle.lines.proofs.Wrote.{free-length}
+use Rattle.tables.specs.Stored.{Holds}
+use Rattle.calls.specs.Calls.{Call}
+use Rattle.planner.specs.declared.call.Called.{Called}
+use Rattle.planner.specs.Calls.{callOf, doneOf}
+use Rattle.planner.proofs.Commands.{few}
+use Rattle.planner.proofs.Calling.{broken, no-room, text-few, written}
+use Rattle.planner.proofs.Planner.call.Statement.{statement}
+use Rattle.planner.proofs.Planner.call.Tie as tie
+
+-- the call that is made
+made : tie.Start → Call
+made e = callOf (e .args .line .now) (e .args .out .now) (e .args .place) (e .args .work .now)
+
+-- past the test of limits
+held : (c : tie.Else1) → Holds (c .before .before .before .before .before .args .self .tables)
+held c = c .before .keeps-limits .ensures .1 .0 (not-false _ (c .if1 .left))
+
+returns : tie.Need-returns
+unfolding made
+returns c =
+    let k = c .before .before in
+    let e = k .before .before .before .before in
+    ap (λ (r : Called). doneOf r (e .args .out .now) (e .args .work .now)) (c .turned-away .ensures)
+    ∙ broken (e .args .self) (made e) (sym (k .keeps-limits .ensures .0) ∙ not-true _ (c .before .if1 .taken))
+
+returns-2 : tie.Need-returns-2
+unfolding made
+returns-2 c =
+    let k = c .before .before in
+    let e = k .before .before .before .before .before in
+    ap (λ (r : Called). doneOf r (e .args .out .now) (e .args .work .now)) (c .turned-away2 .ensures)
+    ∙ no-room (e .args .self .tables) (held k) (made e) (e .args .self) refl (omega (arith, c .before .if2 .taken))
+
+returns-3 : tie.Need-returns-3
+unfolding made
+returns-3 c =
+    let k = c .before .before .before in
+    let e = k .before .before .before .before .before in
+    ap (λ (r : Called). doneOf r (e .args .out .now) (e .args .work .now)) (c .turned-away3 .ensures)
+    ∙ no-room (e .args .self .tables) (held k) (made e) (e .args .self) refl (omega (arith, c .before .if3 .taken, c .before .before .if2 .left))
+
+decide-line-requires : tie.Need-decide-line-requires
+decide-line-requires c κs = held (c .before .before .before)
+
+write-answer-requires : tie.Need-write-answer-requires
+unfolding made
+write-answer-requires c κs =
+    let d = c .before .before .before .before .before in
+    let f = d .before .before in
+    let k = f .before .before in
+    let e = k .before .before .before .before .before in
+    let s = e .args .self .tables in (
+      few s (held k),
+      omega (arith, text-few s (held k) (made e) (d .decide-line .result) (d .decide-line .ensures .0), free-length (e .args .place) (e .args .out .now), f .if3 .left, f .before .if2 .left),
+    )
+
+returns-4 : tie.Need-returns-4
+unfolding made
+returns-4 c =
+    let w = c .before .before .before in
+    let d = w .before .before .before .before .before .before in
+    let f = d .before .before in
+    let k = f .before .before in
+    let e = k .before .before .before .before .before in
+    written (e .args .self .tables) (held k) (made e) (d .decide-line .result) (d .decide-line .ensures .0) (omega (arith, f .if3 .left, f .before .if2 .left))
+    _ _ _ _ (c .number .ensures) (w .write-answer .ensures) (d .decide-line .ensures .1)
+
+pub call-spec : {M : Type 1} → statement M
+call-spec =
+    tie.close
+    (tie.spec
+    (λ c κs. search needs)
+    (λ c κs. search needs)
+    returns
+    (λ c κs. search needs)
+    returns-2
+    (λ c. search needs)
+    (λ c κs. search needs)
+    returns-3
+    decide-line-requires
+    (λ c. search needs)
+    (λ c. search needs)
+    (λ c. search needs)
+    write-answer-requires
+    (λ c κs. search needs)
+    (λ c. search needs)
+    (λ c. search needs)
+    returns-4)

@@ -1,0 +1,99 @@
+-- `Planner::plan` meets its contract. Assumes nothing.
+use Prim.Native.Nat.{_≤_}
+use mathlib.Core.Path.{_≡_, refl, sym, ap, _∙_}
+use native.Mathlib.Omega.{arith}
+use borrow.Author.Needs.{needs}
+use borrow.Author.Tests.{not-true, not-false}
+use lib.ListN.{length}
+use Rattle.lines.specs.declared.Command.the-variants.{Plan}
+use Rattle.tables.specs.Stored.{tablesOf}
+use Rattle.meaning.specs.Best.{bestPlan}
+use Rattle.meaning.specs.Choice.{planEntries}
+use Rattle.meaning.specs.Cells.{cellsOf}
+use Rattle.calls.specs.Printing.{searched}
+use Rattle.calls.proofs.Answers.{positive}
+use Rattle.planner.specs.declared.search.Decided.{Decided}
+use Rattle.planner.specs.Answers.{numberOf}
+use Rattle.planner.proofs.Commands.{load-count, few}
+use Rattle.planner.proofs.Searching.{none-found, some-found, plan-four, plan-eight, plan-nine, plan-accepted, kept, refuses, plans}
+use Rattle.planner.proofs.Deciding.{unsearched, cleared}
+use Rattle.planner.proofs.Planner.plan.Statement.{statement}
+use Rattle.planner.proofs.Planner.plan.Tie as tie
+
+-- there are loads, and enough cells
+some-loads : (c : tie.Else1) → length (tablesOf (c .before .before .before .before .args .self .tables) .loads) ≡ 0 → ⊥
+some-loads c z = let e = c .before .before .before .before in c .if1 .left (load-count (e .args .self .tables) (e .pre) ∙ z)
+
+enough : (c : tie.Else2) → let a = c .before .before .before .before .before .before .args in cellsOf (tablesOf (a .self .tables)) ≤ length (a .work .now)
+enough c = omega (arith, c .if2 .left, c .before .cells-of .ensures)
+
+returns : tie.Need-returns
+returns c =
+    let e = c .before .before .before .before .before in
+    let s = e .args .self .tables in
+    let r = c .refused .ensures in
+    (refuses s (e .pre) Plan _ 3 r (plan-four (tablesOf s) (length (e .args .work .now)) (sym (load-count s (e .pre)) ∙ c .before .if1 .taken)), sym (unsearched (tablesOf s) _ Plan (e .args .work .now) (ap (λ (d : Decided). searched (numberOf (d .answer))) r)))
+
+returns-2 : tie.Need-returns-2
+returns-2 c =
+    let k = c .before .before .before in
+    let e = k .before .before .before .before in
+    let s = e .args .self .tables in
+    let r = c .refused2 .ensures in
+    (refuses s (e .pre) Plan _ 7 r (plan-eight (tablesOf s) (length (e .args .work .now)) (some-loads k) (omega (arith, c .before .if2 .taken, c .before .before .cells-of .ensures))), sym (unsearched (tablesOf s) _ Plan (e .args .work .now) (ap (λ (d : Decided). searched (numberOf (d .answer))) r)))
+
+plan-requires : tie.Need-plan-requires
+plan-requires c κs =
+    let k = c .before .before .before in
+    let e = k .before .before .before .before in
+    let s = e .args .self .tables in
+    (kept s (e .pre), (positive (k .if1 .left), enough (c .before)))
+
+returns-3 : tie.Need-returns-3
+returns-3 c =
+    let o = c .before .before .before .before .before in
+    let f = o .before .before in
+    let k = f .before .before in
+    let e = k .before .before .before .before in
+    let s = e .args .self .tables in
+    let r = c .refused3 .ensures in
+    let none = none-found (bestPlan (tablesOf s)) (planEntries (tablesOf s)) (o .plan .ensures .0) (not-true _ (c .before .if3 .taken)) in
+    (refuses s (e .pre) Plan _ 8 r (plan-nine (tablesOf s) (length (e .args .work .now)) (some-loads k) (enough f) none), cleared (tablesOf s) _ (e .args .work .now) _ (ap (λ (d : Decided). searched (numberOf (d .answer))) r) (o .plan .ensures .1))
+
+worth-of-requires : tie.Need-worth-of-requires
+worth-of-requires c κs =
+    let e = c .before .before .before .before .before .before .before .before .before .before .before .before .before .before in few (e .args .self .tables) (e .pre)
+
+power-of-requires : tie.Need-power-of-requires
+power-of-requires c κs =
+    let e = c .before .before .before .before .before .before .before .before .before .before .before .before .before .before .before in few (e .args .self .tables) (e .pre)
+
+returns-4 : tie.Need-returns-4
+returns-4 c =
+    let w = c .before .before in
+    let o = w .before .before .before .before .before .before .before in
+    let f = o .before .before in
+    let k = f .before .before in
+    let e = k .before .before .before .before in
+    let s = e .args .self .tables in
+    let found = some-found (bestPlan (tablesOf s)) (planEntries (tablesOf s)) (o .plan .ensures .0) (not-false _ (w .before .before .before .if3 .left)) in
+    (plans s (e .pre) _ (plan-accepted (tablesOf s) (length (e .args .work .now)) (some-loads k) (enough f) (found .0)) _ (found .1) _ _ _ (w .worth-of .ensures) (c .before .power-of .ensures) (c .count .ensures), cleared (tablesOf s) 0 (e .args .work .now) _ refl (o .plan .ensures .1))
+
+pub plan-spec : {M : Type 1} → statement M
+plan-spec =
+    tie.close
+    (tie.spec
+    (λ c κs. search needs)
+    returns
+    (λ c κs. search needs)
+    (λ c κs. search needs)
+    returns-2
+    plan-requires
+    (λ c κs. search needs)
+    (λ c. search needs)
+    returns-3
+    worth-of-requires
+    power-of-requires
+    (λ c κs. search needs)
+    (λ c. search needs)
+    returns-4)

@@ -1,0 +1,122 @@
+-- The lines of a run: how a loop writes them, and that they are those of the entries that the run shows. Assumes nothing.
+use Prim.Native.Nat.{ℕ, zero, suc, _+_, _-_, _≤_, _<_}
+use mathlib.Core.Path.{_≡_, refl, sym, ap, subst, _∙_}
+use mathlib.Core.Bool.{Bool}
+use mathlib.Core.List.{List, [], _∷_, _++_, map}
+use native.Mathlib.Nat.{le-refl}
+use native.Mathlib.Numerals.{add-one}
+use native.Mathlib.Omega.{arith}
+use lib.Dec.{eqb}
+use lib.ListN.{length, getD, take, length-append, length-map, List·getD-map}
+use lib.Seq.{take-suc, take-all}
+use Rattle.lists.specs.Argmax.{guard}
+use Rattle.lines.specs.Answers.{LoadLine, loadLine, loadLines, AllRanged, Wrote}
+use Rattle.lines.proofs.Answers.{loads-more}
+use Rattle.lines.proofs.Wrote.{wrote-none, wrote-then}
+use Rattle.tables.specs.Tables.{Tables}
+use Rattle.tables.specs.Limits.{maxLoads, Limits}
+use Rattle.tables.proofs.Parts.{limits-parts}
+use Rattle.meaning.specs.Choice.{Entry, noEntry, plan, check, planEntries, checkEntries}
+use Rattle.meaning.specs.Claims.{Numbered}
+use Rattle.meaning.proofs.Entries.{plan-listed, check-listed}
+use Rattle.meaning.proofs.InOrder.{listed-length}
+use Rattle.meaning.proofs.Limits.{lawful}
+use Rattle.calls.specs.Printing.{lineOf}
+use Rattle.calls.proofs.Fits.{plan-ranged, check-ranged}
+use Rattle.engine.specs.declared.run.Run.{Run}
+use Rattle.engine.specs.Shown.{runOf}
+use Rattle.engine.proofs.Answers.{shown-at, plan-numbered, check-numbered}
+use Rattle.planner.specs.Answers.{lineAt, linesTo}
+
+-- ---- the lines of more loads take more room
+pub lines-more : (r : Run) (n : ℕ) → loadLines (linesTo r (suc n)) ≡ loadLines (linesTo r n) ++ loadLine (lineAt r n)
+unfolding linesTo
+lines-more r n = loads-more (linesTo r n) (lineAt r n)
+
+grow : (r : Run) (n d : ℕ) → length (loadLines (linesTo r n)) ≤ length (loadLines (linesTo r (n + d)))
+grow r n zero = let e : n + 0 ≡ n = omega arith in omega (arith, ap (λ (i : ℕ). length (loadLines (linesTo r i))) e)
+grow r n (suc d) =
+    let e : n + suc d ≡ suc (n + d) = omega arith in
+    omega (
+      arith,
+      grow r n d,
+      ap (λ (i : ℕ). length (loadLines (linesTo r i))) e,
+      ap length (lines-more r (n + d)),
+      length-append (loadLines (linesTo r (n + d))) (loadLine (lineAt r (n + d))),
+    )
+
+pub lines-room : (r : Run) (n i : ℕ) → i < n → length (loadLines (linesTo r i)) + length (loadLine (lineAt r i)) ≤ length (loadLines (linesTo r n))
+lines-room r n i h =
+    let e : suc i + (n - suc i) ≡ n = omega arith in
+    omega (
+      arith,
+      grow r (suc i) (n - suc i),
+      ap (λ (k : ℕ). length (loadLines (linesTo r k))) e,
+      ap length (lines-more r i),
+      length-append (loadLines (linesTo r i)) (loadLine (lineAt r i)),
+    )
+
+-- ---- a loop that writes the lines, a load a turn
+pub lines-none : (l : List ℕ) (at : ℕ) (r : Run) → Wrote l l at at (loadLines (linesTo r 0))
+unfolding linesTo loadLines
+lines-none l at r = wrote-none l at
+
+pub lines-next : (l m k : List ℕ) (at i j : ℕ) (r : Run) (n : ℕ) → Wrote l m at i (loadLines (linesTo r n)) → Wrote m k i j (loadLine (lineAt r n))
+    → Wrote l k at j (loadLines (linesTo r (n + 1)))
+lines-next l m k at i j r n p q = rw (add-one, lines-more) (wrote-then p q)
+
+pub lines-all : (l m : List ℕ) (at j : ℕ) (r : Run) (n i : ℕ) → i ≤ n → n ≤ i → Wrote l m at j (loadLines (linesTo r i)) → Wrote l m at j (loadLines (linesTo r n))
+lines-all l m at j r n i a b w = let e : i ≡ n = omega arith in subst (λ (k : ℕ). Wrote l m at j (loadLines (linesTo r k))) e w
+
+-- ---- entries in load order
+number-at : (es : List Entry) (k i : ℕ) → Numbered k es → i < length es → getD es i noEntry .number ≡ k + i
+number-at [] k i o h = absurd (omega arith)
+number-at (e ∷ es) k zero o h = omega (arith, o .0)
+number-at (e ∷ es) k (suc i) o h = let j : k + suc i ≡ suc k + i = omega arith in number-at es (suc k) i (o .1) (omega arith) ∙ sym j
+
+marked-at : (es : List Entry) → AllRanged (map lineOf es) → (i : ℕ) → i < length es → getD es i noEntry .mark ≤ 1
+marked-at [] r i h = absurd (omega arith)
+marked-at (e ∷ es) r zero h = r .0 .marked
+marked-at (e ∷ es) r (suc i) h = marked-at es (r .1) i (omega arith)
+
+one-or-none : (x : ℕ) → x ≤ 1 → guard (eqb x 1) 1 ≡ x
+one-or-none zero l = refl
+one-or-none (suc zero) l = refl
+one-or-none (suc (suc x)) l = absurd (omega arith)
+
+module _ (es : List Entry) (o : Numbered 1 es) (few : length es ≤ maxLoads) (r : AllRanged (map lineOf es)) where
+  line-at : (i : ℕ) → i < length es → lineAt (runOf es) i ≡ lineOf (getD es i noEntry)
+  line-at i h =
+      let s = shown-at es o few i h in
+      let number : suc i ≡ getD es i noEntry .number = omega (arith, number-at es 1 i o h) in
+      let mark = ap (λ (b : Bool). guard b 1) (s .mark) ∙ one-or-none (getD es i noEntry .mark) (marked-at es r i h) in
+      λ j. record { number = number j; mark = mark j; state = s .state j; loadRule = s .loadRule j; rowRule = s .rowRule j }
+
+  lines-to : (n : ℕ) → n ≤ length es → linesTo (runOf es) n ≡ take n (map lineOf es)
+  unfolding linesTo
+  lines-to zero h = refl
+  lines-to (suc n) h =
+      ap (λ (ls : List LoadLine). ls ++ (lineAt (runOf es) n ∷ [])) (lines-to n (omega arith))
+      ∙ ap (λ (l : LoadLine). take n (map lineOf es) ++ (l ∷ [])) (line-at n (omega arith) ∙ sym (List·getD-map lineOf es n noEntry))
+      ∙ sym (take-suc (map lineOf es) n (lineOf noEntry) (omega (arith, length-map es lineOf)))
+
+  lines-shown : linesTo (runOf es) (length es) ≡ map lineOf es
+  lines-shown = lines-to (length es) (le-refl (length es)) ∙ take-all (length es) (map lineOf es) (omega (arith, length-map es lineOf))
+
+-- ---- the runs of a plan and of a check
+module _ (t : Tables) (h : Limits t) where
+  pub plan-lines : linesTo (runOf (planEntries t)) (length (t .loads)) ≡ map lineOf (planEntries t)
+  unfolding planEntries
+  plan-lines =
+      let tree = lawful t h .ordered in
+      let n = listed-length (plan t) (length (t .loads)) (plan-listed t tree) in
+      ap (linesTo (runOf (planEntries t))) (sym n)
+      ∙ lines-shown (planEntries t) (plan-numbered t tree) (omega (arith, n, limits-parts t h .few)) (plan-ranged t h)
+
+  pub check-lines : (σ : ℕ → ℕ) → linesTo (runOf (checkEntries t σ)) (length (t .loads)) ≡ map lineOf (checkEntries t σ)
+  unfolding checkEntries
+  check-lines σ =
+      let tree = lawful t h .ordered in
+      let n = listed-length (check t σ) (length (t .loads)) (check-listed t tree σ) in
+      ap (linesTo (runOf (checkEntries t σ))) (sym n)
+      ∙ lines-shown (checkEntries t σ) (check-numbered t tree σ) (omega (arith, n, limits-parts t h .few)) (check-ranged t h σ)

@@ -1,0 +1,7 @@
+-- The planner: a fresh one, the answers to lines, and what its commands and its calls give.
+pub mod Planner
+pub mod Answers
+pub mod Changes
+pub mod Decided
+pub mod Calls
+pub mod History

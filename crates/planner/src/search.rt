@@ -1,0 +1,117 @@
+// The commands that search: `plan` and `check`.
+use crate::Planner;
+use crate::answers::Answer;
+use cells::problem::plan_problem;
+use cells::problem::shape_of;
+use cells::work::cells_needed;
+use engine::figures::power_of;
+use engine::figures::worth_of;
+use engine::run::Run;
+use marks::LoadSet;
+use tables::tables::StoredTables;
+ghost use mathlib.Core.Path.{_≡_};
+ghost use lib.ListN.{length};
+ghost use Rattle.lines.specs.declared.Command.the-variants as line;
+ghost use Rattle.tables.specs.Stored.{tablesOf, Holds};
+ghost use Rattle.meaning.specs.Cells.{cellsOf};
+ghost use Rattle.calls.specs.Printing.{workAfter};
+ghost use Rattle.planner.specs.Answers.{numberOf};
+ghost use Rattle.planner.specs.Decided.{unshown, decided};
+
+// The numbers of "no loads", "bits not one for each load", "too few cells", "no allowed set fits" and "checked set not allowed".
+const NO_LOADS: u8 = 4;
+
+const NOT_ONE_EACH: u8 = 5;
+
+const TOO_FEW_CELLS: u8 = 8;
+
+const NONE_FITS: u8 = 9;
+
+const NOT_ALLOWED: u8 = 10;
+
+// The answer to a line, the run that it shows, and the next planner. Where no run is shown, it is empty.
+pub struct Decided {
+    pub answer: Answer,
+    pub run: Run,
+    pub planner: Planner,
+}
+
+// An answer that shows no run.
+pub(crate) fn unshown(answer: Answer, planner: Planner) -> Decided
+    ensures { λ r. ⌜ r ≡ unshown answer planner ⌝ }
+{
+    Decided {
+        answer,
+        run: Run::EMPTY,
+        planner,
+    }
+}
+
+// How many cells a plan needs.
+fn cells_of(tables: StoredTables) -> usize
+    requires { ⌜ Holds tables ⌝ }
+    ensures { λ r. ⌜ r ≡ cellsOf (tablesOf tables) ⌝ }
+{
+    cells_needed(shape_of(plan_problem(tables)))
+}
+
+impl Planner {
+    pub(crate) fn refused(self, number: u8) -> Decided
+        ensures { λ r. ⌜ r ≡ unshown (Answer.Refused number) self ⌝ }
+    {
+        unshown(Answer::Refused { number }, self)
+    }
+
+    pub(crate) fn plan(self, work: &mut [u32]) -> Decided
+        requires { ⌜ Holds (self .tables) ⌝ }
+        ensures answer { λ r. ⌜ r ≡ decided (tablesOf (self .tables)) (length (now (work .entry))) line.Plan ⌝ }
+        ensures cells { λ r. ⌜ now (work .exit) ≡ workAfter (tablesOf (self .tables)) (numberOf (r .answer)) line.Plan (now (work .entry)) ⌝ }
+    {
+        let tables = self.tables;
+        if tables.loads.count == 0 {
+            return self.refused(NO_LOADS);
+        }
+        if work.len() < cells_of(tables) {
+            return self.refused(TOO_FEW_CELLS);
+        }
+        let outcome = engine::plan::plan(tables, work);
+        if !outcome.found {
+            return self.refused(NONE_FITS);
+        }
+        let run = outcome.run;
+        let set = run.set;
+        let answer = Answer::Planned {
+            worth: worth_of(tables, set),
+            power: power_of(tables, set),
+            on: set.count(),
+        };
+        Decided {
+            answer,
+            run,
+            planner: self,
+        }
+    }
+
+    pub(crate) fn check(self, set: LoadSet, count: usize) -> Decided
+        requires { ⌜ Holds (self .tables) ⌝ }
+        ensures { λ r. ⌜ r ≡ decided (tablesOf (self .tables)) 0 (line.Check set count) ⌝ }
+    {
+        let tables = self.tables;
+        if tables.loads.count == 0 {
+            return self.refused(NO_LOADS);
+        }
+        if count != tables.loads.count {
+            return self.refused(NOT_ONE_EACH);
+        }
+        let outcome = engine::plan::check(tables, set);
+        if !outcome.found {
+            return self.refused(NOT_ALLOWED);
+        }
+        let shown = outcome.run;
+        Decided {
+            answer: Answer::Allowed,
+            run: shown,
+            planner: self,
+        }
+    }
+}
