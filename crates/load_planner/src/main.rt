@@ -1,0 +1,123 @@
+// The line program: reads lines from standard input, and prints each answer as soon as its line is complete.
+use libc::STDIN_FILENO;
+use libc::STDOUT_FILENO;
+use lines::splitting::MOST_KEPT;
+use lines::splitting::take_line;
+use planner::Planner;
+use planner::call::Called;
+
+// "The line program lends 1,024 bytes and 16,384 cells."
+const LENT_BYTES: usize = 1024;
+
+const LENT_CELLS: usize = 16384;
+
+// What is kept from chunk to chunk: the planner, how many bytes of a line are held, and whether output can still be written.
+struct Session {
+    planner: Planner,
+    held: usize,
+    open: bool,
+}
+
+// Prints the first bytes of the output.
+fn show(out: &[u8], count: usize) -> bool {
+    if out.len() < count {
+        return false;
+    }
+    io::write_all(STDOUT_FILENO, &out[..count])
+}
+
+// The call on the line whose bytes are held.
+fn call(planner: Planner, line: &[u8], held: usize, out: &mut [u8], work: &mut [u32]) -> Called {
+    if line.len() < held {
+        return planner.call(line, out, 0, work);
+    }
+    planner.call(&line[..held], out, 0, work)
+}
+
+// Answers the line whose bytes are held.
+fn answer(
+    s: Session,
+    line: &[u8; MOST_KEPT],
+    out: &mut [u8; LENT_BYTES],
+    work: &mut [u32; LENT_CELLS],
+) -> Session {
+    let called = call(s.planner, &*line, s.held, &mut *out, &mut *work);
+    let planner = called.planner;
+    let open = show(&*out, called.count);
+    if !open {
+        os::fail(b"standard output");
+    }
+    Session {
+        planner,
+        held: 0,
+        open,
+    }
+}
+
+// Answers each line that ends in the chunk, and holds what is left of it.
+fn take_chunk(
+    s: Session,
+    chunk: &[u8],
+    line: &mut [u8; MOST_KEPT],
+    out: &mut [u8; LENT_BYTES],
+    work: &mut [u32; LENT_CELLS],
+) -> Session {
+    let mut session = s;
+    let mut at: usize = 0;
+    while at < chunk.len() {
+        let taken = take_line(&chunk[at..], &mut *line, session.held);
+        at = at + taken.count;
+        session.held = taken.held;
+        if taken.ended {
+            session = answer(session, &*line, &mut *out, &mut *work);
+        }
+        if !session.open {
+            return session;
+        }
+    }
+    session
+}
+
+// One read and its answers. At the end of the input a line without line feed counts.
+fn step(
+    s: Session,
+    chunk: &mut [u8],
+    line: &mut [u8; MOST_KEPT],
+    out: &mut [u8; LENT_BYTES],
+    work: &mut [u32; LENT_CELLS],
+) -> Session {
+    let mut session = s;
+    let got = libc::read(STDIN_FILENO, &mut *chunk);
+    if got < 0 {
+        os::fail(b"standard input");
+        session.open = false;
+        return session;
+    }
+    if got == 0 {
+        if 0 < session.held {
+            session = answer(session, &*line, &mut *out, &mut *work);
+        }
+        session.open = false;
+        return session;
+    }
+    let n = io::count(got, &*chunk);
+    take_chunk(session, &chunk[..n], line, out, work)
+}
+
+fn main() {
+    let mut chunk = [0u8; 4096];
+    let mut line = [0u8; MOST_KEPT];
+    let mut out = [0u8; LENT_BYTES];
+    let mut work = [0u32; LENT_CELLS];
+    let mut session = Session {
+        planner: Planner::fresh(),
+        held: 0,
+        open: true,
+    };
+    // A proved loop has to end, and nothing says that the input does: the turns are more than any run uses up.
+    let mut turns = u64::MAX;
+    while turns > 0 && session.open {
+        session = step(session, &mut chunk, &mut line, &mut out, &mut work);
+        turns -= 1;
+    }
+}
