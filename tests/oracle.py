@@ -1,0 +1,266 @@
+"""Paper 01 by plain enumeration: every run of every set, straight from the text. It shares no code with the product.
+
+It is slow on purpose. Trees of up to five or six loads and small books are what it is for.
+"""
+import re
+
+WORDS = {'clear': 0, 'book': 2, 'start': 1, 'end': 1, 'rule': 3, 'row': 3, 'load': 3, 'power': 2, 'worth': 2, 'budget': 1, 'plan': 0}
+NUMBER = re.compile(rb'(0|[1-9][0-9]{0,4})\Z')
+BITS = re.compile(rb'[01]+\Z')
+
+
+def parse(line):
+    """The word and its fields, or None for a line that is no command of the table or breaks its form."""
+    parts = line.split(b',')
+    word, fields = parts[0], parts[1:]
+    if word == b'check':
+        if len(fields) == 1 and BITS.match(fields[0]):
+            return 'check', [b - 48 for b in fields[0]]
+        return None
+    try:
+        name = word.decode('ascii')
+    except UnicodeDecodeError:
+        return None
+    if name not in WORDS or len(fields) != WORDS[name]:
+        return None
+    if not all(NUMBER.match(f) for f in fields):
+        return None
+    return name, [int(f) for f in fields]
+
+
+class Oracle:
+    """The tables of a planner, and what each line answers."""
+
+    def __init__(self):
+        self.clear()
+
+    def clear(self):
+        self.loads = []  # (parent, power, worth), load k at place k - 1
+        self.budget = 0
+        self.new_book(0, 0)
+
+    def new_book(self, states, stages):
+        self.states, self.stages = states, stages
+        self.starts, self.ends = set(), set()
+        self.rules, self.rows = [], []
+
+    # ---- the cases that a deliberately wrong oracle changes
+
+    def ends_here(self, stage):
+        return stage in self.ends
+
+    def next_stage(self, row):
+        return row[2]
+
+    def left_for_row(self, allowance, power):
+        return allowance - power
+
+    def order(self, numbers):
+        return numbers
+
+    # ---- runs, by enumeration
+
+    def children(self, k):
+        return [j for j in range(k + 1, len(self.loads) + 1) if self.loads[j - 1][0] == k]
+
+    def figures(self, k, mark):
+        return (self.loads[k - 1][1], self.loads[k - 1][2]) if mark else (0, 0)
+
+    def branch_runs(self, k, state):
+        """Every run of load k's branch from a state: (worth, power, {load: (mark, state, load rule, row rule)})."""
+        for n in range(1, len(self.rules) + 1):
+            yield from self.rule_runs(k, state, n)
+
+    def rule_runs(self, k, state, n):
+        """Those with load rule n."""
+        q, mark, stage = self.rules[n - 1]
+        if q != state:
+            return
+        power, worth = self.figures(k, mark)
+        for v, w, below in self.row_runs(self.children(k), stage):
+            yield v + worth, w + power, {k: (mark, state, n, 0), **below}
+
+    def row_runs(self, row, stage):
+        """Every run of a row of children from a stage."""
+        if not row:
+            if self.ends_here(stage):
+                yield 0, 0, {}
+            return
+        for n in range(1, len(self.rows) + 1):
+            yield from self.step_runs(row, stage, n)
+
+    def step_runs(self, row, stage, n):
+        """Those whose first child takes row rule n."""
+        g, state, _ = self.rows[n - 1]
+        if g != stage:
+            return
+        later = list(self.row_runs(row[1:], self.next_stage(self.rows[n - 1])))
+        for v, w, branch in self.branch_runs(row[0], state):
+            mark, q, rule, _ = branch[row[0]]
+            for v2, w2, rest in later:
+                yield v + v2, w + w2, {**branch, row[0]: (mark, q, rule, n), **rest}
+
+    def tree_runs(self):
+        for q in range(1, self.states + 1):
+            if q in self.starts:
+                yield from self.branch_runs(1, q)
+
+    # ---- "Which plan among equals"
+
+    @staticmethod
+    def best(runs, allowance):
+        """The greatest worth within an allowance, or None."""
+        return max((v for v, w, _ in runs if w <= allowance), default=None)
+
+    def choose_branch(self, k, state, row_rule, allowance, out):
+        goal = self.best(self.branch_runs(k, state), allowance)
+        for n in self.order(range(1, len(self.rules) + 1)):
+            if self.best(self.rule_runs(k, state, n), allowance) == goal:
+                break
+        mark, stage = self.rules[n - 1][1], self.rules[n - 1][2]
+        out[k] = (mark, state, n, row_rule)
+        self.choose_row(self.children(k), stage, self.left_for_row(allowance, self.figures(k, mark)[0]), out)
+
+    def choose_row(self, row, stage, allowance, out):
+        if not row:
+            return
+        goal = self.best(self.row_runs(row, stage), allowance)
+        for n in self.order(range(1, len(self.rows) + 1)):
+            if self.best(self.step_runs(row, stage, n), allowance) == goal:
+                break
+        state = self.rows[n - 1][1]
+        branch = list(self.branch_runs(row[0], state))
+        rest = list(self.row_runs(row[1:], self.next_stage(self.rows[n - 1])))
+        for share in self.order(range(allowance + 1)):
+            mine, others = self.best(branch, share), self.best(rest, allowance - share)
+            if mine is not None and others is not None and mine + others == goal:
+                break
+        self.choose_branch(row[0], state, n, share, out)
+        self.choose_row(row[1:], self.next_stage(self.rows[n - 1]), allowance - share, out)
+
+    def plan(self):
+        """The chosen run, or None where no allowed set fits."""
+        goal = self.best(self.tree_runs(), self.budget)
+        if goal is None:
+            return None
+        for q in self.order(range(1, self.states + 1)):
+            if q in self.starts and self.best(self.branch_runs(1, q), self.budget) == goal:
+                break
+        out = {}
+        self.choose_branch(1, q, 0, self.budget, out)
+        return out
+
+    # ---- the run of a checked set: the lowest from the top down that can be completed
+
+    def check(self, bits):
+        want = {k + 1: b for k, b in enumerate(bits)}
+        runs = [r for _, _, r in self.tree_runs() if all(r[k][0] == want[k] for k in r)]
+        if not runs:
+            return None
+        return min(runs, key=self.sequence)
+
+    def sequence(self, run):
+        """Start state, load rule, then for each child row rule, load rule, the loads below and the later children."""
+        def row(loads):
+            out = []
+            for j in loads:
+                out += [run[j][3], run[j][2]] + row(self.children(j))
+            return out
+        return [run[1][1], run[1][2]] + row(self.children(1))
+
+    # ---- lines
+
+    def refusal(self, command, cells):
+        """The lowest number that applies, 0 for none, but for 9 and 10."""
+        if command is None:
+            return 3
+        word, f = command
+        n = len(self.loads)
+        if word in ('plan', 'check') and n == 0:
+            return 4
+        if word == 'book' and not (1 <= f[0] <= 8 and 1 <= f[1] <= 8):
+            return 5
+        if word == 'start' and not 1 <= f[0] <= self.states:
+            return 5
+        if word == 'end' and not 1 <= f[0] <= self.stages:
+            return 5
+        if word == 'rule' and not (1 <= f[0] <= self.states and f[1] <= 1 and 1 <= f[2] <= self.stages):
+            return 5
+        if word == 'row' and not (1 <= f[0] <= self.stages and 1 <= f[1] <= self.states and 1 <= f[2] <= self.stages):
+            return 5
+        if word == 'load' and not ((f[0] == 0 if n == 0 else 1 <= f[0] <= n) and f[1] <= 500 and f[2] <= 1000):
+            return 5
+        if word == 'power' and not (1 <= f[0] <= n and f[1] <= 500):
+            return 5
+        if word == 'worth' and not (1 <= f[0] <= n and f[1] <= 1000):
+            return 5
+        if word == 'budget' and not f[0] <= 500:
+            return 5
+        if word == 'check' and len(f) != n:
+            return 5
+        if word == 'load' and n >= 64:
+            return 6
+        if word == 'rule' and len(self.rules) >= 32:
+            return 6
+        if word == 'row' and len(self.rows) >= 32:
+            return 6
+        if word == 'rule' and tuple(f) in self.rules:
+            return 7
+        if word == 'row' and tuple(f) in self.rows:
+            return 7
+        if word == 'plan' and cells < self.cells():
+            return 8
+        return 0
+
+    def cells(self):
+        return len(self.loads) * (self.states + self.stages) * (self.budget + 1)
+
+    def act(self, word, f):
+        if word == 'clear':
+            self.clear()
+        elif word == 'book':
+            self.new_book(*f)
+        elif word == 'start':
+            self.starts.add(f[0])
+        elif word == 'end':
+            self.ends.add(f[0])
+        elif word == 'rule':
+            self.rules.append(tuple(f))
+        elif word == 'row':
+            self.rows.append(tuple(f))
+        elif word == 'load':
+            self.loads.append(tuple(f))
+        elif word == 'power':
+            p, _, v = self.loads[f[0] - 1]
+            self.loads[f[0] - 1] = (p, f[1], v)
+        elif word == 'worth':
+            p, w, _ = self.loads[f[0] - 1]
+            self.loads[f[0] - 1] = (p, w, f[1])
+        elif word == 'budget':
+            self.budget = f[0]
+
+    def lines_of(self, run):
+        return ['%d,%d,%d,%d,%d' % (k, *run[k]) for k in sorted(run)]
+
+    def answer(self, line, cells=16384):
+        """The lines printed for a line."""
+        if len(line) > 80:
+            return ['no,2']
+        command = parse(line)
+        number = self.refusal(command, cells)
+        if number:
+            return ['no,%d' % number]
+        word, f = command
+        if word == 'plan':
+            run = self.plan()
+            if run is None:
+                return ['no,9']
+            on = [k for k in run if run[k][0] == 1]
+            worth = sum(self.loads[k - 1][2] for k in on)
+            power = sum(self.loads[k - 1][1] for k in on)
+            return ['plan,%d,%d,%d' % (worth, power, len(on))] + self.lines_of(run)
+        if word == 'check':
+            run = self.check(f)
+            return ['no,10'] if run is None else ['yes'] + self.lines_of(run)
+        self.act(word, f)
+        return ['ok']
