@@ -15,7 +15,7 @@ pub fn held(x: u32) -> u32
     x % 1073741824
 }
 
-pub fn greater(x: u32, y: u32) -> u32
+pub(crate) fn greater(x: u32, y: u32) -> u32
     ensures { λ r. ⌜ r ≡ max x y ⌝ }
 {
     if x < y { y } else { x }
@@ -37,7 +37,7 @@ pub fn join(x: u32, y: u32) -> u32
 }
 
 // The cell of one load that is on.
-pub fn cell_of(power: usize, worth: u32) -> u32
+pub(crate) fn cell_of(power: usize, worth: u32) -> u32
     requires { ⌜ (power < powerLimit) × (worth ≤ maxWorth) ⌝ }
     ensures { λ r. ⌜ (r ≡ cell power worth) × (r ≤ cellLimit) ⌝ }
 {

@@ -2,6 +2,6 @@
 pub mod cell;
 pub mod fill;
 pub mod problem;
-pub mod stretch;
-pub mod strip;
+mod stretch;
+mod strip;
 pub mod work;

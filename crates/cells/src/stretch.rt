@@ -228,7 +228,7 @@ fn raise(p: Problem, work: &[u32], strip: &mut [u32], k: usize, x: usize, from: 
 }
 
 // Fills the allowances from .. to of load k and state or stage x.
-pub fn stretch(p: Problem, work: &mut [u32], k: usize, x: usize, from: usize, to: usize)
+pub(crate) fn stretch(p: Problem, work: &mut [u32], k: usize, x: usize, from: usize, to: usize)
     requires { ⌜ Lawful p ⌝ }
     requires { ⌜ Ready (shapeOf p) (now work) ⌝ }
     requires { ⌜ (0 < k) × (k ≤ shapeOf p .loads) × (x < shapeOf p .states + shapeOf p .stages) × (from ≤ to) × (to ≤ shapeOf p .budget + 1) ⌝ }

@@ -17,7 +17,7 @@ fn later(x: usize, y: usize) -> usize
 }
 
 // The strip raised to v from the allowance `shift` on.
-pub fn flat(strip: &mut [u32], shift: usize, v: u32, from: usize, to: usize)
+pub(crate) fn flat(strip: &mut [u32], shift: usize, v: u32, from: usize, to: usize)
     requires { ⌜ to ≤ length (now strip) ⌝ }
     ensures { λ _. ⌜ Raised (now (strip .entry)) (now (strip .exit)) from to (moved shift v (λ _. empty)) ⌝ }
 {
@@ -29,7 +29,7 @@ pub fn flat(strip: &mut [u32], shift: usize, v: u32, from: usize, to: usize)
 }
 
 // The strip raised to the cells from `at` on, each joined with `own` and moved up by `shift`.
-pub fn lift(
+pub(crate) fn lift(
     strip: &mut [u32],
     cells: &[u32],
     at: usize,
@@ -50,7 +50,7 @@ pub fn lift(
 
 // The strip raised to the best splits between the cells from x on and those from y on.
 // An allowance that gives the first no more than one unit less did is passed over: what is left for the second does not grow.
-pub fn share(strip: &mut [u32], cells: &[u32], x: usize, y: usize, from: usize, to: usize)
+pub(crate) fn share(strip: &mut [u32], cells: &[u32], x: usize, y: usize, from: usize, to: usize)
     requires { ⌜ (to ≤ length (now strip)) × (x + to ≤ length (now cells)) × (y + to ≤ length (now cells)) ⌝ }
     ensures { λ _. ⌜ (Rising (cellsFrom (now (cells .entry)) y) to → Raised (now (strip .entry)) (now (strip .exit)) from to (λ a. shares (cellsFrom (now (cells .entry)) x) (cellsFrom (now (cells .entry)) y) a .value)) ⌝ }
 {
@@ -67,7 +67,7 @@ pub fn share(strip: &mut [u32], cells: &[u32], x: usize, y: usize, from: usize, 
 }
 
 // The strip's allowances from .. to stored at their places.
-pub fn store(work: &mut [u32], strip: &[u32], at: usize, from: usize, to: usize)
+pub(crate) fn store(work: &mut [u32], strip: &[u32], at: usize, from: usize, to: usize)
     requires { ⌜ (from ≤ to) × (to ≤ length (now strip)) × (at + to ≤ length (now work)) ⌝ }
     ensures { λ _. ⌜ Stored (now (work .entry)) (now (strip .entry)) (now (work .exit)) at from to ⌝ }
 {

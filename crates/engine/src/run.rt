@@ -38,7 +38,7 @@ impl Run {
     };
 
     // The run with the line of a load.
-    pub fn with(self, e: Shown) -> Run
+    pub(crate) fn with(self, e: Shown) -> Run
         requires { ⌜ (0 < e .number) × (e .number ≤ maxLoads) ⌝ }
         ensures { λ r. ⌜ r ≡ withEntry self (entryOf e) ⌝ }
     {

@@ -20,7 +20,7 @@ pub const MAX_STATES: u8 = 8;
 pub const MAX_BUDGET: u16 = 500;
 
 // Do marks stand only on the numbers up to n?
-pub fn marks_in(n: u8, m: Marks) -> bool
+pub(crate) fn marks_in(n: u8, m: Marks) -> bool
     ensures { λ r. ⌜ r ≡ marksIn n m ⌝ }
 {
     if MAX_STATES <= n {
@@ -30,7 +30,7 @@ pub fn marks_in(n: u8, m: Marks) -> bool
 }
 
 // Are there 1 to 8 states and stages, or none of either?
-pub fn size_in(states: u8, stages: u8) -> bool
+pub(crate) fn size_in(states: u8, stages: u8) -> bool
     ensures { λ r. ⌜ r ≡ sizeIn states stages ⌝ }
 {
     let none = (states == 0) & (stages == 0);
@@ -50,7 +50,7 @@ impl TransitionList {
         (used & (range.holds(t) & !self.found_from(t, i + 1))) | (!used & t.is_zero())
     }
 
-    pub fn keeps_limits(self, range: RuleRange) -> bool
+    pub(crate) fn keeps_limits(self, range: RuleRange) -> bool
         ensures { λ r. ⌜ r ≡ rulesHeld range self ⌝ }
     {
         let mut kept = true;
@@ -72,7 +72,7 @@ impl LoadList {
         (used & l.in_range(i + 1)) | (!used & l.is_zero())
     }
 
-    pub fn keeps_limits(self) -> bool
+    pub(crate) fn keeps_limits(self) -> bool
         ensures { λ r. ⌜ r ≡ loadsHeld self ⌝ }
     {
         let mut kept = true;
@@ -84,7 +84,7 @@ impl LoadList {
 }
 
 impl StoredBook {
-    pub fn keeps_limits(self) -> bool
+    pub(crate) fn keeps_limits(self) -> bool
         ensures { λ r. ⌜ r ≡ bookHeld self ⌝ }
     {
         let states = self.states;

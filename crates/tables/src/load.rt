@@ -38,14 +38,14 @@ impl Load {
         worth: 0,
     };
 
-    pub fn is_zero(self) -> bool
+    pub(crate) fn is_zero(self) -> bool
         ensures { λ r. ⌜ r ≡ zeroLoad self ⌝ }
     {
         (self.parent == 0) & (self.power == 0) & (self.worth == 0)
     }
 
     // Are the parent and the figures in range for the load of this number? The root has parent 0, a later load a smaller number.
-    pub fn in_range(self, number: usize) -> bool
+    pub(crate) fn in_range(self, number: usize) -> bool
         ensures { λ r. ⌜ r ≡ loadIn number self ⌝ }
     {
         let parent = self.parent as usize;
@@ -62,7 +62,7 @@ impl LoadList {
     };
 
     // The list with l at its end, unless it is full.
-    pub fn append(self, l: Load) -> LoadsAppended
+    pub(crate) fn append(self, l: Load) -> LoadsAppended
         ensures { λ r. ⌜ r ≡ loadAppended self l ⌝ }
     {
         let count = self.count;
@@ -95,7 +95,7 @@ impl LoadList {
     }
 
     // The list with another load of this number. A number outside 1 to 64 changes nothing.
-    pub fn replace(self, number: usize, load: Load) -> LoadList
+    pub(crate) fn replace(self, number: usize, load: Load) -> LoadList
         ensures { λ r. ⌜ r ≡ loadReplaced self number load ⌝ }
     {
         if number == 0 {
@@ -109,7 +109,7 @@ impl LoadList {
         next
     }
 
-    pub fn set_power(self, number: usize, watts: u16) -> LoadList
+    pub(crate) fn set_power(self, number: usize, watts: u16) -> LoadList
         ensures { λ r. ⌜ r ≡ powerSet self number watts ⌝ }
     {
         let mut load = self.load(number);
@@ -117,7 +117,7 @@ impl LoadList {
         self.replace(number, load)
     }
 
-    pub fn set_worth(self, number: usize, figure: u16) -> LoadList
+    pub(crate) fn set_worth(self, number: usize, figure: u16) -> LoadList
         ensures { λ r. ⌜ r ≡ worthSet self number figure ⌝ }
     {
         let mut load = self.load(number);

@@ -45,13 +45,13 @@ impl Transition {
         to: 0,
     };
 
-    pub fn same(self, other: Transition) -> bool
+    pub(crate) fn same(self, other: Transition) -> bool
         ensures { λ r. ⌜ r ≡ sameRule self other ⌝ }
     {
         (self.from == other.from) & (self.label == other.label) & (self.to == other.to)
     }
 
-    pub fn is_zero(self) -> bool
+    pub(crate) fn is_zero(self) -> bool
         ensures { λ r. ⌜ r ≡ zeroRule self ⌝ }
     {
         (self.from == 0) & (self.label == 0) & (self.to == 0)
@@ -84,7 +84,7 @@ impl RuleRange {
     }
 
     // Is each number of t in its range?
-    pub fn holds(self, t: Transition) -> bool
+    pub(crate) fn holds(self, t: Transition) -> bool
         ensures { λ r. ⌜ r ≡ ruleIn self t ⌝ }
     {
         let from = (1 <= t.from) & (t.from <= self.from);
@@ -101,7 +101,7 @@ impl TransitionList {
     };
 
     // Is the rule t in the list, from place `start` on?
-    pub fn found_from(self, t: Transition, start: usize) -> bool
+    pub(crate) fn found_from(self, t: Transition, start: usize) -> bool
         ensures { λ r. ⌜ r ≡ some (sameRule t) (rest (self .items) (self .count) start) ⌝ }
     {
         for i in start..MAX_RULES {
@@ -117,7 +117,7 @@ impl TransitionList {
     }
 
     // The list with t at its end, unless it is full or has t already.
-    pub fn append(self, t: Transition) -> Appended
+    pub(crate) fn append(self, t: Transition) -> Appended
         ensures { λ r. ⌜ r ≡ appended self t ⌝ }
     {
         let count = self.count;

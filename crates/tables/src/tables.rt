@@ -34,7 +34,7 @@ pub struct Changed {
 
 impl StoredBook {
     // A book with no rules and no marks.
-    pub fn empty(states: u8, stages: u8) -> StoredBook
+    pub(crate) fn empty(states: u8, stages: u8) -> StoredBook
         ensures { λ r. ⌜ r ≡ storedBook (emptyBook states stages) ⌝ }
     {
         StoredBook {
