@@ -1,0 +1,223 @@
+"""Wrong programs that the contracts shut out.
+
+An edit of crates/NAME/must-fail or crates/NAME/wrong makes a wrong program of the crate. Its line
+'refused: FUNCTION NEED' says what must fail: the proof of that function alone, at that need. An edit of
+a definition has the line 'refused: law NAME', for a law or a need that no longer holds. `rt ci` refuses
+the edits of must-fail from nothing; here all of them run on what is already checked, which takes
+seconds, and the reason is compared too. Of every public function of a library two wrong programs at
+least must be refused: its own, or that of a function that it calls in the same crate.
+
+Usage: wrong_programs.py [NAME[/LABEL]..]   from the root of the repository, after `rt check`
+"""
+
+import os
+import re
+import shutil
+import subprocess
+import sys
+import tempfile
+import time
+from concurrent.futures import ThreadPoolExecutor
+from pathlib import Path
+from queue import Queue
+
+ROOT = Path.cwd()
+WORKERS = max(1, min(4, os.cpu_count() or 1))
+
+# An error of one of these kinds says that a proof no longer fits the code, and not that a fact fails.
+MISFITS = re.compile(r"not in scope|has no field|unknown name|expects? \d+ arguments?|unused premise")
+CASCADE = re.compile(r"was not admitted|cannot be checked")
+
+
+class Edit:
+    """One wrong program: the text that is replaced in each file, and what must be refused."""
+
+    def __init__(self, crate, path):
+        self.crate = crate
+        self.label = path.stem
+        self.refused = ""
+        self.pairs = []
+        self.unproved = []
+        file = old = ""
+        for line in path.read_text().splitlines():
+            word, _, rest = line.partition(" ")
+            if word == "refused:":
+                self.refused = rest
+            elif word == "file:":
+                file = rest
+            elif word == "old:":
+                old = rest
+            elif word == "new:":
+                self.pairs.append((file, old, rest))
+
+    def name(self):
+        return f"{self.crate}/{self.label}"
+
+    def apply(self, folder):
+        for file, old, new in self.pairs:
+            path = folder / file
+            text = path.read_text()
+            if text.count(old) != 1:
+                raise ValueError(f"{file} does not have the old text once")
+            path.write_text(text.replace(old, new))
+
+
+def libraries():
+    """The crates of crates.txt that are libraries of this repository, in its order."""
+    names = re.findall(r"^(\w+):", (ROOT / "crates.txt").read_text(), re.M)
+    return [n for n in names if (ROOT / "crates" / n / "src" / "lib.rt").exists()]
+
+
+def edits_of(crate):
+    folder = ROOT / "crates" / crate
+    paths = sorted(folder.glob("must-fail/*.edit")) + sorted(folder.glob("wrong/*.edit"))
+    return [Edit(crate, path) for path in paths]
+
+
+def interface_of(crate):
+    """The lines of each file of a proved library's interface, with the module that the file is."""
+    source = ROOT / "target" / "rlib" / f"{crate}.rlib" / "interface" / "lang" / "src"
+    for path in sorted(source.rglob("*.rt")):
+        module = crate if path.stem == "lib" else f"{crate}::{path.stem}"
+        for line in path.read_text().splitlines():
+            yield module, line
+
+
+def public_functions(crate):
+    """The public functions, named as the prover names them: a method by the module that declares its type."""
+    home = {}
+    for module, line in interface_of(crate):
+        declared = re.match(r"pub (?:struct|enum) (\w+)", line)
+        if declared:
+            home[declared.group(1)] = module
+    found = []
+    owner = ""
+    for module, line in interface_of(crate):
+        if line.startswith("impl "):
+            owner = line.split(" ")[1]
+        elif line.strip() == "}":
+            owner = ""
+        named = re.match(r'pub (?:extern "C" )?fn (\w+)', line)
+        if named:
+            place = f"{home[owner]}::{owner}" if owner else module
+            found.append(f"{place}::{named.group(1)}")
+    return found
+
+
+def make_scratch(folder):
+    """A copy of the repository with what is proved of it, for one worker."""
+    shutil.copytree(ROOT / "crates", folder / "crates")
+    shutil.copy(ROOT / "crates.txt", folder / "crates.txt")
+    for part in ("rlib", "stamp", "log"):
+        shutil.copytree(ROOT / "target" / part, folder / "target" / part)
+
+
+def check(scratch, crate):
+    """The exit status and the report of one check of a crate over its incremental folder."""
+    ended = subprocess.run(
+        ["rt", "dev", crate], cwd=scratch, stdout=subprocess.PIPE, stderr=subprocess.STDOUT, text=True
+    )
+    return ended.returncode, ended.stdout
+
+
+def keep_checked(scratch, crate, store):
+    """Checks the crate as it stands, and keeps what was checked for its edits."""
+    status, _ = check(scratch, crate)
+    if status != 0:
+        raise RuntimeError(f"{crate} is not proved as it stands")
+    shutil.move(scratch / "target" / "inc" / crate, store / crate)
+
+
+def failed_needs(report):
+    """Each fact that fails: the name of the declaration or need in question, without what only follows."""
+    needs = set()
+    for line in report.splitlines():
+        error = re.match(r"\S+: error: `([^`]+)`", line)
+        if error and not CASCADE.search(line):
+            needs.add(error.group(1))
+        need = re.match(r"note: .* is not proved .*\(`([^`]+)`\)", line)
+        if need:
+            needs.add(need.group(1))
+    return needs
+
+
+def fault_in(edit, status, report):
+    """What is wrong with a refusal, or nothing."""
+    if status != 1 or "logic=not-proved" not in report:
+        return "not refused" if status == 0 else f"it did not reach the prover (status {status})"
+    misfit = next((line for line in report.splitlines() if ": error" in line and MISFITS.search(line)), None)
+    if misfit:
+        return "the proof no longer fits: " + misfit[:200]
+    function, _, need = edit.refused.partition(" ")
+    wrong = re.findall(r"^fn (\S+): (?!proved|not proved; it calls)", report, re.M)
+    if function != "law" and wrong != [function]:
+        return f"not proved by itself: {wrong}, failed: {sorted(failed_needs(report))}"
+    if need not in failed_needs(report):
+        return f"failed: {sorted(failed_needs(report))}"
+    edit.unproved = re.findall(r"^fn (\S+): (?!proved)", report, re.M)
+    return None
+
+
+def try_edit(edit, scratch, store):
+    """Makes the wrong program in a worker's copy, checks it, and puts the crate back."""
+    folder = scratch / "crates" / edit.crate
+    checked = scratch / "target" / "inc" / edit.crate
+    shutil.copytree(store / edit.crate, checked)
+    began = time.monotonic()
+    try:
+        edit.apply(folder)
+        status, report = check(scratch, edit.crate)
+        fault = fault_in(edit, status, report)
+    except ValueError as error:
+        fault = str(error)
+    finally:
+        shutil.rmtree(folder)
+        shutil.copytree(ROOT / "crates" / edit.crate, folder)
+        shutil.rmtree(checked)
+    print(f"{edit.name()}: {fault or 'refused, at ' + edit.refused} ({time.monotonic() - began:.0f} s)", flush=True)
+    return fault is None
+
+
+def run(edits):
+    """Tries every edit, as many at a time as there are workers. Returns how many are refused as they must be."""
+    with tempfile.TemporaryDirectory() as folder, ThreadPoolExecutor(WORKERS) as pool:
+        store = Path(folder) / "checked"
+        store.mkdir()
+        free = Queue()
+        for number in range(WORKERS):
+            scratch = Path(folder) / str(number)
+            make_scratch(scratch)
+            free.put(scratch)
+
+        def with_scratch(work, *arguments):
+            scratch = free.get()
+            try:
+                return work(scratch, *arguments)
+            finally:
+                free.put(scratch)
+
+        crates = sorted({edit.crate for edit in edits})
+        list(pool.map(lambda c: with_scratch(lambda s: keep_checked(s, c, store)), crates))
+        return sum(pool.map(lambda e: with_scratch(lambda s: try_edit(e, s, store)), edits))
+
+
+def main():
+    wanted = sys.argv[1:]
+    every = [edit for crate in libraries() for edit in edits_of(crate)]
+    edits = [e for e in every if not wanted or e.crate in wanted or e.name() in wanted]
+    passed = run(edits)
+    failed = len(edits) - passed
+    for crate in libraries() if not wanted else []:
+        for function in public_functions(crate):
+            count = sum(function in edit.unproved for edit in every)
+            if count < 2:
+                print(f"{function}: {count} wrong programs are refused, and two are wanted")
+                failed += 1
+            else:
+                passed += 1
+    print(f"{passed} passed, {failed} failed")
+    return failed != 0
+
+
+if __name__ == "__main__":
+    sys.exit(main())
