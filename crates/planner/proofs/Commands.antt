@@ -1,13 +1,14 @@
 -- A change on a planner that holds tables within the limits answers and leaves what its row of causes and its effect say. Assumes nothing.
 use Prim.Native.Nat.{ℕ, zero, suc, _≤_}
 use mathlib.Core.Path.{_≡_, refl, sym, ap, _∙_}
-use mathlib.Core.Bool.{Bool, true, false, not}
+use mathlib.Core.Bool.{Bool, true, false, _&&_, not}
 use mathlib.Core.List.{List, [], _∷_}
 use native.Mathlib.Omega.{arith}
 use borrow.Author.Tests.{not-true, not-false}
 use lib.Dec.{leb}
 use lib.ListN.{length}
 use Rattle.lists.specs.Tests.{pick, some}
+use Rattle.lists.proofs.Bools.{and-left, and-right}
 use Rattle.lines.specs.declared.Command.{Command}
 use Rattle.tables.specs.declared.tables.StoredTables.{StoredTables}
 use Rattle.tables.specs.declared.tables.Changed as operation
@@ -15,17 +16,18 @@ use Rattle.tables.specs.declared.rule.RuleRange.{RuleRange}
 use Rattle.tables.specs.declared.rule.Transition.{Transition}
 use Rattle.tables.specs.declared.load.Load.{Load}
 use Rattle.tables.specs.Tables.{Tables}
-use Rattle.tables.specs.Limits.{ruleIn, sameRule, maxRules, loadIn, maxLoads, Limits}
+use Rattle.tables.specs.Limits.{between, ruleIn, sameRule, maxRules, loadIn, maxLoads, Limits}
 use Rattle.tables.specs.Stored.{stored, tablesOf, Holds}
 use Rattle.tables.specs.Operations.{accepted, ruleNumber, loadNumber}
 use Rattle.tables.proofs.Parts.{limits-parts}
 use Rattle.tables.proofs.Stored.{tables-stored}
-use Rattle.calls.specs.Causes.{Cause, _if_, lowest, causes}
+use Rattle.calls.specs.Causes.{Cause, _if_, lowest, isLoad, causes}
 use Rattle.calls.specs.Effects.{effect, acted}
 use Rattle.planner.specs.declared.changes.Changed.{Changed}
 use Rattle.planner.specs.declared.changes.NamedRule.{NamedRule}
 use Rattle.planner.specs.declared.changes.NamedLoad.{NamedLoad}
 use Rattle.planner.specs.Changes.{namedRule, namedLoad, settled, changedBy}
+use Rattle.planner.proofs.Ranges.{inside}
 
 -- ---- numbers: "value out of its range" comes first, then what the list of rules or loads says
 five : (b : Bool) (cs : List Cause) → b ≡ false → lowest ((5 if not b) ∷ cs) ≡ 5
@@ -94,6 +96,27 @@ pub accepts : (s : StoredTables) (h : Holds s) (c : Command) {r : Changed} (b : 
     → (u : StoredTables) → u ≡ stored (effect (tablesOf s) c) → r ≡ settled 0 u → r ≡ changedBy (tablesOf s) c
 unfolding lowest
 accepts s h c b first e u given is = operated s h c b [] first e (record { number = 0; tables = u }) (λ i. record { number = 0; tables = given i }) is
+
+-- another power or worth of load k: c changes it where there is such a load and the figure fits
+module _ (s : StoredTables) (h : Holds s) (c : Command) (k : ℕ) (fits : Bool) (first : causes (tablesOf s) 0 c ≡ (5 if not (isLoad (tablesOf s) k && fits)) ∷ [])
+    {there : Bool} (looked : there ≡ between 1 (s .loads .count) k) where
+  tested : there && fits ≡ isLoad (tablesOf s) k && fits
+  tested = ap (λ (b : Bool). b && fits) (looked ∙ ap (λ (n : ℕ). between 1 n k) (load-count s h))
+
+  pub figure-refused : {d : Changed} → not (there && fits) ≡ true → d ≡ settled 5 s → d ≡ changedBy (tablesOf s) c
+  figure-refused e = out-of-range s h c (isLoad (tablesOf s) k && fits) [] first (sym tested ∙ not-true _ e)
+
+  passed : not (there && fits) ≡ false → isLoad (tablesOf s) k && fits ≡ true
+  passed e = sym tested ∙ not-false _ e
+
+  pub figure-fits : not (there && fits) ≡ false → fits ≡ true
+  figure-fits e = and-right (isLoad (tablesOf s) k) fits (passed e)
+
+  pub figure-changed : {d : Changed} → not (there && fits) ≡ false → (set : StoredTables → StoredTables)
+      → (1 ≤ k → k ≤ length (tablesOf s .loads) → set (stored (tablesOf s)) ≡ stored (effect (tablesOf s) c)) → (u : StoredTables) → u ≡ set s → d ≡ settled 0 u → d ≡ changedBy (tablesOf s) c
+  figure-changed e set law u given =
+      let is-there = inside 1 (length (tablesOf s .loads)) k (and-left (isLoad (tablesOf s) k) fits (passed e)) in
+      accepts s h c (isLoad (tablesOf s) k && fits) first (passed e) u (given ∙ ap set (is-stored s h) ∙ law (is-there .0) (is-there .1))
 
 -- ---- the rule or the load that a line names
 named-fits : (m : RuleRange) (r : Transition) {x : NamedRule} → x ≡ namedRule m r → x .fits ≡ ruleIn m r
