@@ -250,7 +250,7 @@ fn with_numbers(code: u64, n: Numbers) -> Command
 }
 
 // Is a line longer than a line may be? That is judged before its form, and apart from it.
-pub(crate) fn too_long(line: &[u8]) -> bool
+pub fn too_long(line: &[u8]) -> bool
     ensures { λ r. ⌜ r ≡ tooLong (now (line .entry)) ⌝ }
 {
     MOST_BYTES < line.len()

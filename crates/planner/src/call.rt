@@ -7,7 +7,7 @@ use crate::search::Decided;
 use crate::search::unshown;
 use lines::Command;
 use lines::reading::read;
-use lines::splitting::MOST_KEPT;
+use lines::reading::too_long;
 ghost use mathlib.Core.Path.{_≡_};
 ghost use lib.ListN.{length};
 ghost use Rattle.lines.specs.Grammar.{parse};
@@ -75,7 +75,7 @@ impl Planner {
         ensures answer { λ r. ⌜ r ≡ decidedLine (tablesOf (self .tables)) (length (now (work .entry))) (now (line .entry)) ⌝ }
         ensures cells { λ r. ⌜ now (work .exit) ≡ workAfter (tablesOf (self .tables)) (numberOf (r .answer)) (parse (now (line .entry))) (now (work .entry)) ⌝ }
     {
-        if MOST_KEPT <= line.len() {
+        if too_long(line) {
             return self.refused(TOO_LONG);
         }
         self.decide(read(line), work)
