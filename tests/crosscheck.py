@@ -56,6 +56,7 @@ class StoresNothing(Oracle):
 
 WRONG = [StageRestarts, LeafAlwaysEnds, HighestFirst, FirstBudget, StoresNothing]
 MOST_RUNS = 1500  # a tree with more runs is left out: plain enumeration would be slow
+BATCH = 100  # sessions that are given to one run of the program
 
 
 def few_runs(oracle):
@@ -104,46 +105,92 @@ def damaged(rng):
     return b'budget,' + b'0' * rng.randint(60, 90)
 
 
+def question(rng, loads):
+    """A line of a session whose book and tree stand: mostly plans and what changes them."""
+    return rng.choice((
+        lambda: b'budget,%d' % rng.randint(0, 20), lambda: b'plan', lambda: b'plan',
+        lambda: b'check,' + bytes(rng.choice(b'01') for _ in range(loads)),
+        lambda: b'power,%d,%d' % (rng.randint(1, loads + 1), rng.randint(0, 8)),
+        lambda: b'worth,%d,%d' % (rng.randint(1, loads + 1), rng.randint(0, 4)),
+        lambda: damaged(rng)))()
+
+
 def session(rng):
-    """Lines of a session that starts with `clear`, and the answers of an oracle that reads them."""
+    """The lines of a session that starts with `clear`, and the oracle's answers; or nothing where there are too many runs."""
     oracle, lines, answers = Oracle(), [], []
 
     def say(line):
         lines.append(line)
         answers.append(oracle.answer(line))
+        return few_runs(oracle)
     for line in ['clear'] + rng.choice((book_lines(rng) + tree_lines(rng), tree_lines(rng) + book_lines(rng))):
-        say(line.encode())
-        if not few_runs(oracle):
+        if not say(line.encode()):
             return None
     for _ in range(rng.randint(3, 10)):
-        n = len(oracle.loads)
-        line = rng.choice((
-            lambda: b'budget,%d' % rng.randint(0, 20), lambda: b'plan', lambda: b'plan',
-            lambda: b'check,' + bytes(rng.choice(b'01') for _ in range(n)),
-            lambda: b'power,%d,%d' % (rng.randint(1, n + 1), rng.randint(0, 8)),
-            lambda: b'worth,%d,%d' % (rng.randint(1, n + 1), rng.randint(0, 4)),
-            lambda: damaged(rng)))()
+        line = question(rng, len(oracle.loads))
         if line.startswith((b'load,', b'book', b'rule', b'row', b'start')) and rng.random() < 0.5:
             continue
-        say(line)
-        if not few_runs(oracle):
+        if not say(line):
             return None
     say(b'plan')
     return lines, answers
 
 
+def sessions(rng, count):
+    """So many sessions."""
+    made = []
+    while len(made) < count:
+        one = session(rng)
+        if one:
+            made.append(one)
+    return made
+
+
 def printed(program, lines):
-    return subprocess.run([program], input=b''.join(l + b'\n' for l in lines), stdout=subprocess.PIPE, check=True).stdout.decode('latin-1').split('\n')[:-1]
+    """The lines that the program prints for lines."""
+    data = b''.join(line + b'\n' for line in lines)
+    out = subprocess.run([program], input=data, stdout=subprocess.PIPE, check=True).stdout
+    return out.decode('latin-1').split('\n')[:-1]
 
 
-def compare(lines, answers, out):
-    """None, or the first place where the program's lines differ from the answers."""
-    at = 0
+def difference(lines, answers, out):
+    """None, or the first line whose answer the program does not print. What it prints is taken off the front of out."""
+    first = None
     for line, answer in zip(lines, answers):
-        if out[at:at + len(answer)] != answer:
-            return line, answer, out[at:at + len(answer)]
-        at += len(answer)
-    return None if at == len(out) else (b'', [], out[at:])
+        got = out[:len(answer)]
+        del out[:len(answer)]
+        if got != answer and first is None:
+            first = line, answer, got
+    return first
+
+
+def compared(program, cases):
+    """The number of sessions in which the program prints something else than the oracle."""
+    failed = 0
+    for at in range(0, len(cases), BATCH):
+        batch = cases[at:at + BATCH]
+        out = printed(program, [line for lines, _ in batch for line in lines])
+        for lines, answers in batch:
+            wrong = difference(lines, answers, out)
+            if wrong:
+                failed += 1
+                print('DIFFERS at %r: expected %r, printed %r, in the session %r' % (*wrong, lines))
+        if out:
+            failed += 1
+            print('MORE is printed than asked for: %r' % out[:3])
+    return failed
+
+
+def told_apart(other, cases):
+    """In how many sessions a wrong oracle answers something else. One that cannot answer at all counts as told apart."""
+    told = 0
+    for lines, answers in cases:
+        oracle = other()
+        try:
+            told += any(oracle.answer(line) != answer for line, answer in zip(lines, answers))
+        except (IndexError, UnboundLocalError):
+            told += 1
+    return told
 
 
 def main():
@@ -152,38 +199,17 @@ def main():
     options.add_argument('--cases', type=int, default=2000)
     options.add_argument('--seed', type=int, default=1)
     args = options.parse_args()
-    rng = random.Random(args.seed)
-    passed = failed = plans = nines = yes = tens = 0
-    kept = []
-    while passed + failed < args.cases:
-        batch = [s for s in (session(rng) for _ in range(100)) if s]
-        out = printed(args.program, [l for lines, _ in batch for l in lines])
-        for lines, answers in batch:
-            mine = [l for a in answers for l in a]
-            wrong = compare(lines, answers, out[:len(mine)])
-            out = out[len(mine):]
-            flat = [a[0] for a in answers]
-            plans += sum(a.startswith('plan') for a in flat)
-            nines, yes, tens = nines + flat.count('no,9'), yes + flat.count('yes'), tens + flat.count('no,10')
-            if wrong:
-                failed += 1
-                if failed <= 3:
-                    print('DIFFERS at %r: expected %r, printed %r, in the session %r' % (*wrong, lines))
-            else:
-                passed += 1
-            kept.append((lines, mine))
-    print('%d sessions with %d plans shown, %d refusals 9, %d sets allowed, %d not' % (passed + failed, plans, nines, yes, tens))
+    cases = sessions(random.Random(args.seed), args.cases)
+    failed = compared(args.program, cases)
+    firsts = [answer[0] for _, answers in cases for answer in answers]
+    plans = sum(first.startswith('plan') for first in firsts)
+    print('%d sessions with %d plans shown, %d refusals 9, %d sets allowed, %d not'
+          % (len(cases), plans, firsts.count('no,9'), firsts.count('yes'), firsts.count('no,10')))
     for other in WRONG:
-        told = 0
-        for lines, mine in kept[:500]:
-            o = other()
-            try:
-                told += [l for line in lines for l in o.answer(line)] != mine
-            except Exception:
-                told += 1
-        print('%s: told apart in %d of %d sessions' % (other.__name__, told, len(kept[:500])))
-        passed, failed = (passed + 1, failed) if told else (passed, failed + 1)
-    print('%d passed, %d failed' % (passed, failed))
+        told = told_apart(other, cases[:500])
+        print('%s: told apart in %d of %d sessions' % (other.__name__, told, len(cases[:500])))
+        failed += told == 0
+    print('%d passed, %d failed' % (len(cases) + len(WRONG) - failed, failed))
     return 1 if failed else 0
 
 
