@@ -10,7 +10,7 @@ use marks::Marks;
 use tables::rule::Transition;
 use tables::rule::TransitionList;
 ghost use mathlib.Core.Path.{_≡_};
-ghost use Prim.Native.Nat.{ℕ, suc, _≤_, _<_};
+ghost use Prim.Native.Nat.{suc, _≤_, _<_};
 ghost use lib.Dec.{eqb};
 ghost use Rattle.lists.specs.Argmax.{guard, argmax, improve};
 ghost use Rattle.marks.specs.Bits.{hasMark};

@@ -1,6 +1,5 @@
 // A call on a line.
 use crate::Planner;
-use crate::answers::Answer;
 use crate::answers::write_answer;
 use crate::changes::Changed;
 use crate::search::Decided;

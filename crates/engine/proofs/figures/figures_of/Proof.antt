@@ -18,10 +18,6 @@ use Rattle.engine.specs.Figures.{powerIn, worthIn}
 use Rattle.engine.proofs.Sums.{Added, added-none, added-more, added-all}
 use Rattle.engine.proofs.figures.figures_of.Statement.{statement}
 use Rattle.engine.proofs.figures.figures_of.Tie as tie
-use Rattle.engine.proofs.figures.figures_of.Reads as reads
-use Rattle.engine.proofs.figures.figures_of.Lts as lts
-use Rattle.engine.proofs.figures.counted_if.Reads as counted-if-reads
-use Rattle.marks.proofs.LoadSet.has.Reads as has-reads
 
 abbrev Inv-loop : tie.InvT-loop
 Inv-loop set loads n power₀ worth₀ i₀ power worth i =

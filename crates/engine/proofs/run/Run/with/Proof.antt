@@ -4,9 +4,6 @@ use borrow.Author.Tests.{eq-eqb, ne-eqb}
 use Rattle.engine.specs.Shown.{withEntry}
 use Rattle.engine.proofs.run.Run.with.Statement.{statement}
 use Rattle.engine.proofs.run.Run.with.Tie as tie
-use Rattle.engine.proofs.run.Run.with.Reads as reads
-use Rattle.engine.proofs.run.Run.with.Lts as lts
-use Rattle.marks.proofs.LoadSet.with.Reads as with-reads
 
 returns : tie.Need-returns
 unfolding withEntry
