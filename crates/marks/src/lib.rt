@@ -4,6 +4,7 @@ ghost use Rattle.marks.specs.Bits.{hasMark, size};
 ghost use Rattle.marks.specs.Sets.{marked, joined};
 
 // A set of states or of stages: numbers from 1 to 8.
+#[repr(C)]
 pub struct Marks(pub u8);
 
 impl Marks {

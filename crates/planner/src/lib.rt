@@ -11,6 +11,7 @@ mod changes;
 mod search;
 
 // A planner. It goes in and comes back by value.
+#[repr(C)]
 pub struct Planner {
     pub tables: StoredTables,
 }

@@ -12,6 +12,7 @@ pub const MAX_POWER: u16 = 500;
 pub const MAX_WORTH: u16 = 1000;
 
 // A load: the number of its parent, its power in watts and its worth.
+#[repr(C)]
 pub struct Load {
     pub parent: u8,
     pub power: u16,
@@ -19,6 +20,7 @@ pub struct Load {
 }
 
 // Loads in order of entry. The first `count` places are in use.
+#[repr(C)]
 pub struct LoadList {
     pub items: [Load; MAX_LOADS],
     pub count: usize,

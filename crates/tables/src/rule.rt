@@ -11,6 +11,7 @@ use crate::refusal::SAME_RULE;
 pub const MAX_RULES: usize = 32;
 
 // A transition of the tree automaton. A load rule is (state, mark, stage), a row rule (stage, state, next stage).
+#[repr(C)]
 pub struct Transition {
     pub from: u8,
     pub label: u8,
@@ -18,6 +19,7 @@ pub struct Transition {
 }
 
 // Rules in order of entry. The first `count` places are in use.
+#[repr(C)]
 pub struct TransitionList {
     pub items: [Transition; MAX_RULES],
     pub count: usize,

@@ -10,6 +10,7 @@ use crate::rule::TransitionList;
 use marks::Marks;
 
 // The rule book: a tree automaton with its start states and end stages.
+#[repr(C)]
 pub struct StoredBook {
     pub states: u8,
     pub stages: u8,
@@ -20,6 +21,7 @@ pub struct StoredBook {
 }
 
 // The book, the loads and the budget in watts.
+#[repr(C)]
 pub struct StoredTables {
     pub book: StoredBook,
     pub loads: LoadList,
