@@ -1,0 +1,12 @@
+-- `firmware::judge_run` meets its contract: the number of what the judge answers. Assumes nothing.
+use mathlib.Core.Path.{_∙_, ap}
+use borrow.Author.Needs.{needs}
+use Rattle.firmware.specs.Verdict.{verdictNumber}
+use Rattle.firmware.proofs.judge_run.Statement.{statement}
+use Rattle.firmware.proofs.judge_run.Tie as tie
+
+returns : tie.Need-returns
+returns c = c .number-of .ensures ∙ ap verdictNumber (c .before .judge .ensures)
+
+pub judge-run-spec : {M : Type 1} → statement M
+judge-run-spec = tie.close (tie.spec (λ c κs. search needs) (λ c κs. search needs) returns)

@@ -1,0 +1,10 @@
+-- A call through the firmware's interface, as the definition of crate `calls` has it: the planner that C then has, and what it is told.
+-- Assumes nothing.
+use Prim.Native.Nat.{ℕ}
+use mathlib.Core.List.{List}
+use Rattle.calls.specs.Calls.{Done}
+use Rattle.planner.specs.declared.Planner.{Planner}
+use Rattle.firmware.specs.declared.Reply.{Reply}
+
+abbrev pub doneOf : Planner → Reply → (output work : List ℕ) → Done
+doneOf p r o w = record { tables = p .tables; reply = record { number = r .number; count = r .count; output = o; work = w } }

@@ -1,0 +1,95 @@
+// The planner for the switch's firmware: the functions that C calls. The planner stands behind a reference, where the caller keeps it.
+// C may hand in any bytes as a planner: a planner that breaks a limit is refusal 1.
+// Each function copies the planner, leaves the work to a function on values, and stores what comes back: the proofs of these three go
+// through their code by hand, so there is as little code in them as can be.
+use judge::Verdict;
+use planner::Planner;
+ghost use mathlib.Core.Path.{_≡_};
+ghost use Rattle.judge.specs.Verdict.{judged};
+ghost use Rattle.calls.specs.Calls.{called};
+ghost use Rattle.planner.specs.Planner.{fresh};
+ghost use Rattle.planner.specs.Calls.{callOf};
+ghost use Rattle.firmware.specs.Calls.{doneOf};
+ghost use Rattle.firmware.specs.Verdict.{verdictNumber};
+
+// The judge's "no". It lies above every number of a refusal.
+const NOT_A_RUN: u32 = 255;
+
+// What C is told of a call on a line: its number, 0 if accepted, and the count of bytes written. It is returned by value: the calling
+// convention hands its 16 bytes back in two registers.
+#[repr(C)]
+pub struct Reply {
+    pub number: u32,
+    pub count: usize,
+}
+
+// A call on a line: the next planner, and what C is told.
+struct Handled {
+    planner: Planner,
+    reply: Reply,
+}
+
+fn handle(planner: Planner, line: &[u8], out: &mut [u8], place: usize, work: &mut [u32]) -> Handled
+    ensures { λ r. ⌜ doneOf (r .planner) (r .reply) (now (out .exit)) (now (work .exit)) ≡ called (planner .tables) (callOf (now (line .entry)) (now (out .entry)) place (now (work .entry))) ⌝ }
+{
+    let called = planner.call(line, out, place, work);
+    let next = called.planner;
+    Handled {
+        planner: next,
+        reply: Reply {
+            number: called.number as u32,
+            count: called.count,
+        },
+    }
+}
+
+// The number of the judge's answer.
+fn number_of(verdict: Verdict) -> u32
+    ensures { λ r. ⌜ r ≡ verdictNumber verdict ⌝ }
+{
+    match verdict {
+        Verdict::LimitBroken => 1,
+        Verdict::NoLoads => 4,
+        Verdict::NotThree => 5,
+        Verdict::Yes => 0,
+        Verdict::No => NOT_A_RUN,
+    }
+}
+
+fn judge_run(planner: Planner, run: &[u32]) -> u32
+    ensures { λ r. ⌜ r ≡ verdictNumber (judged (planner .tables) (now (run .entry))) ⌝ }
+{
+    number_of(planner.judge(run))
+}
+
+// Makes the planner fresh, whatever it was.
+#[no_mangle]
+pub extern "C" fn hulmeide_fresh(planner: &mut Planner)
+    ensures { λ _. ⌜ now (planner .exit) ≡ fresh ⌝ }
+{
+    *planner = Planner::fresh();
+}
+
+// Are these numbers, three for each load, a run? 0 for yes, 255 for no, or the number of the refusal.
+#[no_mangle]
+pub extern "C" fn hulmeide_judge(planner: &Planner, run: &[u32]) -> u32
+    ensures { λ r. ⌜ r ≡ verdictNumber (judged (now (planner .entry) .tables) (now (run .entry))) ⌝ }
+{
+    judge_run(*planner, run)
+}
+
+// A line handed to the planner: the answer is written from a place in the output on, and a plan works in the lent cells.
+#[no_mangle]
+pub extern "C" fn hulmeide_call(
+    planner: &mut Planner,
+    line: &[u8],
+    out: &mut [u8],
+    place: usize,
+    work: &mut [u32],
+) -> Reply
+    ensures { λ r. ⌜ doneOf (now (planner .exit)) r (now (out .exit)) (now (work .exit)) ≡ called (now (planner .entry) .tables) (callOf (now (line .entry)) (now (out .entry)) place (now (work .entry))) ⌝ }
+{
+    let handled = handle(*planner, line, out, place, work);
+    *planner = handled.planner;
+    handled.reply
+}
