@@ -1,0 +1,2 @@
+-- What the walks of the exported functions share.
+pub mod Steps

@@ -1,0 +1,186 @@
+/*
+ * The cabinet load planner for the switch's firmware.
+ *
+ * Link target/staticlib/libfirmware.a, which `rt staticlib firmware` proves and writes. It is built for x86-64, and needs memcpy and
+ * memset, nothing else: no heap, no file, no clock, and no memory of its own between calls. All state is in the planner that the caller
+ * keeps, so there may be any number of planners.
+ *
+ * What the caller owes: every pointer is to memory that is there for the length given, aligned for its type and not null, also where the
+ * length is 0; the planner, the output and the work do not overlap one another or the line; nobody else writes them during a call.
+ * What the bytes are does not matter. A planner, an output and a work may hold anything.
+ *
+ * What is proved is in crates/firmware/src/lib.rt: each function has its promise there, for every planner and all buffers. The lines and
+ * the answers are explained in docs/PROTOCOL.md.
+ */
+#ifndef HULMEIDE_H
+#define HULMEIDE_H
+
+#include <stddef.h>
+#include <stdint.h>
+
+#ifdef __cplusplus
+extern "C" {
+#define HULMEIDE_ASSERT(test, message) static_assert(test, message)
+#else
+#define HULMEIDE_ASSERT(test, message) _Static_assert(test, message)
+#endif
+
+/* ---- Sizes ---- */
+
+/* A line has at most this many bytes, its line feed not counted. A longer one is HULMEIDE_LONG_LINE. */
+#define HULMEIDE_LINE_BYTES 80
+
+/* So many bytes must be free in the output from the place on, whatever the line. No answer is longer. */
+#define HULMEIDE_FREE_BYTES 1024
+
+/* The cells of 32 bits that the line program lends as work. */
+#define HULMEIDE_CELLS 16384
+
+/* The cells that a plan needs: loads x (states + stages) x (budget + 1). With fewer it is HULMEIDE_FEW_CELLS. */
+#define HULMEIDE_CELLS_NEEDED(loads, states, stages, budget) ((size_t)(loads) * ((size_t)(states) + (stages)) * ((size_t)(budget) + 1))
+
+/* The largest cabinet: 64 loads, 8 states, 8 stages and a budget of 500 watts. */
+#define HULMEIDE_MAX_LOADS 64
+#define HULMEIDE_MAX_RULES 32
+#define HULMEIDE_MAX_STATES 8
+#define HULMEIDE_MAX_STAGES 8
+#define HULMEIDE_MAX_POWER 500
+#define HULMEIDE_MAX_WORTH 1000
+#define HULMEIDE_MAX_BUDGET 500
+#define HULMEIDE_MAX_CELLS HULMEIDE_CELLS_NEEDED(HULMEIDE_MAX_LOADS, HULMEIDE_MAX_STATES, HULMEIDE_MAX_STAGES, HULMEIDE_MAX_BUDGET)
+
+/* ---- Numbers returned ----
+ *
+ * The lowest number that applies is given. A refusal leaves the planner as it was. A refusal of a line prints "no,N" and a line feed,
+ * but for 1, which writes nothing.
+ */
+enum hulmeide_number {
+    /* A line was accepted. The judge: yes, the numbers are a run. */
+    HULMEIDE_ACCEPTED = 0,
+    /* Under HULMEIDE_FREE_BYTES free bytes from the place on, a place past the end, or a planner that breaks a limit (the judge: only
+     * the last). Nothing is written, and everything is left as it was. */
+    HULMEIDE_TURNED_AWAY = 1,
+    /* A line over HULMEIDE_LINE_BYTES bytes. */
+    HULMEIDE_LONG_LINE = 2,
+    /* No command of the table, a wrong count of fields, or a field of the wrong form. */
+    HULMEIDE_BAD_FORM = 3,
+    /* `plan`, `check` or the judge, with no loads. */
+    HULMEIDE_NO_LOADS = 4,
+    /* A value out of its range; bits not one for each load; the judge given not three numbers for each load. */
+    HULMEIDE_OUT_OF_RANGE = 5,
+    /* 64 loads, or 32 rules of that sort, already. */
+    HULMEIDE_FULL = 6,
+    /* The same rule is in the book already. */
+    HULMEIDE_SAME_RULE = 7,
+    /* `plan` with too few cells of work. */
+    HULMEIDE_FEW_CELLS = 8,
+    /* No allowed set fits the budget. */
+    HULMEIDE_NONE_FITS = 9,
+    /* The checked set is not allowed. */
+    HULMEIDE_NOT_ALLOWED = 10,
+    /* The judge: no, the numbers are not a run. This is no refusal, and lies above the numbers of all of them. */
+    HULMEIDE_NOT_A_RUN = 255
+};
+
+/* ---- The planner ----
+ *
+ * Make one with hulmeide_fresh, and change it by lines alone. Its fields may be read. One that was changed otherwise, or that comes from
+ * a file, is tested at each call: where it breaks a limit the call is turned away (1).
+ */
+
+/* A load rule is (state, mark, stage), a row rule (stage, state, next stage). */
+struct hulmeide_rule {
+    uint8_t from;
+    uint8_t label;
+    uint8_t to;
+};
+
+/* Rules in order of entry. The first `count` are in use, and the others hold 0. */
+struct hulmeide_rules {
+    struct hulmeide_rule items[HULMEIDE_MAX_RULES];
+    size_t count;
+};
+
+/* The number of the parent (0 for load 1), watts, and worth. */
+struct hulmeide_load {
+    uint8_t parent;
+    uint16_t power;
+    uint16_t worth;
+};
+
+/* Loads in order of entry: load k is items[k - 1]. The first `count` are in use, and the others hold 0. */
+struct hulmeide_loads {
+    struct hulmeide_load items[HULMEIDE_MAX_LOADS];
+    size_t count;
+};
+
+/* The rule book. State q is a start state where bit q - 1 of `starts` is set, and stage g an end stage where bit g - 1 of `ends` is. */
+struct hulmeide_book {
+    uint8_t states;
+    uint8_t stages;
+    uint8_t starts;
+    uint8_t ends;
+    struct hulmeide_rules load_rules;
+    struct hulmeide_rules row_rules;
+};
+
+struct hulmeide_planner {
+    struct hulmeide_book book;
+    struct hulmeide_loads loads;
+    uint16_t budget;
+};
+
+/* What a call on a line returns: its number, and the count of bytes written. */
+struct hulmeide_reply {
+    uint32_t number;
+    size_t count;
+};
+
+/* The layouts are those that the archive was built with. */
+HULMEIDE_ASSERT(sizeof(size_t) == 8, "the archive is for x86-64");
+HULMEIDE_ASSERT(sizeof(struct hulmeide_rule) == 3, "hulmeide_rule");
+HULMEIDE_ASSERT(offsetof(struct hulmeide_rule, label) == 1, "hulmeide_rule.label");
+HULMEIDE_ASSERT(offsetof(struct hulmeide_rule, to) == 2, "hulmeide_rule.to");
+HULMEIDE_ASSERT(sizeof(struct hulmeide_rules) == 104, "hulmeide_rules");
+HULMEIDE_ASSERT(offsetof(struct hulmeide_rules, count) == 96, "hulmeide_rules.count");
+HULMEIDE_ASSERT(sizeof(struct hulmeide_load) == 6, "hulmeide_load");
+HULMEIDE_ASSERT(offsetof(struct hulmeide_load, power) == 2, "hulmeide_load.power");
+HULMEIDE_ASSERT(offsetof(struct hulmeide_load, worth) == 4, "hulmeide_load.worth");
+HULMEIDE_ASSERT(sizeof(struct hulmeide_loads) == 392, "hulmeide_loads");
+HULMEIDE_ASSERT(offsetof(struct hulmeide_loads, count) == 384, "hulmeide_loads.count");
+HULMEIDE_ASSERT(sizeof(struct hulmeide_book) == 216, "hulmeide_book");
+HULMEIDE_ASSERT(offsetof(struct hulmeide_book, stages) == 1, "hulmeide_book.stages");
+HULMEIDE_ASSERT(offsetof(struct hulmeide_book, starts) == 2, "hulmeide_book.starts");
+HULMEIDE_ASSERT(offsetof(struct hulmeide_book, ends) == 3, "hulmeide_book.ends");
+HULMEIDE_ASSERT(offsetof(struct hulmeide_book, load_rules) == 8, "hulmeide_book.load_rules");
+HULMEIDE_ASSERT(offsetof(struct hulmeide_book, row_rules) == 112, "hulmeide_book.row_rules");
+HULMEIDE_ASSERT(sizeof(struct hulmeide_planner) == 616, "hulmeide_planner");
+HULMEIDE_ASSERT(offsetof(struct hulmeide_planner, loads) == 216, "hulmeide_planner.loads");
+HULMEIDE_ASSERT(offsetof(struct hulmeide_planner, budget) == 608, "hulmeide_planner.budget");
+HULMEIDE_ASSERT(sizeof(struct hulmeide_reply) == 16, "hulmeide_reply");
+HULMEIDE_ASSERT(offsetof(struct hulmeide_reply, count) == 8, "hulmeide_reply.count");
+
+/* ---- Functions ---- */
+
+/* Makes the planner fresh, whatever it held: no book, no rules, no loads, and budget 0. */
+void hulmeide_fresh(struct hulmeide_planner *planner);
+
+/*
+ * Handles one line, given without its line feed. The answer is written from out + place on, and `count` says how many bytes it has; the
+ * bytes before the place and after the answer keep their values. A plan fills the cells that it needs at the start of the work, and
+ * leaves 0 in them, after HULMEIDE_NONE_FITS too; all other cells, and all cells after any other line, keep their values.
+ */
+struct hulmeide_reply hulmeide_call(struct hulmeide_planner *planner, const uint8_t *line, size_t line_length, uint8_t *out,
+                                    size_t out_length, size_t place, uint32_t *work, size_t work_length);
+
+/*
+ * Are these numbers a run? They are three for each load in load order: its state, its load rule and its row rule (0 for load 1).
+ * Returns HULMEIDE_ACCEPTED for yes, HULMEIDE_NOT_A_RUN for no, or HULMEIDE_TURNED_AWAY, HULMEIDE_NO_LOADS or HULMEIDE_OUT_OF_RANGE.
+ */
+uint32_t hulmeide_judge(const struct hulmeide_planner *planner, const uint32_t *run, size_t run_length);
+
+#ifdef __cplusplus
+}
+#endif
+
+#endif
