@@ -1,0 +1,132 @@
+#!/usr/bin/env python3
+"""The judge, through the library as firmware links it, against plain enumeration (oracle.py), on random small trees.
+
+  judgecheck.py LIBRARY.so [--cases N] [--seed S]
+
+Each case is a book and a tree, built line by line, and proposed runs of every sort: runs, what would be runs but for one rule of the paper,
+runs with one number changed, numbers that name nothing, numbers of another width, and too few or too many of them. A run is a run exactly if the enumeration has it. Then the same runs are
+given to oracles that are wrong on purpose, and each must be told apart. The last line is 'N passed, M failed'.
+"""
+import argparse
+import random
+import sys
+
+from crosscheck import LeafAlwaysEnds, StageRestarts, book_lines, few_runs, tree_lines
+from library import NOT_A_RUN, Library, Planner
+from oracle import Oracle
+
+
+class AnyRoot(Oracle):
+    """The root may have any state."""
+
+    def tree_runs(self):
+        for q in range(1, self.states + 1):
+            yield from self.branch_runs(1, q)
+
+
+WRONG = [AnyRoot, LeafAlwaysEnds, StageRestarts]
+PROPOSED = 12  # runs judged in each case
+
+
+def flat(run):
+    """Three numbers for each load in load order: state, load rule, row rule."""
+    return tuple(number for k in sorted(run) for number in run[k][1:])
+
+
+def verdict(oracle, runs, numbers):
+    """What the paper says of the numbers, the runs of the tree being these."""
+    if not oracle.loads:
+        return 4
+    if len(numbers) != 3 * len(oracle.loads):
+        return 5
+    return 0 if tuple(numbers) in runs else NOT_A_RUN
+
+
+def any_number(rng):
+    return rng.choice((0, 1, 1, 2, 2, 3, 3, 4, 5, 6, 7, 9, 33, 255, 256, 257, 65537, 2**32 - 1))
+
+
+def proposal(rng, oracle, runs):
+    """Numbers that may be a run, made of numbers that are one or nearly so."""
+    kind = rng.randrange(6)
+    length = 3 * len(oracle.loads)
+    if kind == 0 or not runs:
+        return [rng.randint(0, 4) for _ in range(length)]
+    numbers = list(rng.choice(runs))
+    place = rng.randrange(length)
+    if kind == 2:
+        numbers[place] = any_number(rng)
+    elif kind == 3:
+        numbers[place] += rng.choice((256, 65536, 2**31))
+    elif kind == 4:
+        numbers = rng.choice((numbers[:place], numbers + [0], numbers + numbers, []))
+    return numbers
+
+
+def after(oracle, lines):
+    """The oracle with the tables that the lines build."""
+    for line in lines:
+        oracle.answer(line)
+    return oracle
+
+
+def runs_of(oracle):
+    return {flat(run) for _, _, run in oracle.tree_runs()} if oracle.loads else set()
+
+
+def cabinet(rng):
+    """The lines of a random cabinet with few runs. Now and then it has no loads."""
+    while True:
+        lines = [b'clear'] + [line.encode() for line in book_lines(rng) + tree_lines(rng)]
+        if rng.random() < 0.02:
+            lines = lines[:1]
+        if few_runs(after(Oracle(), lines)):
+            return lines
+
+
+def judged_runs(rng, planner, lines):
+    """Proposed runs of a cabinet, with the judge's answers."""
+    for line in lines:
+        planner.answer(line)
+    oracles = [after(kind(), lines) for kind in [Oracle] + WRONG]
+    near = sorted(set().union(*(runs_of(oracle) for oracle in oracles)))
+    proposals = [proposal(rng, oracles[0], near) for _ in range(PROPOSED)]
+    return [(numbers, planner.judge(numbers)) for numbers in proposals]
+
+
+def differences(oracle, judged):
+    """The judged numbers of which an oracle says something else."""
+    runs = runs_of(oracle)
+    return [(numbers, answer) for numbers, answer in judged if verdict(oracle, runs, numbers) != answer]
+
+
+def main():
+    options = argparse.ArgumentParser()
+    options.add_argument('library')
+    options.add_argument('--cases', type=int, default=2000)
+    options.add_argument('--seed', type=int, default=1)
+    args = options.parse_args()
+    rng, planner = random.Random(args.seed), Planner(Library(args.library))
+    cases = []
+    for _ in range(args.cases):
+        lines = cabinet(rng)
+        cases.append((lines, judged_runs(rng, planner, lines)))
+    failed = 0
+    for lines, judged in cases:
+        wrong = differences(after(Oracle(), lines), judged)
+        failed += bool(wrong)
+        for numbers, answer in wrong[:1]:
+            print('DIFFERS: the judge says %d of %r after %r' % (answer, numbers, lines))
+    answers = [answer for _, judged in cases for _, answer in judged]
+    counts = ', '.join('%d times %d' % (answers.count(a), a) for a in sorted(set(answers)))
+    print('%d cabinets, %d proposed runs; answers: %s' % (len(cases), len(answers), counts))
+    for kind in WRONG:
+        told = sum(bool(differences(after(kind(), lines), judged)) for lines, judged in cases[:500])
+        print('%s: told apart in %d of %d cabinets' % (kind.__name__, told, len(cases[:500])))
+        failed += told == 0
+    print('%d passed, %d failed' % (len(cases) + len(WRONG) - failed, failed))
+    return 1 if failed else 0
+
+
+if __name__ == '__main__':
+    sys.exit(main())
