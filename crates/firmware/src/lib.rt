@@ -48,11 +48,8 @@ fn number_of(verdict: Verdict) -> u32
     ensures { λ r. ⌜ r ≡ verdictNumber verdict ⌝ }
 {
     match verdict {
-        Verdict::LimitBroken => 1,
-        Verdict::NoLoads => 4,
-        Verdict::NotThree => 5,
-        Verdict::Yes => 0,
         Verdict::No => NOT_A_RUN,
+        _ => verdict.number() as u32,
     }
 }
 
