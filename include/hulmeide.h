@@ -85,7 +85,8 @@ enum hulmeide_number {
 /* ---- The planner ----
  *
  * Make one with hulmeide_fresh, and change it by lines alone. Its fields may be read. One that was changed otherwise, or that comes from
- * a file, is tested at each call: where it breaks a limit the call is turned away (1).
+ * a file, is tested at each call: where it breaks a limit the call is turned away (1). The padding between the fields means nothing, and a
+ * call may change it.
  */
 
 /* A load rule is (state, mark, stage), a row rule (stage, state, next stage). */
