@@ -1,154 +1,296 @@
-"""The expected report of planner_tests: its scenarios, read as Python, on planners that answer by plain enumeration (oracle.py) and by the table of paper 01."""
-import copy, re, sys
+"""The report that planner_tests has to write, worked out without the product: oracle.py answers the lines, by plain enumeration.
+
+    python3 tests/expected.py < crates/planner_tests/stdin > REPORT
+
+A script is the standard input of planner_tests. Each of its lines is one step, a word and what follows it:
+
+    # TEXT                        a heading
+    fresh                         go on with a fresh planner
+    lent B bytes, C cells, place P    what is lent to the calls that follow
+    told LINE LINE ..             calls that set a planner up; one is reported only if it is refused
+    call LINE LINE ..             calls, each reported, each on the planner that the one before left
+    judge N N ..                  the judge on a run, three numbers for each load
+    vary N N ..                   the judge on this run with other numbers at each place
+    with CHANGE                   three calls and a run for the planner with one change from outside, which is then forgotten
+
+In a LINE `%` and two digits of base 16 stand for a byte, and a `%` by itself for nothing: the line `%` is the empty line.
+"""
+import copy
+import re
+import sys
+
 from oracle import Oracle
-D = sys.argv[1]
-OUT = []
-def emit(s): OUT.append(s)
-def shown(b): return ''.join('/' if x == 10 else '?' if x < 32 or x > 126 else chr(x) for x in b)
 
-class P:
-    def __init__(s):
-        s.S = s.G = 0; s.starts = s.ends = 0
-        s.lr = [(0,0,0)]*32; s.nlr = 0; s.rr = [(0,0,0)]*32; s.nrr = 0
-        s.loads = [(0,0,0)]*64; s.n = 0; s.budget = 0
-    def copy(s): return copy.deepcopy(s)
-    def same(s, o): return s.__dict__ == o.__dict__
-    def keeps(s):
-        S, G = s.S, s.G
-        if (S == 0) != (G == 0) or S > 8 or G > 8: return False
-        if any(s.starts >> (q-1) & 1 for q in range(S+1, 9)) or any(s.ends >> (g-1) & 1 for g in range(G+1, 9)): return False
-        if s.nlr > 32 or s.nrr > 32 or s.n > 64 or s.budget > 500: return False
-        for q, m, g in s.lr[:s.nlr]:
-            if not (1 <= q <= S and m in (0, 1) and 1 <= g <= G): return False
-        for g, q, h in s.rr[:s.nrr]:
-            if not (1 <= g <= G and 1 <= q <= S and 1 <= h <= G): return False
-        for xs in (s.lr[:s.nlr], s.rr[:s.nrr]):
-            if len(set(xs)) != len(xs): return False
-        for k, (p, w, v) in enumerate(s.loads[:s.n], 1):
-            if not ((p == 0 if k == 1 else 1 <= p < k) and w <= 500 and v <= 1000): return False
-        return all(x == (0,0,0) for x in s.lr[s.nlr:] + s.rr[s.nrr:] + s.loads[s.n:])
-    def oracle(s):
-        o = Oracle()
-        o.new_book(s.S, s.G)
-        o.starts = {q for q in range(1, 9) if s.starts >> (q-1) & 1}; o.ends = {q for q in range(1, 9) if s.ends >> (q-1) & 1}
-        o.rules = list(s.lr[:s.nlr]); o.rows = list(s.rr[:s.nrr]); o.loads = list(s.loads[:s.n]); o.budget = s.budget
-        return o
-    @staticmethod
-    def stored(o):
-        s = P()
-        s.S, s.G = o.states, o.stages
-        s.starts = sum(1 << (q-1) for q in o.starts); s.ends = sum(1 << (q-1) for q in o.ends)
-        s.nlr = len(o.rules); s.lr = list(o.rules) + [(0,0,0)]*(32-s.nlr)
-        s.nrr = len(o.rows); s.rr = list(o.rows) + [(0,0,0)]*(32-s.nrr)
-        s.n = len(o.loads); s.loads = list(o.loads) + [(0,0,0)]*(64-s.n); s.budget = o.budget
-        return s
+MAX_RULES = 32
+MAX_LOADS = 64
+FREE_BYTES = 1024
+NONE = (0, 0, 0)  # what an unused place holds
+WORKED_RUN = [1, 2, 0, 1, 2, 1, 1, 2, 1, 1, 1, 1]
+
+
 class Planner:
-    fresh = staticmethod(P)
-class Lent:
-    def __init__(s, bytes, place, cells): s.bytes, s.place, s.cells = bytes, place, cells
-ROOM = Lent(1090, 20, 610)
-def call(p, lent, line, every):
-    zero = 0; q = p; number = 1; text = ''
-    if p.keeps() and lent.place <= lent.bytes and lent.bytes - lent.place >= 1024:
-        o = p.oracle(); need = o.cells()
-        lines = o.answer(line, lent.cells)
-        text = ''.join(x + '/' for x in lines)
-        m = re.match(r'no,(\d+)$', lines[0]); number = int(m.group(1)) if m else 0
-        if lines[0].startswith('plan') or number == 9: zero = need
-        q = P.stored(o)
-        assert number == 0 or q.same(p)
-    if every or number:
-        emit('%s | %d %d %s | output kept, %d cells 0, others kept, tables %s' % (shown(line), number, len(text), text, zero, 'kept' if q.same(p) else 'changed'))
-    return q
-def tried_line(p, lent, line): return call(p, lent, line, True)
-def told_line(p, line): return call(p, ROOM, line, False)
-def tried(p, lent, script):
-    emit('lent %d bytes, %d cells; place %d' % (lent.bytes, lent.cells, lent.place))
-    for l in script.split(b' '): p = call(p, lent, l, True)
-    return p
-def told(p, script):
-    emit('told ' + shown(script))
-    for l in script.split(b' '): p = call(p, ROOM, l, False)
-    return p
-def heading(t): emit('# ' + t.decode())
-W = [1,2,0, 1,2,1, 1,2,1, 1,1,1]
-def verdict(p, run):
-    if not p.keeps(): return '1'
-    if p.n == 0: return '4'
-    if len(run) != 3*p.n: return '5'
-    want = {k+1: tuple(run[3*k:3*k+3]) for k in range(p.n)}
-    return 'yes' if any({k: r[k][1:] for k in r} == want for _, _, r in p.oracle().tree_runs()) else 'no'
-def judged(p, run): emit('judge' + ''.join(' %d' % x for x in run) + ': ' + verdict(p, run))
-def worked_judged(p): judged(p, W)
-def first_judged(p, n): judged(p, (W + [0,0,0])[:n])
-def places_changed(p):
-    for i in range(12):
-        emit('judge of the worked run with 0 to 4 and 4294967295 at place %d:' % i + ''.join(' ' + verdict(p, W[:i] + [v] + W[i+1:]) for v in (0,1,2,3,4,4294967295)))
-def full_loads(p):
-    p = told_line(p, b'load,0,1,1')
-    for _ in range(63): p = told_line(p, b'load,1,0,0')
-    return p
-def full_load_rules(p):
-    for g in (1, 2):
-        for m in (0, 1):
-            for q in range(1, 9): p = told_line(p, b'rule,%d,%d,%d' % (q, m, g))
-    return p
-def full_row_rules(p):
-    for q in range(1, 5):
-        for g in range(1, 9): p = told_line(p, b'row,%d,%d,1' % (g, q))
-    return p
-def upd(f):
-    def g(p, *a):
-        p = p.copy(); f(p, *a); return p
-    return g
-def Marks(x): return x
-@upd
-def with_size(p, s, g): p.S, p.G = s, g
-@upd
-def with_marks(p, s, e): p.starts, p.ends = s, e
-@upd
-def with_load_rule(p, i, r): p.lr[i] = r
-@upd
-def with_row_rule(p, i, r): p.rr[i] = r
-@upd
-def with_load(p, i, r): p.loads[i] = r
-@upd
-def with_budget(p, b): p.budget = b
-@upd
-def with_rule_counts(p, a, b): p.nlr, p.nrr = a, b
-@upd
-def with_load_count(p, n): p.n = n
-def rule(a, b, c): return (a, b, c)
-load = rule
+    """A planner as it is handed in: its places whether they are used or not, and its counts."""
 
-def translate(text):
-    text = re.sub(r'(?m)^\s*//.*\n', '', text); text = re.sub(r'(?m)^\s*(ghost )?use .*\n', '', text); text = re.sub(r'(?m)^mod .*\n', '', text)
-    def lit(m):
-        return 'Lent(' + ', '.join(f if ':' not in f else f.replace(':', '=') for f in (x.strip() for x in m.group(1).split(',')) if f).replace('= ', '=') + ')'
-    def fields(m):
-        parts = [x.strip() for x in m.group(1).split(',') if x.strip()]
-        return 'Lent(' + ', '.join('%s=%s' % ((x, x) if ':' not in x else tuple(y.strip() for y in x.split(':'))) for x in parts) + ')'
-    text = re.sub(r'(?<=[ =])Lent \{([^}]*)\}', fields, text)
-    while True:
-        t = re.sub(r'(?m)^(.*)\(\n\s*(.*?),?\n', r'\1(\2, ', text)
-        if t == text: break
-        text = t
-    text = re.sub(r'(?m), *\n\s*', ', ', text); text = re.sub(r', +\)', ')', text)
-    out = []
-    for line in text.split('\n'):
-        m = re.match(r'\s*(pub )?fn (\w+)\(([^)]*)\)( -> \w+)? \{', line)
-        if m:
-            out.append('def %s(%s):' % (m.group(2), ', '.join(a.split(':')[0] for a in m.group(3).split(',')))); continue
-        if line.startswith('}') or not line.strip(): continue
-        c = re.match(r'const (\w+): Lent = (.*);', line)
-        if c: out.append('%s = %s' % c.groups()); continue
-        s = line.strip(); s = re.sub(r'^let ', '', s); last = not s.endswith(';'); s = s.rstrip(';').replace('::', '.')
-        s = re.sub(r'\b(sessions|refusals|limits|damaged)\.', '', s)
-        out.append('    ' + ('return ' if last else '') + s)
-    return '\n'.join(out) + '\n'
-for f in ('books', 'sessions', 'refusals', 'limits', 'damaged', 'main'):
-    t = open(D + '/' + f + '.rt').read()
-    t = re.sub(r'(?s)fn rule\(.*?\n}\n', '', t); t = re.sub(r'(?s)fn load\(.*?\n}\n', '', t)
-    exec(compile(translate(t), f, 'exec'))
-main()
-sys.stdout.write(''.join(x + '\n' for x in OUT))
+    def __init__(self):
+        self.states = 0
+        self.stages = 0
+        self.starts = 0  # marks: bit 0 is for number 1
+        self.ends = 0
+        self.load_rules = [NONE] * MAX_RULES  # (state, mark, stage)
+        self.row_rules = [NONE] * MAX_RULES  # (stage, state, next stage)
+        self.load_rule_count = 0
+        self.row_rule_count = 0
+        self.loads = [NONE] * MAX_LOADS  # (parent, power, worth)
+        self.load_count = 0
+        self.budget = 0
+
+    def same(self, other):
+        return vars(self) == vars(other)
+
+
+# ---- The limits of "Loads and book"
+
+
+def marks_on(marks):
+    """The numbers 1 to 8 that have a mark."""
+    return {n for n in range(1, 9) if marks >> (n - 1) & 1}
+
+
+def rules_keep(rules, count, firsts, labels, lasts):
+    """Are the rules in use in range and all different, and are the other places 0?"""
+    used = rules[:count]
+    in_range = all(a in firsts and b in labels and c in lasts for a, b, c in used)
+    return count <= MAX_RULES and in_range and len(set(used)) == count and all(r == NONE for r in rules[count:])
+
+
+def load_keeps(number, load):
+    parent, power, worth = load
+    parents = [0] if number == 1 else range(1, number)
+    return parent in parents and power <= 500 and worth <= 1000
+
+
+def loads_keep(loads, count):
+    used = all(load_keeps(k + 1, load) for k, load in enumerate(loads[:count]))
+    return count <= MAX_LOADS and used and all(load == NONE for load in loads[count:])
+
+
+def keeps_limits(p):
+    states = range(1, p.states + 1)
+    stages = range(1, p.stages + 1)
+    return (
+        p.states <= 8
+        and p.stages <= 8
+        and (p.states == 0) == (p.stages == 0)
+        and marks_on(p.starts) <= set(states)
+        and marks_on(p.ends) <= set(stages)
+        and rules_keep(p.load_rules, p.load_rule_count, states, (0, 1), stages)
+        and rules_keep(p.row_rules, p.row_rule_count, stages, states, stages)
+        and loads_keep(p.loads, p.load_count)
+        and p.budget <= 500
+    )
+
+
+# ---- A planner that keeps the limits, and the tables of the oracle
+
+
+def tables_of(p):
+    tables = Oracle()
+    tables.states, tables.stages = p.states, p.stages
+    tables.starts, tables.ends = marks_on(p.starts), marks_on(p.ends)
+    tables.rules = p.load_rules[: p.load_rule_count]
+    tables.rows = p.row_rules[: p.row_rule_count]
+    tables.loads = p.loads[: p.load_count]
+    tables.budget = p.budget
+    return tables
+
+
+def padded(items, length):
+    return items + [NONE] * (length - len(items))
+
+
+def stored(tables):
+    p = Planner()
+    p.states, p.stages = tables.states, tables.stages
+    p.starts = sum(1 << (q - 1) for q in tables.starts)
+    p.ends = sum(1 << (g - 1) for g in tables.ends)
+    p.load_rules, p.load_rule_count = padded(tables.rules, MAX_RULES), len(tables.rules)
+    p.row_rules, p.row_rule_count = padded(tables.rows, MAX_RULES), len(tables.rows)
+    p.loads, p.load_count = padded(tables.loads, MAX_LOADS), len(tables.loads)
+    p.budget = tables.budget
+    return p
+
+
+# ---- A call on a line
+
+
+class Lent:
+    def __init__(self, size, cells, place):
+        self.size = size
+        self.cells = cells
+        self.place = place
+
+    def has_room(self):
+        return self.place <= self.size and self.size - self.place >= FREE_BYTES
+
+
+ROOM = Lent(1090, 610, 20)
+
+
+class Reply:
+    """What a call leaves: the next planner, its number, the lines of its answer, and how many cells of the work are 0."""
+
+    def __init__(self, planner, number, lines, zero_cells):
+        self.planner = planner
+        self.number = number
+        self.lines = lines
+        self.zero_cells = zero_cells
+
+
+def number_of(answer):
+    """The number of a refusal, 0 for any other answer."""
+    refused = re.fullmatch(r'no,([0-9]+)', answer[0])
+    return int(refused.group(1)) if refused else 0
+
+
+def reply(p, lent, line):
+    if not keeps_limits(p) or not lent.has_room():
+        return Reply(p, 1, [], 0)
+    tables = tables_of(p)
+    cells_of_plan = tables.cells()
+    answer = tables.answer(line, lent.cells)
+    number = number_of(answer)
+    planned = answer[0].startswith('plan,') or number == 9
+    return Reply(stored(tables), number, answer, cells_of_plan if planned else 0)
+
+
+def line_of(word):
+    """The line that a word of the script stands for."""
+    bytes_of = re.sub(rb'%([0-9a-f]{2})', lambda digits: bytes([int(digits.group(1), 16)]), word.encode())
+    return b'' if word == '%' else bytes_of
+
+
+def call_report(word, before, r):
+    """One line: the call's line, number, count and answer, and what became of the rest. A line feed is shown as `/`."""
+    text = ''.join(line + '/' for line in r.lines)
+    tables = 'kept' if r.planner.same(before) else 'changed'
+    return '%s | %d %d %s | output kept, %d cells 0, others kept, tables %s' % (
+        word, r.number, len(text), text, r.zero_cells, tables)
+
+
+# ---- The judge
+
+
+def verdict(p, run):
+    """The number of a refusal, or yes exactly if the run is among all runs."""
+    if not keeps_limits(p):
+        return '1'
+    if p.load_count == 0:
+        return '4'
+    if len(run) != 3 * p.load_count:
+        return '5'
+    asked = {k + 1: tuple(run[3 * k : 3 * k + 3]) for k in range(p.load_count)}
+    for _, _, entries in tables_of(p).tree_runs():
+        if {k: entry[1:] for k, entry in entries.items()} == asked:
+            return 'yes'
+    return 'no'
+
+
+# ---- Changes from outside
+
+
+def numbers(text):
+    """The number of each word that begins with a digit."""
+    return [int(n) for n in re.findall(r'(?:^| )([0-9]+)', text)]
+
+
+def changed(p, change):
+    """The planner with one change: a word and numbers, as `marks 7 3`. Places are counted from 0."""
+    q = copy.deepcopy(p)
+    name = change.split(' ')[0]
+    n = numbers(change)
+    if name == 'size':
+        q.states, q.stages = n
+    elif name == 'marks':
+        q.starts, q.ends = n
+    elif name == 'counts':
+        q.load_rule_count, q.row_rule_count, q.load_count = n
+    elif name == 'budget':
+        (q.budget,) = n
+    elif name == 'rule':
+        rules = {1: q.load_rules, 2: q.row_rules}[n[0]]
+        rules[n[1]] = tuple(n[2:])
+    elif name == 'load':
+        q.loads[n[0]] = tuple(n[1:])
+    else:
+        sys.exit('no such change: ' + change)
+    return q
+
+
+# ---- The steps of a script
+
+
+class Script:
+    """The planner that the steps so far left, what is lent to its calls, and the report so far."""
+
+    def __init__(self):
+        self.planner = Planner()
+        self.lent = ROOM
+        self.report = []
+
+    def call(self, p, lent, word, every):
+        """The planner after a call, which is reported if it is refused or every call is."""
+        r = reply(p, lent, line_of(word))
+        if every or r.number != 0:
+            self.report.append(call_report(word, p, r))
+        return r.planner
+
+    def calls(self, lent, words, every):
+        for word in words:
+            self.planner = self.call(self.planner, lent, word, every)
+
+    def judge(self, p, run):
+        self.report.append(' '.join(['judge', *map(str, run)]) + ': ' + verdict(p, run))
+
+    def vary(self, run):
+        for place in range(len(run)):
+            others = [run[:place] + [value] + run[place + 1 :] for value in (0, 1, 2, 3, 4, 4294967295)]
+            verdicts = ' '.join(verdict(self.planner, other) for other in others)
+            self.report.append('0 to 4 and 4294967295 at place %d: %s' % (place, verdicts))
+
+    def handed_in(self, p):
+        for word in ('plan', 'clear', '%'):
+            self.call(p, ROOM, word, True)
+        self.judge(p, WORKED_RUN)
+
+    def step(self, line):
+        """One line of the script. It is in the report too, but for calls and runs, which have their own line there."""
+        word, *rest = line.split(' ')
+        if word not in ('call', 'judge'):
+            self.report.append(line)
+        if word == 'fresh':
+            self.planner = Planner()
+        elif word == 'lent':
+            self.lent = Lent(*numbers(line))
+        elif word == 'told':
+            self.calls(ROOM, rest, False)
+        elif word == 'call':
+            self.calls(self.lent, rest, True)
+        elif word == 'judge':
+            self.judge(self.planner, numbers(line))
+        elif word == 'vary':
+            self.vary(numbers(line))
+        elif word == 'with':
+            self.handed_in(changed(self.planner, ' '.join(rest)))
+        elif word != '#':
+            sys.exit('no such step: ' + line)
+
+
+def main():
+    script = Script()
+    for line in sys.stdin.read().splitlines():
+        script.step(line)
+    print('\n'.join(script.report))
+
+
+if __name__ == '__main__':
+    main()

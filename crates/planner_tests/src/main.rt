@@ -1,19 +1,17 @@
-// The tests of the planner's calls and of its judge. The report is held to the file `stdout`, which was derived from the paper by plain enumeration.
-mod books;
+// The tests of the planner's calls and of its judge. Standard input is a script: each of its lines is one step, which is told in `script`.
+// The report is held to the file `stdout`, which is derived from the same script by plain enumeration.
+mod call;
 mod compare;
 mod damage;
-mod damaged;
-mod full;
-mod limits;
 mod printing;
-mod refusals;
-mod report;
 mod runs;
-mod sessions;
+mod script;
+mod text;
+
+use libc::STDIN_FILENO;
 
 fn main() {
-    sessions::session_tests();
-    refusals::refusal_tests();
-    limits::limit_tests();
-    damaged::damage_tests();
+    let mut input = io::large_buffer();
+    let count = io::read_full(STDIN_FILENO, &mut input);
+    script::follow(&input[..count]);
 }

@@ -1,42 +1,33 @@
 // What the report is written with.
+use crate::text::end_of;
 use libc::STDOUT_FILENO;
-
-// The longest text shown.
-const MOST_SHOWN: usize = 1100;
 
 pub fn print(text: &[u8]) {
     io::write_all(STDOUT_FILENO, text);
 }
 
-pub fn print_number(n: usize) {
+// A text, and a number after it.
+pub fn print_count(text: &[u8], n: usize) {
+    print(text);
     io::print_decimal(STDOUT_FILENO, n as u64);
 }
 
-// A byte as it is shown: `/` for a line feed, and `?` for another byte that has no sign.
-fn shown(byte: u8) -> u8 {
-    if byte == 10 {
-        return b'/';
-    }
-    if (byte < 32) | (126 < byte) {
-        return b'?';
-    }
-    byte
-}
-
-pub fn print_shown(s: &[u8]) {
-    let mut text = [0u8; MOST_SHOWN];
-    let n = s.len();
-    if MOST_SHOWN < n {
-        return;
-    }
-    for i in 0..n {
-        text[i] = shown(s[i]);
-    }
-    print(&text[..n]);
-}
-
-pub fn heading(text: &[u8]) {
-    print(b"# ");
+// A text on a line of its own.
+pub fn print_line(text: &[u8]) {
     print(text);
     print(b"\n");
+}
+
+// An answer on one line: `/` stands for each line feed.
+pub fn print_answer(answer: &[u8]) {
+    let mut at: usize = 0;
+    while at < answer.len() {
+        let end = end_of(answer, at, b'\n');
+        print(&answer[at..end]);
+        if answer.len() <= end {
+            return;
+        }
+        print(b"/");
+        at = end + 1;
+    }
 }

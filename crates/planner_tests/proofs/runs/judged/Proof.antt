@@ -1,15 +1,21 @@
--- `judged` is safe and ends: the measure is what is left of the numbers. Assumes nothing.
+-- `judged` is safe and ends: the figures keep their length, and the measure is what is left of them. Assumes nothing.
 use Prim.Native.Nat.{_≤_, _-_}
 use lib.ListN.{length}
+use mathlib.Core.Path.{_≡_, sym}
+use native.Mathlib.Omega.{arith}
+use lib.Seq.{length-take-le}
 use borrow.Author.Needs.{needs}
 use Rattle.planner_tests.proofs.runs.judged.Statement.{statement}
 use Rattle.planner_tests.proofs.runs.judged.Tie as tie
 
 abbrev Inv-loop : tie.InvT-loop
-Inv-loop p run i₀ t5 t6 i-end i = i ≤ length run
+Inv-loop p run figures₀ items i₀ figures i = (i ≤ 16) × (length figures ≡ 16)
 
 abbrev μ-loop : tie.MeasureT-loop
-μ-loop p run i₀ t5 t6 i-end i = length run - i
+μ-loop p run figures₀ items i₀ figures i = 16 - i
+
+slice-aggregate-print-verdict : tie.Need-slice-aggregate-print-verdict Inv-loop μ-loop
+slice-aggregate-print-verdict c = sym (length-take-le _ _ (omega arith))
 
 pub judged-spec : {M : Type 1} → statement M
 judged-spec =
@@ -18,17 +24,16 @@ judged-spec =
     Inv-loop
     μ-loop
     (λ c. search needs)
-    (λ c κs. search needs)
-    (λ c. search needs)
-    (λ c. search needs)
-    (λ c. search needs)
-    (λ c κs. search needs)
     (λ c. search needs)
     (λ c. search needs)
     (λ c. search needs)
     (λ c. search needs)
-    (λ c κs. search needs)
-    (λ c κs. search needs)
     (λ c. search needs)
+    (λ c. search needs)
+    (λ c. search needs)
+    (λ c. search needs)
+    (λ c. search needs)
+    (λ c. search needs)
+    slice-aggregate-print-verdict
     (λ c κs. search needs)
     (λ c. search needs))

@@ -1,0 +1,106 @@
+// A script: each line is a word that says what is done, and what it is done with.
+use crate::call::Lent;
+use crate::call::ROOM;
+use crate::call::called_on_each;
+use crate::damage::damaged;
+use crate::printing::print;
+use crate::printing::print_line;
+use crate::runs::judged;
+use crate::runs::varied;
+use crate::text::NumberList;
+use crate::text::end_of;
+use crate::text::numbers;
+use crate::text::past;
+use planner::Planner;
+
+// The planner that the lines so far left, and what is lent to its calls.
+struct Test {
+    planner: Planner,
+    lent: Lent,
+}
+
+// `lent 1024 bytes, 496 cells, place 0`: what is lent to the calls that follow.
+fn lent_of(n: NumberList) -> Lent {
+    let items = n.items;
+    Lent {
+        bytes: items[0] as usize,
+        cells: items[1] as usize,
+        place: items[2] as usize,
+    }
+}
+
+// `judge 1 2 0 ..`: the verdict on a run.
+fn judge(p: Planner, line: &[u8]) {
+    print(line);
+    print(b":");
+    judged(p, numbers(line));
+    print(b"\n");
+}
+
+// `with marks 7 3`: lines and a run for the planner with this change, which is then forgotten.
+fn handed_in(p: Planner, change: &[u8]) {
+    let q = damaged(p, change);
+    called_on_each(q, ROOM, b"plan", true);
+    called_on_each(q, ROOM, b"clear", true);
+    called_on_each(q, ROOM, b"%", true);
+    judge(q, b"judge 1 2 0 1 2 1 1 2 1 1 1 1");
+}
+
+// The planner after a step.
+fn planner_after(p: Planner, lent: Lent, letter: u8, rest: &[u8]) -> Planner {
+    match letter {
+        b'c' => called_on_each(p, lent, rest, true),
+        b't' => called_on_each(p, ROOM, rest, false),
+        b'f' => Planner::fresh(),
+        _ => p,
+    }
+}
+
+// What a step reports but for calls.
+fn reported(p: Planner, letter: u8, line: &[u8], rest: &[u8]) {
+    match letter {
+        b'c' => {}
+        b'j' => judge(p, line),
+        _ => print_line(line),
+    }
+    match letter {
+        b'v' => varied(p, numbers(rest)),
+        b'w' => handed_in(p, rest),
+        _ => {}
+    }
+}
+
+fn lent_after(lent: Lent, letter: u8, rest: &[u8]) -> Lent {
+    if letter == b'l' {
+        return lent_of(numbers(rest));
+    }
+    lent
+}
+
+fn obey(t: Test, line: &[u8]) -> Test {
+    if line.len() == 0 {
+        return t;
+    }
+    let letter = line[0];
+    let start = past(line, end_of(line, 0, b' '));
+    reported(t.planner, letter, line, &line[start..]);
+    let planner = planner_after(t.planner, t.lent, letter, &line[start..]);
+    let lent = lent_after(t.lent, letter, &line[start..]);
+    Test { planner, lent }
+}
+
+pub fn follow(script: &[u8]) {
+    let mut test = Test {
+        planner: Planner::fresh(),
+        lent: ROOM,
+    };
+    let mut at: usize = 0;
+    while at < script.len() {
+        let end = end_of(script, at, b'\n');
+        test = obey(test, &script[at..end]);
+        if script.len() <= end {
+            return;
+        }
+        at = end + 1;
+    }
+}
