@@ -10,7 +10,6 @@ A script is the standard input of planner_tests. Each of its lines is one step, 
     told LINE LINE ..             calls that set a planner up; one is reported only if it is refused
     call LINE LINE ..             calls, each reported, each on the planner that the one before left
     judge N N ..                  the judge on a run, three numbers for each load
-    vary N N ..                   the judge on this run with other numbers at each place
     with CHANGE                   three calls and a run for the planner with one change from outside, which is then forgotten
 
 In a LINE `%` and two digits of base 16 stand for a byte, and a `%` by itself for nothing: the line `%` is the empty line.
@@ -251,14 +250,8 @@ class Script:
     def judge(self, p, run):
         self.report.append(' '.join(['judge', *map(str, run)]) + ': ' + verdict(p, run))
 
-    def vary(self, run):
-        for place in range(len(run)):
-            others = [run[:place] + [value] + run[place + 1 :] for value in (0, 1, 2, 3, 4, 4294967295)]
-            verdicts = ' '.join(verdict(self.planner, other) for other in others)
-            self.report.append('0 to 4 and 4294967295 at place %d: %s' % (place, verdicts))
-
     def handed_in(self, p):
-        for word in ('plan', 'clear', '%'):
+        for word in ('plan', '%', 'clear'):
             self.call(p, ROOM, word, True)
         self.judge(p, WORKED_RUN)
 
@@ -277,8 +270,6 @@ class Script:
             self.calls(self.lent, rest, True)
         elif word == 'judge':
             self.judge(self.planner, numbers(line))
-        elif word == 'vary':
-            self.vary(numbers(line))
         elif word == 'with':
             self.handed_in(changed(self.planner, ' '.join(rest)))
         elif word != '#':

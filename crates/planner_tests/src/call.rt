@@ -53,17 +53,6 @@ fn bytes_kept(out: &[u8], from: usize, to: usize) -> bool {
     true
 }
 
-// Do all bytes but those of the answer?
-fn others_kept(out: &[u8], place: usize, count: usize) -> bool {
-    let all = out.len();
-    let start = least(place, all);
-    if all - start < count {
-        return false;
-    }
-    let end = start + count;
-    bytes_kept(out, 0, start) & bytes_kept(out, end, all)
-}
-
 // How many cells at the start are 0?
 fn zero_cells(work: &[u32]) -> usize {
     for i in 0..work.len() {
@@ -93,15 +82,27 @@ fn print_kept(what: &[u8], kept: bool) {
     }
 }
 
+// The word, the number and the count.
+fn print_reply(word: &[u8], number: u8, count: usize) {
+    print(word);
+    print_count(b" | ", number as usize);
+    print_count(b" ", count);
+    print(b" ");
+}
+
 // The answer, and whether the rest of the output is kept.
 fn print_output(out: &[u8], place: usize, count: usize) {
     let all = out.len();
     let start = least(place, all);
-    if count <= all - start {
-        let end = start + count;
-        print_answer(&out[start..end]);
+    if all - start < count {
+        return print(b" | answer past the end");
     }
-    print_kept(b" | output", others_kept(out, place, count));
+    let end = start + count;
+    print_answer(&out[start..end]);
+    print_kept(
+        b" | output",
+        bytes_kept(out, 0, start) & bytes_kept(out, end, all),
+    );
 }
 
 // How many cells are 0, and whether the others are kept.
@@ -109,6 +110,11 @@ fn print_work(work: &[u32]) {
     let zeros = zero_cells(work);
     print_count(b", ", zeros);
     print_kept(b" cells 0, others", cells_kept(work, zeros));
+}
+
+fn print_tables(before: Planner, after: Planner) {
+    print_kept(b", tables", same_tables(before.tables, after.tables));
+    print(b"\n");
 }
 
 // The call on the line that a word stands for.
@@ -133,14 +139,10 @@ fn called(p: Planner, lent: Lent, word: &[u8], every: bool) -> Planner {
     let called = answered(p, lent, word, &mut out, &mut work);
     let next = called.planner;
     if every | (called.number != 0) {
-        print(word);
-        print_count(b" | ", called.number as usize);
-        print_count(b" ", called.count);
-        print(b" ");
+        print_reply(word, called.number, called.count);
         print_output(&out, lent.place, called.count);
         print_work(&work);
-        print_kept(b", tables", same_tables(p.tables, next.tables));
-        print(b"\n");
+        print_tables(p, next);
     }
     next
 }

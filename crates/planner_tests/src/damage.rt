@@ -10,14 +10,6 @@ use tables::rule::Transition;
 use tables::rule::TransitionList;
 use tables::tables::StoredBook;
 
-fn byte(n: u64) -> u8 {
-    (n % 256) as u8
-}
-
-fn figure(n: u64) -> u16 {
-    (n % 65536) as u16
-}
-
 fn with_book(p: Planner, book: StoredBook) -> Planner {
     let mut tables = p.tables;
     tables.book = book;
@@ -25,7 +17,9 @@ fn with_book(p: Planner, book: StoredBook) -> Planner {
 }
 
 // `size S G`: states and stages.
-fn with_size(p: Planner, states: u8, stages: u8) -> Planner {
+fn with_size(p: Planner, n: [u64; MOST_NUMBERS]) -> Planner {
+    let states = (n[0] % 256) as u8;
+    let stages = (n[1] % 256) as u8;
     let mut next = p;
     next.tables.book.states = states;
     next.tables.book.stages = stages;
@@ -33,7 +27,9 @@ fn with_size(p: Planner, states: u8, stages: u8) -> Planner {
 }
 
 // `marks S E`: start states and end stages.
-fn with_marks(p: Planner, starts: Marks, ends: Marks) -> Planner {
+fn with_marks(p: Planner, n: [u64; MOST_NUMBERS]) -> Planner {
+    let starts = Marks((n[0] % 256) as u8);
+    let ends = Marks((n[1] % 256) as u8);
     let mut book = p.tables.book;
     book.starts = starts;
     book.ends = ends;
@@ -41,17 +37,19 @@ fn with_marks(p: Planner, starts: Marks, ends: Marks) -> Planner {
 }
 
 // `counts R S L`: of load rules, row rules and loads.
-fn with_counts(p: Planner, load_rules: usize, row_rules: usize, loads: usize) -> Planner {
+fn with_counts(p: Planner, n: [u64; MOST_NUMBERS]) -> Planner {
     let mut next = p;
-    next.tables.book.load_rules.count = load_rules;
-    next.tables.book.row_rules.count = row_rules;
-    next.tables.loads.count = loads;
+    next.tables.book.load_rules.count = n[0] as usize;
+    next.tables.book.row_rules.count = n[1] as usize;
+    next.tables.loads.count = n[2] as usize;
     next
 }
 
-fn with_budget(p: Planner, budget: u16) -> Planner {
+// `budget B`.
+fn with_budget(p: Planner, n: [u64; MOST_NUMBERS]) -> Planner {
+    let watts = (n[0] % 65536) as u16;
     let mut next = p;
-    next.tables.budget = budget;
+    next.tables.budget = watts;
     next
 }
 
@@ -65,9 +63,15 @@ fn list_with(list: TransitionList, place: usize, rule: Transition) -> Transition
 }
 
 // `rule of sort 1 at place I: A B C`: a load rule, or of sort 2 a row rule.
-fn with_rule(p: Planner, sort: u64, place: usize, rule: Transition) -> Planner {
+fn with_rule(p: Planner, n: [u64; MOST_NUMBERS]) -> Planner {
+    let rule = Transition {
+        from: (n[2] % 256) as u8,
+        label: (n[3] % 256) as u8,
+        to: (n[4] % 256) as u8,
+    };
+    let place = n[1] as usize;
     let mut book = p.tables.book;
-    if sort == 1 {
+    if n[0] == 1 {
         book.load_rules = list_with(book.load_rules, place, rule);
     } else {
         book.row_rules = list_with(book.row_rules, place, rule);
@@ -76,10 +80,16 @@ fn with_rule(p: Planner, sort: u64, place: usize, rule: Transition) -> Planner {
 }
 
 // `load at place I: P W V`: parent, power and worth.
-fn with_load(p: Planner, place: usize, load: Load) -> Planner {
+fn with_load(p: Planner, n: [u64; MOST_NUMBERS]) -> Planner {
+    let place = n[0] as usize;
     if MAX_LOADS <= place {
         return p;
     }
+    let load = Load {
+        parent: (n[1] % 256) as u8,
+        power: (n[2] % 65536) as u16,
+        worth: (n[3] % 65536) as u16,
+    };
     let mut tables = p.tables;
     let mut loads = tables.loads;
     loads.items[place] = load;
@@ -87,39 +97,20 @@ fn with_load(p: Planner, place: usize, load: Load) -> Planner {
     Planner { tables }
 }
 
-fn rule(from: u64, label: u64, to: u64) -> Transition {
-    Transition {
-        from: byte(from),
-        label: byte(label),
-        to: byte(to),
-    }
-}
-
-fn load(parent: u64, power: u64, worth: u64) -> Load {
-    Load {
-        parent: byte(parent),
-        power: figure(power),
-        worth: figure(worth),
-    }
-}
-
-fn with(p: Planner, letter: u8, n: [u64; MOST_NUMBERS]) -> Planner {
-    match letter {
-        b's' => with_size(p, byte(n[0]), byte(n[1])),
-        b'm' => with_marks(p, Marks(byte(n[0])), Marks(byte(n[1]))),
-        b'c' => with_counts(p, n[0] as usize, n[1] as usize, n[2] as usize),
-        b'b' => with_budget(p, figure(n[0])),
-        b'r' => with_rule(p, n[0], n[1] as usize, rule(n[2], n[3], n[4])),
-        b'l' => with_load(p, n[0] as usize, load(n[1], n[2], n[3])),
-        _ => p,
-    }
-}
-
 pub fn damaged(p: Planner, change: &[u8]) -> Planner {
     if change.len() == 0 {
         return p;
     }
+    let letter = change[0];
     let found = numbers(change);
-    let items = found.items;
-    with(p, change[0], items)
+    let n = found.items;
+    match letter {
+        b's' => with_size(p, n),
+        b'm' => with_marks(p, n),
+        b'c' => with_counts(p, n),
+        b'b' => with_budget(p, n),
+        b'r' => with_rule(p, n),
+        b'l' => with_load(p, n),
+        _ => p,
+    }
 }

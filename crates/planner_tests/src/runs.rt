@@ -30,31 +30,3 @@ pub fn judged(p: Planner, run: NumberList) {
     }
     print_verdict(p, &figures[..count]);
 }
-
-// The verdict with another number at one place.
-fn changed_judged(p: Planner, run: NumberList, place: usize, value: u64) {
-    let mut other = run;
-    if MOST_NUMBERS <= place {
-        return;
-    }
-    other.items[place] = value;
-    judged(p, other);
-}
-
-// The verdicts with 0 to 4 and with the greatest number at one place.
-fn place_varied(p: Planner, run: NumberList, place: usize) {
-    print_count(b"0 to 4 and 4294967295 at place ", place);
-    print(b":");
-    for value in 0..5 {
-        changed_judged(p, run, place, value);
-    }
-    changed_judged(p, run, place, 4294967295);
-    print(b"\n");
-}
-
-// The same at every place.
-pub fn varied(p: Planner, run: NumberList) {
-    for place in 0..run.count {
-        place_varied(p, run, place);
-    }
-}

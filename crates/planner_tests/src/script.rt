@@ -6,8 +6,6 @@ use crate::damage::damaged;
 use crate::printing::print;
 use crate::printing::print_line;
 use crate::runs::judged;
-use crate::runs::varied;
-use crate::text::NumberList;
 use crate::text::end_of;
 use crate::text::numbers;
 use crate::text::past;
@@ -19,16 +17,6 @@ struct Test {
     lent: Lent,
 }
 
-// `lent 1024 bytes, 496 cells, place 0`: what is lent to the calls that follow.
-fn lent_of(n: NumberList) -> Lent {
-    let items = n.items;
-    Lent {
-        bytes: items[0] as usize,
-        cells: items[1] as usize,
-        place: items[2] as usize,
-    }
-}
-
 // `judge 1 2 0 ..`: the verdict on a run.
 fn judge(p: Planner, line: &[u8]) {
     print(line);
@@ -37,12 +25,10 @@ fn judge(p: Planner, line: &[u8]) {
     print(b"\n");
 }
 
-// `with marks 7 3`: lines and a run for the planner with this change, which is then forgotten.
+// `with marks 7 3`: calls and a run for the planner with this change, which is then forgotten.
 fn handed_in(p: Planner, change: &[u8]) {
     let q = damaged(p, change);
-    called_on_each(q, ROOM, b"plan", true);
-    called_on_each(q, ROOM, b"clear", true);
-    called_on_each(q, ROOM, b"%", true);
+    called_on_each(q, ROOM, b"plan % clear", true);
     judge(q, b"judge 1 2 0 1 2 1 1 2 1 1 1 1");
 }
 
@@ -63,18 +49,23 @@ fn reported(p: Planner, letter: u8, line: &[u8], rest: &[u8]) {
         b'j' => judge(p, line),
         _ => print_line(line),
     }
-    match letter {
-        b'v' => varied(p, numbers(rest)),
-        b'w' => handed_in(p, rest),
-        _ => {}
+    if letter == b'w' {
+        handed_in(p, rest);
     }
 }
 
+// What is lent after a step.
 fn lent_after(lent: Lent, letter: u8, rest: &[u8]) -> Lent {
-    if letter == b'l' {
-        return lent_of(numbers(rest));
+    if letter != b'l' {
+        return lent;
     }
-    lent
+    let found = numbers(rest);
+    let n = found.items;
+    Lent {
+        bytes: n[0] as usize,
+        cells: n[1] as usize,
+        place: n[2] as usize,
+    }
 }
 
 fn obey(t: Test, line: &[u8]) -> Test {

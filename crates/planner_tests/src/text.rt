@@ -53,7 +53,7 @@ fn number(word: &[u8]) -> u64 {
     let mut value: u64 = 0;
     for i in 0..word.len() {
         let byte = word[i];
-        if (byte < 48) | (57 < byte) {
+        if !is_digit(byte) {
             return value;
         }
         let digit = (byte % 16) as u64;
