@@ -4,19 +4,32 @@
 
 A script is the standard input of planner_tests. Each of its lines is one step, a word and what follows it:
 
-    # TEXT                        a heading
-    fresh                         go on with a fresh planner
+    # TEXT                            a heading
+    fresh                             go on with a fresh planner
     lent B bytes, C cells, place P    what is lent to the calls that follow
-    told LINE LINE ..             calls that set a planner up; one is reported only if it is refused
-    call LINE LINE ..             calls, each reported, each on the planner that the one before left
-    judge N N ..                  the judge on a run, three numbers for each load
-    with CHANGE                   three calls and a run for the planner with one change from outside, which is then forgotten
+    told LINE LINE ..                 calls that set a planner up; only one that is refused is reported
+    call LINE LINE ..                 calls, each reported; each is on the planner that the one before left
+    judge N N ..                      a run for the judge, three numbers for each load
+    with CHANGE                       three calls and a run for the planner with one change from outside, which is then forgotten
 
-In a LINE `%` and two digits of base 16 stand for a byte, and a `%` by itself for nothing: the line `%` is the empty line.
+In a LINE `%` and two digits of base 16 stand for a byte; the LINE `%` is the empty line. A CHANGE is one of these, with places counted from 0:
+
+    size STATES STAGES                marks STARTS ENDS (the numbers that hold the marks)
+    budget WATTS                      counts LOAD-RULES ROW-RULES LOADS
+    rule of sort 1 at place I: STATE MARK STAGE      rule of sort 2 at place I: STAGE STATE NEXT
+    load at place I: PARENT POWER WORTH
+
+The report has every step but `call` and `judge` as it stands. A call is one line of it:
+
+    LINE | NUMBER COUNT ANSWER | output kept, Z cells 0, others kept, tables kept
+
+with `/` for each line feed of the answer. Before each call output and work are full of rubbish. Kept are the output's bytes but for the
+answer and the work's cells but for the first Z, which are 0; the tables are kept or changed. A run is one line too, `judge N N ..: VERDICT`.
 """
 import copy
 import re
 import sys
+from urllib.parse import unquote_to_bytes
 
 from oracle import Oracle
 
@@ -164,12 +177,11 @@ def reply(p, lent, line):
 
 def line_of(word):
     """The line that a word of the script stands for."""
-    bytes_of = re.sub(rb'%([0-9a-f]{2})', lambda digits: bytes([int(digits.group(1), 16)]), word.encode())
-    return b'' if word == '%' else bytes_of
+    return b'' if word == '%' else unquote_to_bytes(word)
 
 
 def call_report(word, before, r):
-    """One line: the call's line, number, count and answer, and what became of the rest. A line feed is shown as `/`."""
+    """The line of the report on a call."""
     text = ''.join(line + '/' for line in r.lines)
     tables = 'kept' if r.planner.same(before) else 'changed'
     return '%s | %d %d %s | output kept, %d cells 0, others kept, tables %s' % (
@@ -256,7 +268,7 @@ class Script:
         self.judge(p, WORKED_RUN)
 
     def step(self, line):
-        """One line of the script. It is in the report too, but for calls and runs, which have their own line there."""
+        """One line of the script."""
         word, *rest = line.split(' ')
         if word not in ('call', 'judge'):
             self.report.append(line)

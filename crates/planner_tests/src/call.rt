@@ -1,5 +1,5 @@
-// A call on a line, and one line of report: the line, its number, count and answer, and what became of the rest of the output, of the work and
-// of the tables.
+// A call on a line, and one line of report: the line, its number, count and answer, and what became of the rest of the output, of the work
+// and of the tables.
 use crate::compare::same_tables;
 use crate::printing::print;
 use crate::printing::print_answer;
@@ -15,7 +15,7 @@ const RUBBISH_BYTE: u8 = 170;
 
 const RUBBISH_CELL: u32 = 2863311530;
 
-// The lengths of output and work, of which a part is lent.
+// The lengths of output and work, of which a part is lent: a script can lend no more.
 const ALL_BYTES: usize = 1100;
 
 const ALL_CELLS: usize = 620;

@@ -1,4 +1,4 @@
-// Planners with a change from outside. A change is a word and numbers, as `marks 7 3`; the word's first letter tells it from the others.
+// Planners with a change from outside. A change is a word and numbers, as `marks 7 3`; the first letter of its word tells it from the others.
 use crate::text::MOST_NUMBERS;
 use crate::text::numbers;
 use marks::Marks;
@@ -45,7 +45,7 @@ fn with_counts(p: Planner, n: [u64; MOST_NUMBERS]) -> Planner {
     next
 }
 
-// `budget B`.
+// `budget B`: the watts.
 fn with_budget(p: Planner, n: [u64; MOST_NUMBERS]) -> Planner {
     let watts = (n[0] % 65536) as u16;
     let mut next = p;
@@ -97,6 +97,7 @@ fn with_load(p: Planner, n: [u64; MOST_NUMBERS]) -> Planner {
     Planner { tables }
 }
 
+// The planner with this change.
 pub fn damaged(p: Planner, change: &[u8]) -> Planner {
     if change.len() == 0 {
         return p;

@@ -1,5 +1,5 @@
-// The tests of the planner's calls and of its judge. Standard input is a script: each of its lines is one step, which is told in `script`.
-// The report is held to the file `stdout`, which is derived from the same script by plain enumeration.
+// The tests of the planner's calls and of its judge. Standard input is the script of the tests; what is written is the report on them.
+// The report is held to the file `stdout`, which tests/expected.py derives from the same script by plain enumeration.
 mod call;
 mod compare;
 mod damage;

@@ -1,4 +1,4 @@
-// A script: each line is a word that says what is done, and what it is done with.
+// A script: each line is one step. The head of tests/expected.py lists the steps; the first letter of its word tells a step from the others.
 use crate::call::Lent;
 use crate::call::ROOM;
 use crate::call::called_on_each;
@@ -11,7 +11,7 @@ use crate::text::numbers;
 use crate::text::past;
 use planner::Planner;
 
-// The planner that the lines so far left, and what is lent to its calls.
+// The planner that the steps so far left, and what is lent to its calls.
 struct Test {
     planner: Planner,
     lent: Lent,
@@ -32,7 +32,7 @@ fn handed_in(p: Planner, change: &[u8]) {
     judge(q, b"judge 1 2 0 1 2 1 1 2 1 1 1 1");
 }
 
-// The planner after a step.
+// The planner after a step: `call`, `told` and `fresh` give another.
 fn planner_after(p: Planner, lent: Lent, letter: u8, rest: &[u8]) -> Planner {
     match letter {
         b'c' => called_on_each(p, lent, rest, true),
@@ -42,7 +42,7 @@ fn planner_after(p: Planner, lent: Lent, letter: u8, rest: &[u8]) -> Planner {
     }
 }
 
-// What a step reports but for calls.
+// What a step reports but for calls: the step itself, and what `judge` and `with` find.
 fn reported(p: Planner, letter: u8, line: &[u8], rest: &[u8]) {
     match letter {
         b'c' => {}
@@ -54,7 +54,7 @@ fn reported(p: Planner, letter: u8, line: &[u8], rest: &[u8]) {
     }
 }
 
-// What is lent after a step.
+// What is lent after a step, as `lent 1024 bytes, 496 cells, place 0`.
 fn lent_after(lent: Lent, letter: u8, rest: &[u8]) -> Lent {
     if letter != b'l' {
         return lent;
@@ -68,6 +68,7 @@ fn lent_after(lent: Lent, letter: u8, rest: &[u8]) -> Lent {
     }
 }
 
+// One step.
 fn obey(t: Test, line: &[u8]) -> Test {
     if line.len() == 0 {
         return t;
@@ -80,6 +81,7 @@ fn obey(t: Test, line: &[u8]) -> Test {
     Test { planner, lent }
 }
 
+// Every step of a script, from a fresh planner on.
 pub fn follow(script: &[u8]) {
     let mut test = Test {
         planner: Planner::fresh(),
