@@ -28,5 +28,5 @@ pub fn judged(p: Planner, run: NumberList) {
     if MOST_NUMBERS < count {
         return;
     }
-    print_verdict(p, &figures[..count]);
+    print_verdict(p, &figures[0..count]);
 }

@@ -2,8 +2,8 @@
 ghost use Prim.Native.Nat.{_≤_};
 ghost use lib.ListN.{length};
 
-// The most numbers that a line of the script has.
-pub const MOST_NUMBERS: usize = 16;
+// The most numbers that a step has: those of a run of eight loads.
+pub const MOST_NUMBERS: usize = 24;
 
 // The longest line that a word stands for.
 const MOST_LINE: usize = 128;

@@ -1,21 +1,16 @@
 -- `judged` is safe and ends: the figures keep their length, and the measure is what is left of them. Assumes nothing.
 use Prim.Native.Nat.{_≤_, _-_}
+use mathlib.Core.Path.{_≡_}
 use lib.ListN.{length}
-use mathlib.Core.Path.{_≡_, sym}
-use native.Mathlib.Omega.{arith}
-use lib.Seq.{length-take-le}
 use borrow.Author.Needs.{needs}
 use Rattle.planner_tests.proofs.runs.judged.Statement.{statement}
 use Rattle.planner_tests.proofs.runs.judged.Tie as tie
 
 abbrev Inv-loop : tie.InvT-loop
-Inv-loop p run figures₀ items i₀ figures i = (i ≤ 16) × (length figures ≡ 16)
+Inv-loop p run figures₀ items i₀ figures i = (i ≤ 24) × (length figures ≡ 24)
 
 abbrev μ-loop : tie.MeasureT-loop
-μ-loop p run figures₀ items i₀ figures i = 16 - i
-
-slice-aggregate-print-verdict : tie.Need-slice-aggregate-print-verdict Inv-loop μ-loop
-slice-aggregate-print-verdict c = sym (length-take-le _ _ (omega arith))
+μ-loop p run figures₀ items i₀ figures i = 24 - i
 
 pub judged-spec : {M : Type 1} → statement M
 judged-spec =
@@ -34,6 +29,7 @@ judged-spec =
     (λ c. search needs)
     (λ c. search needs)
     (λ c. search needs)
-    slice-aggregate-print-verdict
+    (λ c. search needs)
+    (λ c. search needs)
     (λ c κs. search needs)
     (λ c. search needs))
