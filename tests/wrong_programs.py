@@ -1,7 +1,8 @@
 """Wrong programs that the contracts shut out.
 
 An edit of crates/NAME/must-fail or crates/NAME/wrong makes a wrong program of the crate. Its line
-'refused: FUNCTION NEED' says what must fail: the proof of that function alone, at that need. An edit of
+'refused: FUNCTION NEED' says what must fail: the proof of that function alone, at that need. (Functions
+that call each other are proved together: all of them, parted by commas, stand for one.) An edit of
 a definition has the line 'refused: law NAME', for a law or a need that no longer holds. `rt ci` refuses
 the edits of must-fail from nothing; here all of them run on what is already checked, which takes
 seconds, and the reason is compared too. Of every public function of a library two wrong programs at
@@ -150,7 +151,7 @@ def fault_in(edit, status, report):
         return "the proof no longer fits: " + misfit[:200]
     function, _, need = edit.refused.partition(" ")
     wrong = re.findall(r"^fn (\S+): (?!proved|not proved; it calls)", report, re.M)
-    if function != "law" and wrong != [function]:
+    if function != "law" and wrong != function.split(","):
         return f"not proved by itself: {wrong}, failed: {sorted(failed_needs(report))}"
     if need not in failed_needs(report):
         return f"failed: {sorted(failed_needs(report))}"
