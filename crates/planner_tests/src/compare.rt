@@ -4,15 +4,20 @@ use tables::load::Load;
 use tables::load::LoadList;
 use tables::load::MAX_LOADS;
 use tables::rule::MAX_RULES;
+use tables::rule::Transition;
 use tables::rule::TransitionList;
 use tables::tables::StoredBook;
 use tables::tables::StoredTables;
+
+fn same_rule(a: Transition, b: Transition) -> bool {
+    (a.from == b.from) & (a.label == b.label) & (a.to == b.to)
+}
 
 fn same_rules(a: TransitionList, b: TransitionList) -> bool {
     for i in 0..MAX_RULES {
         let t = a.items[i];
         let u = b.items[i];
-        if !t.same(u) {
+        if !same_rule(t, u) {
             return false;
         }
     }
