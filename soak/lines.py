@@ -1,0 +1,170 @@
+"""Random lines, valid and damaged, for the tables in force.
+
+The weights of the words change from season to season, so that lists run full, books are replaced, and plans are asked for.
+"""
+from model import RANGES
+
+SEASON = 150  # lines
+SEASONS = (
+    {b'load': 30, b'power': 2, b'worth': 2, b'budget': 1, b'plan': 2, b'check': 2},
+    {b'start': 2, b'end': 2, b'rule': 20, b'row': 20, b'load': 3, b'plan': 2, b'check': 2},
+    {b'start': 1, b'end': 1, b'rule': 5, b'row': 5, b'load': 2, b'power': 5, b'worth': 5, b'budget': 5, b'plan': 8, b'check': 5},
+    {b'book': 1, b'start': 6, b'end': 6, b'rule': 8, b'row': 8, b'load': 1, b'budget': 2, b'plan': 2, b'check': 2},
+    {word: 1 for word in (*RANGES, b'check')},
+)
+OTHER_WORDS = (b'', b'Plan', b'plans', b'pla', b'save', b'drop', b'last', b'need', b'rules', b'check1', b'cler', b'0', b'no', b'ok')
+STRAY = bytes((0, 1, 9, 11, 13, 32, 34, 43, 44, 45, 46, 47, 48, 49, 57, 58, 65, 97, 127, 128, 255))
+LONG = (79, 80, 81, 82, 100, 1024, 1025, 4095, 4096, 4097, 9000)
+
+
+# ---- lines that are in form
+
+def at_an_edge(rng, low, high):
+    """A value at an end of its range, just past it, or far from it."""
+    return max(0, rng.choice((low, high, low - 1, high + 1, high + 1, 0, 1, 9, 64, 65, 500, 1001, 9999, 10000, 99999)))
+
+
+def budget(rng, model):
+    """A budget: any; a small one, for which there are cells; or the last or first for which there are or are not."""
+    each = max(1, len(model.loads) * (model.states + model.stages))
+    last = model.cells_lent // each - 1
+    kind = rng.randrange(4)
+    if kind == 0:
+        return rng.randint(0, model.most_budget)
+    if kind == 1:
+        return rng.randint(0, 12)
+    return max(0, last + kind - 2)
+
+
+def bits(rng, model):
+    """Bits for the loads, or a few more or fewer."""
+    count = len(model.loads) if rng.random() < 0.9 else rng.choice((1, len(model.loads) - 1, len(model.loads) + 1, 73, 74, 75))
+    return bytes(rng.choices(b'01', k=max(1, count)))
+
+
+def values(rng, model, word):
+    """Values for the fields of a word: in their ranges, now and then at an edge, now and then those of a rule that is there."""
+    there = {b'rule': model.rules, b'row': model.rows}.get(word)
+    if there and rng.random() < 0.1:
+        return rng.choice(there)
+    if word == b'budget' and rng.random() < 0.6:
+        return [budget(rng, model)]
+    ranges = RANGES[word](model)
+    found = [rng.randint(low, max(low, high)) for low, high in ranges]
+    if ranges and rng.random() < 0.2:
+        field = rng.randrange(len(ranges))
+        found[field] = at_an_edge(rng, *ranges[field])
+    return found
+
+
+def line_of(rng, model, word):
+    """A line that is in form."""
+    if word == b'check':
+        return b'check,' + bits(rng, model)
+    return b','.join([word] + [b'%d' % value for value in values(rng, model, word)])
+
+
+# ---- damage to a line
+
+def byte_changed(rng, line):
+    at = rng.randrange(len(line))
+    return line[:at] + bytes((rng.choice(STRAY),)) + line[at + 1:]
+
+
+def byte_added(rng, line):
+    at = rng.choice((0, len(line), rng.randint(0, len(line))))
+    return line[:at] + bytes((rng.choice(STRAY),)) + line[at:]
+
+
+def byte_left_out(rng, line):
+    at = rng.randrange(len(line))
+    return line[:at] + line[at + 1:]
+
+
+def carriage_return(rng, line):
+    return line + b'\r'
+
+
+def field_changed(rng, line):
+    """A field with leading zeros, with too many digits, with a sign or a blank, or empty."""
+    parts = line.split(b',')
+    at = rng.randint(min(1, len(parts) - 1), len(parts) - 1)
+    field = parts[at]
+    six_digits = b'1' + field.zfill(5)
+    parts[at] = rng.choice((b'', b'0' + field, b'00' + field, six_digits, b'100000', b'+' + field, b'-' + field, b' ' + field, field + b' '))
+    return b','.join(parts)
+
+
+def fields_changed(rng, line):
+    """A field too many or too few."""
+    return rng.choice((line + b',', line + b',0', line + b',1,1', line.rpartition(b',')[0], b',' + line))
+
+
+def other_word(rng, line):
+    comma = line.find(b',')
+    return rng.choice(OTHER_WORDS) + (line[comma:] if comma >= 0 else b'')
+
+
+def capitals(rng, line):
+    return rng.choice((line.upper(), line.capitalize()))
+
+
+def made_long(rng, line):
+    """The line filled up to a length at or past the limit, in form or not."""
+    length = rng.choice(LONG)
+    filling = rng.choice((b'0', b'1', b',', b' ', b'x', b'\0'))
+    return rng.choice((line, b'check,', b'budget,')).ljust(length, filling)
+
+
+def noise(rng, line):
+    return bytes(rng.choices(STRAY, k=rng.choice((0, 0, 1, 2, 5, 12, 80, 81))))
+
+
+DAMAGE = (
+    byte_changed, byte_added, byte_left_out, carriage_return, field_changed, field_changed, fields_changed,
+    other_word, capitals, made_long, noise,
+)
+
+
+# ---- the lines of a session
+
+def book_lines(rng):
+    """A new book, often the largest, and often one whose states and stages are all marked."""
+    states, stages = rng.choice(((8, 8), (rng.randint(1, 8), rng.randint(1, 8)), (rng.randint(1, 3), rng.randint(1, 3))))
+    lines = [b'book,%d,%d' % (states, stages)]
+    if rng.random() < 0.5:
+        lines += [b'start,%d' % state for state in range(1, states + 1)]
+        lines += [b'end,%d' % stage for stage in range(1, stages + 1)]
+    return lines
+
+
+def first_lines(rng, model):
+    """How a season begins: now and then with a fresh planner; now and then with a new book, most often where there is none."""
+    lines = [b'clear'] if rng.random() < 0.25 else []
+    if rng.random() < (0.8 if lines or model.states == 0 else 0.3):
+        lines += book_lines(rng)
+    return lines
+
+
+def season(rng, model):
+    """The lines of a season. The model takes each, so that the next one is written for the tables in force."""
+    weights = rng.choice(SEASONS)
+    words, shares = list(weights), list(weights.values())
+    lines = first_lines(rng, model)
+    for line in lines:
+        model.take(line)
+    while len(lines) < SEASON:
+        line = line_of(rng, model, rng.choices(words, shares)[0])
+        if rng.random() < 0.2:
+            line = rng.choice(DAMAGE)(rng, line)
+        model.take(line)
+        lines.append(line)
+    return lines
+
+
+def session(rng, model, count):
+    """Lines for a program that starts fresh."""
+    lines = []
+    while len(lines) < count:
+        lines += season(rng, model)
+    return lines[:count]

@@ -1,0 +1,168 @@
+"""A plain model of the planner's tables, straight from paper 01: what each line changes, and the refusals that the tables settle.
+
+It does no planning and shares no code with the product, nor with tests/oracle.py.
+The limits and the steps that wrong.py gets wrong on purpose are attributes and methods of their own.
+"""
+
+
+class Model:
+    """The tables, and what a line does to them."""
+
+    most_bytes = 80
+    most_digits = 5
+    most_states = 8
+    most_stages = 8
+    most_mark = 1
+    most_loads = 64
+    most_rules = 32
+    most_power = 500
+    most_worth = 1000
+    most_budget = 500
+    cells_lent = 16384
+
+    def __init__(self):
+        self.clear()
+
+    # ---- "A fresh planner has 0 states and stages, no rules, no loads and budget 0"
+
+    def clear(self):
+        self.loads = []  # Load k is [parent, power, worth] at place k - 1.
+        self.budget = 0
+        self.book(0, 0)
+
+    def book(self, states, stages):
+        self.states = states
+        self.stages = stages
+        self.starts = set()
+        self.ends = set()
+        self.rules = []
+        self.rows = []
+
+    # ---- "Lines": the form of a line
+
+    def number(self, field):
+        """The value of a field that is a number, or None."""
+        if not 1 <= len(field) <= self.most_digits:
+            return None
+        if field[0] == ord('0') and len(field) > 1:
+            return None
+        value = 0
+        for byte in field:
+            if not ord('0') <= byte <= ord('9'):
+                return None
+            value = 10 * value + byte - ord('0')
+        return value
+
+    def bits(self, field):
+        """The marks of a field of bits, or None."""
+        if not field or field.strip(b'01'):
+            return None
+        return [byte - ord('0') for byte in field]
+
+    def read(self, line):
+        """The word and its values, or None for a line that is no command of the table or breaks its form."""
+        word, *fields = line.split(b',')
+        if word == b'check':
+            values = self.bits(fields[0]) if len(fields) == 1 else None
+            return None if values is None else (word, values)
+        if word not in RANGES or len(fields) != len(RANGES[word](self)):
+            return None
+        values = [self.number(field) for field in fields]
+        return None if None in values else (word, values)
+
+    # ---- "Causes and numbers", from 4 to 8
+
+    def in_range(self, word, values):
+        if word == b'check':
+            return len(values) == len(self.loads)
+        return all(low <= value <= high for value, (low, high) in zip(values, RANGES[word](self)))
+
+    def full(self, word):
+        if word == b'load':
+            return len(self.loads) >= self.most_loads
+        if word == b'rule':
+            return len(self.rules) >= self.most_rules
+        return word == b'row' and len(self.rows) >= self.most_rules
+
+    def known(self, word, values):
+        if word == b'rule':
+            return values in self.rules
+        return word == b'row' and values in self.rows
+
+    def cells(self):
+        return len(self.loads) * (self.states + self.stages) * (self.budget + 1)
+
+    def cause(self, word, values):
+        """The lowest number from 4 to 8 that applies, or 0."""
+        if word in (b'plan', b'check') and not self.loads:
+            return 4
+        if not self.in_range(word, values):
+            return 5
+        if self.full(word):
+            return 6
+        if self.known(word, values):
+            return 7
+        if word == b'plan' and self.cells() > self.cells_lent:
+            return 8
+        return 0
+
+    # ---- "Lines": the effect of an accepted line
+
+    def start(self, state):
+        self.starts.add(state)
+
+    def end(self, stage):
+        self.ends.add(stage)
+
+    def rule(self, *rule):
+        self.rules.append(list(rule))
+
+    def row(self, *rule):
+        self.rows.append(list(rule))
+
+    def load(self, *figures):
+        self.loads.append(list(figures))
+
+    def power(self, k, watts):
+        self.loads[k - 1][1] = watts
+
+    def worth(self, k, value):
+        self.loads[k - 1][2] = value
+
+    def set_budget(self, watts):
+        self.budget = watts
+
+    def take(self, line):
+        """Takes a line: the number that the tables settle, the word and its values. An accepted change is made."""
+        if len(line) > self.most_bytes:
+            return 2, None, None
+        command = self.read(line)
+        if command is None:
+            return 3, None, None
+        word, values = command
+        number = self.cause(word, values)
+        if number == 0 and word in EFFECTS:
+            getattr(self, EFFECTS[word])(*values)
+        return number, word, values
+
+
+# The least and the greatest value of each field of a line, given the tables.
+RANGES = {
+    b'clear': lambda t: (),
+    b'book': lambda t: ((1, t.most_states), (1, t.most_stages)),
+    b'start': lambda t: ((1, t.states),),
+    b'end': lambda t: ((1, t.stages),),
+    b'rule': lambda t: ((1, t.states), (0, t.most_mark), (1, t.stages)),
+    b'row': lambda t: ((1, t.stages), (1, t.states), (1, t.stages)),
+    b'load': lambda t: ((min(1, len(t.loads)), len(t.loads)), (0, t.most_power), (0, t.most_worth)),
+    b'power': lambda t: ((1, len(t.loads)), (0, t.most_power)),
+    b'worth': lambda t: ((1, len(t.loads)), (0, t.most_worth)),
+    b'budget': lambda t: ((0, t.most_budget),),
+    b'plan': lambda t: (),
+}
+
+# The method that makes each change; `plan` and `check` change nothing.
+EFFECTS = {
+    b'clear': 'clear', b'book': 'book', b'start': 'start', b'end': 'end', b'rule': 'rule', b'row': 'row',
+    b'load': 'load', b'power': 'power', b'worth': 'worth', b'budget': 'set_budget',
+}

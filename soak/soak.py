@@ -1,0 +1,124 @@
+#!/usr/bin/env python3
+"""The line program against a plain model of its tables, on random lines, valid and damaged. There is no planning in it.
+
+  soak.py PROGRAM [--lines N] [--seed S] [--wrong NAME]
+
+Every answer to a change and every refusal from 2 to 8 is compared. Of a plan or a check that the tables do not refuse, the answer must be
+9 or 10, or a run of the set it shows, line for line (shown.py). Every number that a word can be answered with must come up.
+Then the same lines are given to models that are wrong on purpose (wrong.py), and each must be told apart from the program.
+With --wrong NAME the wrong model takes the right one's place, and the run is to fail.
+The last line is 'N passed, M failed': sessions, kinds of answers, wrong models.
+"""
+import argparse
+import random
+import subprocess
+import sys
+import time
+from collections import Counter
+
+import lines
+import shown
+from model import EFFECTS, Model
+from wrong import WRONG
+
+SESSION = 1000  # lines given to one process
+KEPT = 20  # sessions that the wrong models are given
+
+# The numbers that each word can be answered with, 0 for accepted. A line with no word that counts is answered with 2 or 3.
+KINDS = {
+    b'clear': (0,), b'book': (0, 5), b'start': (0, 5), b'end': (0, 5), b'rule': (0, 5, 6, 7), b'row': (0, 5, 6, 7), b'load': (0, 5, 6),
+    b'power': (0, 5), b'worth': (0, 5), b'budget': (0, 5), b'plan': (0, 4, 8, 9), b'check': (0, 4, 5, 10), None: (2, 3),
+}
+
+
+def printed_by(program, session, ended):
+    """The lines that the program prints for the lines of a session, with or without a last line feed."""
+    given = b'\n'.join(session) + (b'\n' if ended else b'')
+    out = subprocess.run([program], input=given, stdout=subprocess.PIPE, check=True).stdout
+    return out.split(b'\n')
+
+
+def expected(model, line):
+    """What the model says of a line: its number, its word, its values, and the line printed, None where that needs planning."""
+    number, word, values = model.take(line)
+    if number:
+        return number, word, values, b'no,%d' % number
+    return number, word, values, b'ok' if word in EFFECTS else None
+
+
+def compare(model, session, printed, seen):
+    """Counts the answers by word and number, and tells the first difference, or None."""
+    at = 0
+    for line in session:
+        number, word, values, answer = expected(model, line)
+        count = 1
+        if answer is None:
+            fault, kind, count = shown.read(model, word, values, printed, at)
+            number = int(kind[3:]) if kind.startswith(b'no,') else 0
+        else:
+            fault = None if printed[at:at + 1] == [answer] else answer.decode()
+        if fault:
+            return '%r: expected %s, printed %r' % (line, fault, printed[at:at + count])
+        seen[word, number] += 1
+        at += count
+    return None if printed[at:] == [b''] else 'past the last answer: %r' % printed[at:]
+
+
+def run_sessions(args, kind):
+    """Runs the sessions: how many agree and differ, the answers counted, and the first sessions with what was printed."""
+    rng = random.Random(args.seed)
+    agree, differ, seen, kept = 0, 0, Counter(), []
+    for done in range(0, args.lines, SESSION):
+        session = lines.session(rng, Model(), min(SESSION, args.lines - done))
+        printed = printed_by(args.program, session, ended=rng.random() < 0.5 or session[-1] == b'')
+        difference = compare(kind(), session, printed, seen)
+        agree += difference is None
+        differ += difference is not None
+        if difference and differ <= 5:
+            print('session %d differs at %s' % (done // SESSION + 1, difference))
+        if len(kept) < KEPT:
+            kept.append((session, printed))
+    return agree, differ, seen, kept
+
+
+def answers(seen):
+    """Prints the answers by word and number, and tells how many of the kinds came up and how many did not."""
+    for word, numbers in KINDS.items():
+        name = word.decode() if word else 'no command'
+        print('  %-10s  %s' % (name, ', '.join('%s %d' % ('no,%d' % n if n else 'accepted', seen[word, n]) for n in numbers)))
+    kinds = {(word, number) for word, numbers in KINDS.items() for number in numbers}
+    return len(kinds & set(seen)), len(kinds ^ set(seen))
+
+
+def told_apart(kept):
+    """How many wrong models differ from the program in a kept session, and how many do not."""
+    told = 0
+    for name, kind in WRONG.items():
+        if any(compare(kind(), session, printed, Counter()) for session, printed in kept):
+            told += 1
+        else:
+            print('%s: not told apart' % name)
+    return told, len(WRONG) - told
+
+
+def main():
+    options = argparse.ArgumentParser()
+    options.add_argument('program')
+    options.add_argument('--lines', type=int, default=20000)
+    options.add_argument('--seed', type=int, default=1)
+    options.add_argument('--wrong', choices=WRONG)
+    args = options.parse_args()
+    began = time.monotonic()
+    agree, differ, seen, kept = run_sessions(args, WRONG[args.wrong] if args.wrong else Model)
+    seconds = time.monotonic() - began
+    print('%d lines in %d sessions, seed %d: %d sessions differ; %.1f s' % (args.lines, agree + differ, args.seed, differ, seconds))
+    present, missing = answers(seen)
+    told, untold = told_apart(kept)
+    print('%d kinds of answers seen, %d missing; %d wrong models told apart, %d not' % (present, missing, told, untold))
+    passed, failed = agree + present + told, differ + missing + untold
+    print('%d passed, %d failed' % (passed, failed))
+    return 1 if failed else 0
+
+
+if __name__ == '__main__':
+    sys.exit(main())

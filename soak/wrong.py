@@ -1,0 +1,248 @@
+"""Models that are wrong on purpose, each in one place. A comparison that cannot tell them from the program would show nothing."""
+from model import Model
+
+
+class LineOf81(Model):
+    """A line may have 81 bytes."""
+    most_bytes = 81
+
+
+class LineOf79(Model):
+    """A line may have 79 bytes only."""
+    most_bytes = 79
+
+
+class SixDigits(Model):
+    """A number may have six digits."""
+    most_digits = 6
+
+
+class FourDigits(Model):
+    """A number may have four digits only."""
+    most_digits = 4
+
+
+class LeadingZero(Model):
+    """A number may begin with a zero."""
+
+    def number(self, field):
+        return super().number(field.lstrip(b'0') or field[:1])
+
+
+class EmptyFieldIsZero(Model):
+    """An empty field counts as 0."""
+
+    def number(self, field):
+        return super().number(field or b'0')
+
+
+class CarriageReturn(Model):
+    """A carriage return before the line feed is left out."""
+
+    def read(self, line):
+        return super().read(line.removesuffix(b'\r'))
+
+
+class LeadingNul(Model):
+    """A byte 0 before the word is left out."""
+
+    def read(self, line):
+        return super().read(line.removeprefix(b'\0'))
+
+
+class Blanks(Model):
+    """Blanks around a number are left out."""
+
+    def number(self, field):
+        return super().number(field.strip(b' '))
+
+
+class Capitals(Model):
+    """Words may have capitals."""
+
+    def read(self, line):
+        return super().read(line.lower())
+
+
+class FieldsLeftOver(Model):
+    """Fields past the last are left out."""
+
+    def read(self, line):
+        return super().read(line) or super().read(line.rpartition(b',')[0])
+
+
+class EmptyBits(Model):
+    """A check with an empty field is in form."""
+
+    def bits(self, field):
+        return super().bits(field) if field else []
+
+
+class NineStates(Model):
+    """A book may have nine states."""
+    most_states = 9
+
+
+class SevenStages(Model):
+    """A book may have seven stages only."""
+    most_stages = 7
+
+
+class MarkTwo(Model):
+    """A load rule may have mark 2."""
+    most_mark = 2
+
+
+class Power501(Model):
+    """A load may have 501 watts."""
+    most_power = 501
+
+
+class Worth999(Model):
+    """A load may have worth 999 only."""
+    most_worth = 999
+
+
+class Budget501(Model):
+    """The budget may be 501 watts."""
+    most_budget = 501
+
+
+class Loads65(Model):
+    """There may be 65 loads."""
+    most_loads = 65
+
+
+class Rules31(Model):
+    """There may be 31 rules of each sort only."""
+    most_rules = 31
+
+
+class RulesTogether(Model):
+    """The two sorts of rules are counted together."""
+
+    def full(self, word):
+        return super().full(word) or word in (b'rule', b'row') and len(self.rules) + len(self.rows) >= 32
+
+
+class SixBeforeFive(Model):
+    """A full list is told before a value out of its range."""
+
+    def cause(self, word, values):
+        number = super().cause(word, values)
+        return 6 if number == 5 and self.full(word) else number
+
+
+class SevenBeforeSix(Model):
+    """A rule that is there already is told before a full list."""
+
+    def cause(self, word, values):
+        number = super().cause(word, values)
+        return 7 if number == 6 and self.known(word, values) else number
+
+
+class SameRuleTwice(Model):
+    """The same rule may stand twice."""
+
+    def known(self, word, values):
+        return False
+
+
+class SortsMixed(Model):
+    """A row rule with the numbers of a load rule counts as the same rule."""
+
+    def known(self, word, values):
+        return word in (b'rule', b'row') and values in self.rules + self.rows
+
+
+class StartTwice(Model):
+    """A state that is marked already is refused as the same."""
+
+    def known(self, word, values):
+        return super().known(word, values) or word == b'start' and values[0] in self.starts
+
+
+class NoLoadsIsFive(Model):
+    """A check with no loads has the wrong number of bits."""
+
+    def cause(self, word, values):
+        return 5 if word == b'check' and not self.loads else super().cause(word, values)
+
+
+class OneCellFewer(Model):
+    """One cell fewer is lent."""
+    cells_lent = 16383
+
+
+class CellsOfTheBudget(Model):
+    """A plan needs a cell for each watt, and none for allowance 0."""
+
+    def cells(self):
+        return len(self.loads) * (self.states + self.stages) * self.budget
+
+
+class ClearKeepsBudget(Model):
+    """`clear` leaves the budget."""
+
+    def clear(self):
+        budget = getattr(self, 'budget', 0)
+        super().clear()
+        self.budget = budget
+
+
+class BookKeepsRules(Model):
+    """A new book keeps the rules."""
+
+    def book(self, states, stages):
+        rules = getattr(self, 'rules', [])
+        super().book(states, stages)
+        self.rules = rules
+
+
+class BookDropsLoads(Model):
+    """A new book has no loads."""
+
+    def book(self, states, stages):
+        super().book(states, stages)
+        self.loads = []
+
+
+class PowerNotStored(Model):
+    """`power` is answered `ok` and nothing is stored."""
+
+    def power(self, k, watts):
+        pass
+
+
+class WorthOfTheNext(Model):
+    """`worth` sets the figure of the next load."""
+
+    def worth(self, k, value):
+        super().worth(k % len(self.loads) + 1, value)
+
+
+class StartNotStored(Model):
+    """`start` is answered `ok` and nothing is stored."""
+
+    def start(self, state):
+        pass
+
+
+class EndNotStored(Model):
+    """`end` is answered `ok` and nothing is stored."""
+
+    def end(self, stage):
+        pass
+
+
+class RefusedBudgetStored(Model):
+    """A budget that is refused is stored all the same."""
+
+    def cause(self, word, values):
+        number = super().cause(word, values)
+        if word == b'budget' and number == 5:
+            self.set_budget(values[0])
+        return number
+
+
+WRONG = {kind.__name__: kind for kind in Model.__subclasses__()}
