@@ -25,7 +25,7 @@ def at_an_edge(rng, low, high):
 
 
 def budget(rng, model):
-    """A budget: any; a small one, for which there are cells; or the last or first for which there are or are not."""
+    """A budget: any, a small one, the greatest for which the cells lent are enough, or one more than that."""
     each = max(1, len(model.loads) * (model.states + model.stages))
     last = model.cells_lent // each - 1
     kind = rng.randrange(4)
