@@ -1,0 +1,53 @@
+// Random cabinets. Equal cabinets have equal tables.
+#include "cabinet.h"
+#include <stdlib.h>
+#include <string.h>
+
+static bool found(const TransitionList *list, Transition t) {
+    for (size_t j = 0; j < list->count; j++)
+        if (memcmp(&list->items[j], &t, sizeof t) == 0)
+            return true;
+    return false;
+}
+
+// Rules that are all different. Each first number gets as many as another, and of load rules each mark too. A longer list begins with the
+// shorter one.
+static void add_rules(TransitionList *list, int rules, int states, bool of_loads) {
+    srand(5);
+    while ((int)list->count < rules) {
+        int j = (int)list->count;
+        int label = of_loads ? rand() % 2 : 1 + rand() % states;
+        Transition t = {(uint8_t)(1 + j % states), (uint8_t)label, (uint8_t)(1 + rand() % states)};
+        if (!found(list, t))
+            list->items[list->count++] = t;
+    }
+}
+
+static int parent_of(Shape shape, int k) {
+    if (k == 0)
+        return 0;
+    return shape == RANDOM ? 1 + rand() % k : shape == STAR ? 1 : k;
+}
+
+// The loads draw some 1,920 watts together, however many they are, so that every budget is short.
+Tables tables_of(Cabinet c) {
+    Tables t;
+    memset(&t, 0, sizeof t);
+    t.book.states = t.book.stages = (uint8_t)c.states;
+    t.book.starts = (uint8_t)((1 << c.states) - 1);
+    t.book.ends = t.book.starts & 0x55;
+    t.budget = (uint16_t)c.budget;
+    add_rules(&t.book.load_rules, c.rules, c.states, true);
+    add_rules(&t.book.row_rules, c.rules, c.states, false);
+    srand(6);
+    for (int k = 0; k < c.loads; k++) {
+        uint8_t parent = (uint8_t)parent_of(c.shape, k);
+        t.loads.items[k] = (Load){parent, (uint16_t)(rand() % (60 * MOST_LOADS / c.loads)), (uint16_t)(rand() % 1001)};
+    }
+    t.loads.count = (size_t)c.loads;
+    return t;
+}
+
+size_t cells_of(const Tables *t) {
+    return t->loads.count * (size_t)(t->book.states + t->book.stages) * (size_t)(t->budget + 1);
+}

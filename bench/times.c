@@ -1,0 +1,145 @@
+// Times of the four plans on the same cabinets, side by side. The answers are compared before a time is printed; if one differs, it ends.
+#include "cabinet.h"
+#include <stdio.h>
+#include <stdlib.h>
+#include <string.h>
+#include <time.h>
+
+enum { PROVED, PLAIN_C, PLAIN_RUST, SAME_IDEAS, WAYS, ROUNDS = 30 };
+
+static const char *const names[WAYS] = {"proved", "plain C", "plain Rust", "same ideas"};
+
+static uint32_t work[MOST_CELLS];
+
+static Outcome plan(int way, const Tables *t) {
+    Outcome out;
+    switch (way) {
+    case PROVED:
+        return bench_plan(*t, work, cells_of(t));
+    case PLAIN_C:
+        return plain_c_plan(t, work);
+    case SAME_IDEAS:
+        return same_ideas_plan(t, work);
+    default:
+        plain_rust_plan(t, work, cells_of(t), &out);
+        return out;
+    }
+}
+
+// ---- answers
+
+static bool all_zero(size_t cells) {
+    for (size_t i = 0; i < cells; i++)
+        if (work[i] != 0)
+            return false;
+    return true;
+}
+
+static bool same_outcome(const Outcome *x, const Outcome *y) {
+    return x->found == y->found && x->run.set == y->run.set && !memcmp(x->run.states, y->run.states, MOST_LOADS)
+        && !memcmp(x->run.load_rules, y->run.load_rules, MOST_LOADS) && !memcmp(x->run.row_rules, y->run.row_rules, MOST_LOADS);
+}
+
+// The plan that all ways agree on. Each begins with cells that hold rubbish, and leaves them at 0.
+static Outcome agreed(const Tables *t) {
+    Outcome first = {0};
+    for (int way = 0; way < WAYS; way++) {
+        memset(work, 0xa5, sizeof work);
+        Outcome out = plan(way, t);
+        if (way == 0)
+            first = out;
+        if (!same_outcome(&first, &out) || !all_zero(cells_of(t))) {
+            printf("answers differ: %s and %s\n", names[0], names[way]);
+            exit(1);
+        }
+    }
+    return first;
+}
+
+static void print_answer(const Tables *t, const Outcome *out) {
+    unsigned worth = 0, power = 0;
+    if (!out->found) {
+        printf("  no plan\n");
+        return;
+    }
+    for (size_t k = 0; k < t->loads.count; k++)
+        if (out->run.set >> k & 1) {
+            worth += t->loads.items[k].worth;
+            power += t->loads.items[k].power;
+        }
+    printf("  %6u %5u %3d\n", worth, power, __builtin_popcountll(out->run.set));
+}
+
+// ---- times
+
+static double seconds(void) {
+    struct timespec t;
+    clock_gettime(CLOCK_PROCESS_CPUTIME_ID, &t);
+    return (double)t.tv_sec + 1e-9 * (double)t.tv_nsec;
+}
+
+static double time_of(int way, const Tables *t, int turns) {
+    double began = seconds();
+    for (int turn = 0; turn < turns; turn++)
+        plan(way, t);
+    return (seconds() - began) / turns;
+}
+
+// The best time of each way. Every round times each way once, in turns that take about a millisecond.
+static void best_times(const Tables *t, double best[WAYS]) {
+    int turns[WAYS];
+    for (int way = 0; way < WAYS; way++) {
+        best[way] = time_of(way, t, 1);
+        turns[way] = 1 + (int)(1e-3 / best[way]);
+    }
+    for (int round = 0; round < ROUNDS * WAYS; round++) {
+        int way = round % WAYS;
+        double time = time_of(way, t, turns[way]);
+        if (time < best[way])
+            best[way] = time;
+    }
+}
+
+static void print_row(const char *name, int number, Cabinet c) {
+    Tables t = tables_of(c);
+    Outcome out = agreed(&t);
+    double best[WAYS];
+    best_times(&t, best);
+    printf("%-7s %5d  %8.4f %9.4f", name, number, 1e3 * best[PROVED], 1e3 * best[PLAIN_C]);
+    printf(" %10.4f %10.4f ", 1e3 * best[PLAIN_RUST], 1e3 * best[SAME_IDEAS]);
+    printf("  %5.3f  %5.3f  %5.3f", best[PROVED] / best[PLAIN_C], best[PROVED] / best[PLAIN_RUST], best[PROVED] / best[SAME_IDEAS]);
+    print_answer(&t, &out);
+    fflush(stdout);
+}
+
+static void print_head(const char *title, const char *name, const char *number) {
+    printf("\n%s\n%-7s %5s  %8s %9s %10s %10s ", title, name, number, names[PROVED], names[PLAIN_C], names[PLAIN_RUST], names[SAME_IDEAS]);
+    printf("  %5s  %5s  %5s  %6s %5s %3s\n", "/C", "/Rust", "/same", "worth", "power", "on");
+}
+
+static void print_trees(void) {
+    const char *const shapes[] = {"random", "star", "chain"};
+    print_head("Trees: 8 states, 8 stages, 32 + 32 rules, budget 500", "tree", "loads");
+    for (int shape = RANDOM; shape <= CHAIN; shape++)
+        for (int loads = 8; loads <= MOST_LOADS; loads *= 2)
+            print_row(shapes[shape], loads, (Cabinet){shape, loads, 8, 32, MOST_BUDGET});
+}
+
+static void print_growth(void) {
+    print_head("Growth with loads: random tree, 4 states, 4 stages, 32 + 32 rules, budget 250", "", "loads");
+    for (int loads = 8; loads <= MOST_LOADS; loads *= 2)
+        print_row("loads", loads, (Cabinet){RANDOM, loads, 4, 32, 250});
+    print_head("Growth with rules of each sort: random tree of 64 loads, 4 states, 4 stages, budget 250", "", "rules");
+    for (int rules = 8; rules <= MOST_RULES; rules += 8)
+        print_row("rules", rules, (Cabinet){RANDOM, MOST_LOADS, 4, rules, 250});
+    print_head("Growth with the budget: random tree of 64 loads, 4 states, 4 stages, 32 + 32 rules", "", "watts");
+    for (int budget = 125; budget <= MOST_BUDGET; budget += 125)
+        print_row("budget", budget, (Cabinet){RANDOM, MOST_LOADS, 4, MOST_RULES, budget});
+}
+
+int main(void) {
+    printf("A plan: processor time in milliseconds, best of %d rounds; proved over each other one; the answer that all agree on\n", ROUNDS);
+    print_trees();
+    print_growth();
+    return 0;
+}
