@@ -6,6 +6,7 @@ use crate::printing::print_answer;
 use crate::printing::print_count;
 use crate::text::end_of;
 use crate::text::line_of;
+use crate::text::past;
 use planner::Planner;
 use planner::call::Called;
 ghost use Prim.Native.Nat.{_≤_};
@@ -154,10 +155,7 @@ pub fn called_on_each(p: Planner, lent: Lent, text: &[u8], every: bool) -> Plann
     while at < text.len() {
         let end = end_of(text, at, b' ');
         planner = called(planner, lent, &text[at..end], every);
-        if text.len() <= end {
-            return planner;
-        }
-        at = end + 1;
+        at = past(text, end);
     }
     planner
 }

@@ -91,9 +91,6 @@ pub fn follow(script: &[u8]) {
     while at < script.len() {
         let end = end_of(script, at, b'\n');
         test = obey(test, &script[at..end]);
-        if script.len() <= end {
-            return;
-        }
-        at = end + 1;
+        at = past(script, end);
     }
 }

@@ -1,5 +1,6 @@
 // The words of a text, and what they stand for.
-ghost use Prim.Native.Nat.{_≤_};
+ghost use Prim.Native.Nat.{_+_, _≤_, min};
+ghost use mathlib.Core.Path.{_≡_};
 ghost use lib.ListN.{length};
 
 // The most numbers that a step has: those of a run of eight loads.
@@ -36,7 +37,7 @@ pub fn end_of(text: &[u8], at: usize, byte: u8) -> usize
 // Where the next part begins: past the byte that ends this one, or at the end.
 pub fn past(text: &[u8], end: usize) -> usize
     requires { ⌜ end ≤ length (now text) ⌝ }
-    ensures { λ r. ⌜ (end ≤ r) × (r ≤ length (now (text .entry))) ⌝ }
+    ensures { λ r. ⌜ r ≡ min (end + 1) (length (now (text .entry))) ⌝ }
 {
     if end < text.len() {
         return end + 1;
@@ -82,10 +83,7 @@ pub fn numbers(text: &[u8]) -> NumberList {
             found.items[count] = number(&text[at..end]);
             found.count = count + 1;
         }
-        if text.len() <= end {
-            return found;
-        }
-        at = end + 1;
+        at = past(text, end);
     }
     found
 }
