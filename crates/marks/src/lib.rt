@@ -43,33 +43,33 @@ pub struct LoadSet(pub u64);
 impl LoadSet {
     pub const EMPTY: LoadSet = LoadSet(0);
 
-    // The set with n in it. A number outside 1 to 64 changes nothing.
-    pub fn with(self, n: usize) -> LoadSet
-        ensures { λ r. ⌜ r ≡ joined self n ⌝ }
+    // The set with this load in it. A number outside 1 to 64 changes nothing.
+    pub fn with(self, load: usize) -> LoadSet
+        ensures { λ r. ⌜ r ≡ joined self load ⌝ }
     {
-        if n == 0 {
+        if load == 0 {
             return self;
         }
-        if 64 < n {
+        if 64 < load {
             return self;
         }
-        LoadSet(self.0 | 1 << (n - 1))
+        LoadSet(self.0 | 1 << (load - 1))
     }
 
-    // Is n in the set?
-    pub fn has(self, n: usize) -> bool
-        ensures { λ r. ⌜ r ≡ hasMark (self .0) n ⌝ }
+    // Is this load in the set?
+    pub fn has(self, load: usize) -> bool
+        ensures { λ r. ⌜ r ≡ hasMark (self .0) load ⌝ }
     {
-        if n == 0 {
+        if load == 0 {
             return false;
         }
-        if 64 < n {
+        if 64 < load {
             return false;
         }
-        (self.0 >> (n - 1)) % 2 == 1
+        (self.0 >> (load - 1)) % 2 == 1
     }
 
-    // How many numbers are in the set.
+    // How many loads are in the set.
     pub fn count(self) -> u32
         ensures { λ r. ⌜ r ≡ size 64 (self .0) ⌝ }
     {

@@ -8,7 +8,7 @@ returns : tie.Need-returns
 returns c = has-zero _ _ (c .if1 .taken)
 
 returns-2 : tie.Need-returns-2
-returns-2 c = let a = c .before .before .args in has-over 64 (a .self .0) (a .n) (search needs) (c .if2 .taken)
+returns-2 c = let a = c .before .before .args in has-over 64 (a .self .0) (a .load) (search needs) (c .if2 .taken)
 
 returns-3 : tie.Need-returns-3
 returns-3 c = has-in _ _ (c .before .before .if1 .left)
