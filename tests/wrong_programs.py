@@ -142,6 +142,11 @@ def failed_needs(report):
     return needs
 
 
+def verdicts(report):
+    """Each function that is not proved, with what the report says of it: that a callee is not proved either, where that is so."""
+    return re.findall(r"^fn (\S+): ((?!proved).*)$", report, re.M)
+
+
 def fault_in(edit, status, report):
     """What is wrong with a refusal, or nothing."""
     if status != 1 or "logic=not-proved" not in report:
@@ -150,12 +155,12 @@ def fault_in(edit, status, report):
     if misfit:
         return "the proof no longer fits: " + misfit[:200]
     function, _, need = edit.refused.partition(" ")
-    wrong = re.findall(r"^fn (\S+): (?!proved|not proved; it calls)", report, re.M)
+    wrong = [name for name, verdict in verdicts(report) if "; it calls `" not in verdict]
     if function != "law" and wrong != function.split(","):
         return f"not proved by itself: {wrong}, failed: {sorted(failed_needs(report))}"
     if need not in failed_needs(report):
         return f"failed: {sorted(failed_needs(report))}"
-    edit.unproved = re.findall(r"^fn (\S+): (?!proved)", report, re.M)
+    edit.unproved = [name for name, _ in verdicts(report)]
     return None
 
 

@@ -27,10 +27,6 @@ then-plain : (n : ℕ) {s : List ℕ} → Without lineFeed s → Without lineFee
 unfolding then
 then-plain n p = without-append (plain lineFeed n (omega arith)) (byte refl p)
 
-field-then : (n : ℕ) (s : List ℕ) → field n comma ++ s ≡ then n s
-unfolding field then
-field-then n s = append-assoc (decimal n) (comma ∷ []) s
-
 -- ---- a load line without its line feed
 body : LoadLine → List ℕ
 body l = then (l .number) (then (l .mark) (then (l .state) (then (l .loadRule) (decimal (l .rowRule)))))

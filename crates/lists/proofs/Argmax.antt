@@ -1,14 +1,13 @@
 -- The laws of `argmax`: it bounds every value; where it is not 0 some number has it, and no lower number does; it depends only on the
 -- values below n; and what a turn of a loop that keeps it does. Assumes nothing.
-use Prim.Native.Nat.{ℕ, zero, suc, _+_, _≤_, _<_, zero-le}
+use Prim.Native.Nat.{ℕ, zero, suc, _≤_, _<_, zero-le}
 use mathlib.Core.Path.{_≡_, refl, ap₂}
 use mathlib.Core.Bool.{Bool, true, false, cond}
 use mathlib.Core.Logic.{_⊎_, inl, inr}
 use native.Mathlib.Nat.{le-refl, not-suc-le-zero, eq-or-lt-of-le, le-of-suc-le-suc, le-step, lt-suc-self}
 use native.Mathlib.Omega.{arith}
 use lib.Dec.{ltb}
-use native.Mathlib.Numerals.{add-one}
-use borrow.Author.Tests.{ltb-true, ltb-false, lt-ltb, le-ltb}
+use borrow.Author.Tests.{ltb-true, ltb-false}
 use Rattle.lists.specs.Argmax.{Greatest, argmax, improve}
 
 -- q is p after the value x at number i: either x is greater and taken, or it is not and p stays
@@ -71,16 +70,6 @@ argmax-within f (suc n) m h k = go (ltb (argmax f n .value) (f n)) (argmax-withi
     go : (t : Bool) → argmax f n .index < m → cond t (record { value = f n; index = n }) (argmax f n) .index < m
     go true ih = h
     go false ih = ih
-
--- a loop that keeps the greatest value: it takes a greater one, and else stays
-module _ (f : ℕ → ℕ) (n b : ℕ) (e : b ≡ argmax f n .value) where
-  pub argmax-take : b < f n → f n ≡ argmax f (n + 1) .value
-  unfolding argmax
-  argmax-take h = rw (add-one, lt-ltb (argmax f n .value) (f n) (rw e at h))
-
-  pub argmax-stay : f n ≤ b → b ≡ argmax f (n + 1) .value
-  unfolding argmax
-  argmax-stay h = rw (add-one, le-ltb (argmax f n .value) (f n) (rw e at h)) e
 
 pub argmax-agree : (f g : ℕ → ℕ) (n : ℕ) → ((i : ℕ) → i < n → f i ≡ g i) → argmax f n ≡ argmax g n
 unfolding argmax

@@ -59,10 +59,6 @@ module _ {A : Type 0} where
   take-laid d zero (x ∷ xs) h = absurd (not-suc-le-zero h)
   take-laid d (suc n) (x ∷ xs) h = ap (λ (l : List A). x ∷ l) (take-laid d n xs (le-of-suc-le-suc h))
 
-  pub rest-laid : (d : A) (n : ℕ) (xs : List A) → length xs ≤ n → rest (laid d n xs) (length xs) 0 ≡ xs
-  unfolding rest
-  rest-laid d n xs h = take-laid d n xs h
-
   -- appending writes the next place
   pub laid-snoc : (d : A) (n : ℕ) (xs : List A) (x : A) → length xs < n → set (laid d n xs) (length xs) x ≡ laid d n (xs ++ (x ∷ []))
   unfolding laid

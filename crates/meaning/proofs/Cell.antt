@@ -53,10 +53,6 @@ pub cell-same : (p v p′ v′ : ℕ) → v ≡ v′ → cell p v ≡ cell p′ 
 unfolding cell
 cell-same p v p′ v′ e = ap suc e
 
-pub cell-worth : (p v p′ v′ : ℕ) → p < powerLimit → p′ < powerLimit → cell p v ≡ cell p′ v′ → v ≡ v′
-unfolding cell
-cell-worth p v p′ v′ h h′ e = omega arith
-
 -- by cases, as code goes
 pub ⊕-left : (x y : ℕ) → x ≡ 0 → x ⊕ y ≡ 0
 unfolding _⊕_
