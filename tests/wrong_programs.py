@@ -126,7 +126,7 @@ def keep_checked(scratch, crate, store):
     status, _ = check(scratch, crate)
     if status != 0:
         raise RuntimeError(f"{crate} is not proved as it stands")
-    shutil.move(scratch / "target" / "inc" / crate, store / crate)
+    shutil.move(scratch / "target" / "inc" / crate, store / "inc" / crate)
 
 
 def failed_needs(report):
@@ -168,7 +168,7 @@ def try_edit(edit, scratch, store):
     """Makes the wrong program in a worker's copy, checks it, and puts the crate back."""
     folder = scratch / "crates" / edit.crate
     checked = scratch / "target" / "inc" / edit.crate
-    shutil.copytree(store / edit.crate, checked)
+    shutil.copytree(store / "inc" / edit.crate, checked)
     began = time.monotonic()
     try:
         edit.apply(folder)
@@ -178,7 +178,7 @@ def try_edit(edit, scratch, store):
         fault = str(error)
     finally:
         shutil.rmtree(folder)
-        shutil.copytree(ROOT / "crates" / edit.crate, folder)
+        shutil.copytree(store / "crates" / edit.crate, folder)
         shutil.rmtree(checked)
     print(f"{edit.name()}: {fault or 'refused, at ' + edit.refused} ({time.monotonic() - began:.0f} s)", flush=True)
     return fault is None
@@ -187,8 +187,9 @@ def try_edit(edit, scratch, store):
 def run(edits):
     """Tries every edit, as many at a time as there are workers. Returns how many are refused as they must be."""
     with tempfile.TemporaryDirectory() as folder, ThreadPoolExecutor(WORKERS) as pool:
-        store = Path(folder) / "checked"
-        store.mkdir()
+        store = Path(folder) / "store"
+        (store / "inc").mkdir(parents=True)
+        shutil.copytree(ROOT / "crates", store / "crates")
         free = Queue()
         for number in range(WORKERS):
             scratch = Path(folder) / str(number)

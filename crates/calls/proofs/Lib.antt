@@ -1,9 +1,11 @@
--- The theorems on calls, from the ground up: Demand3 and Demand2 have the last ones.
+-- The theorems on calls, from the ground up: Demand1, Demand2 and Demand3 have the last ones.
 pub mod Numbers
 pub mod Keeps
 pub mod Answers
+pub mod Work
 pub mod Fits
 pub mod Printed
+pub mod Demand1
 pub mod Demand3
 pub mod Demand2
 pub mod Program

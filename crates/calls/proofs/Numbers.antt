@@ -85,10 +85,10 @@ module _ (t : Tables) (cells : ℕ) where
   ordered line.Broken = (lit≤ tt, lit≤ tt)
 
   -- the lowest number that applies is given, each exactly in its case
-  pub refusal-lowest : (s : List ℕ) (room place : ℕ) → Lowest (allCauses t cells s room place) (refusal t cells s room place)
-  unfolding refusal allCauses
-  refusal-lowest s room place =
-      record { given = lowest-given _; least = lowest-least 1 _ (lit≤ tt, (lit≤ tt, ordered (parse s))) }
+  pub causes-lowest : (b : Bool) (s : List ℕ) (room place : ℕ) → let cs = (1 if b) ∷ allCauses t cells s room place in Lowest cs (lowest cs)
+  unfolding allCauses
+  causes-lowest b s room place =
+      record { given = lowest-given _; least = lowest-least 1 _ (lit≤ tt, (lit≤ tt, (lit≤ tt, ordered (parse s)))) }
 
   pub refusal-most : (s : List ℕ) (room place : ℕ) → refusal t cells s room place ≤ 10
   unfolding refusal allCauses

@@ -1,9 +1,10 @@
 -- What every call answers: the causes of a refusal, the effect of a line, what is printed, a call, and lists of calls.
--- In the order of paper 01; Demand3 and Demand2 have what is proved of them, and Program what the line program prints.
+-- In the order of paper 01; Demand1, Demand2 and Demand3 have what is proved of them, and Program what the line program prints.
 pub mod Causes
 pub mod Effects
 pub mod Printing
 pub mod Calls
+pub mod Demand1
 pub mod Demand3
 pub mod Demand2
 pub mod Program

@@ -30,7 +30,8 @@ use Rattle.planner.specs.Answers.{numberOf, linesTo, textOf}
 use Rattle.planner.specs.Decided.{decidedBy, decidedLine}
 use Rattle.planner.specs.Calls.{doneOf, turnedAway}
 use Rattle.planner.proofs.Commands.{lawful, is-stored, load-count}
-use Rattle.planner.proofs.Deciding.{unsearched, answered-number, answered-text}
+use Rattle.calls.proofs.Work.{unsearched}
+use Rattle.planner.proofs.Deciding.{answered-number, answered-text}
 
 -- a planner that breaks a limit
 pub broken : (p : Planner) (c : Call) → keepsLimits (p .tables) ≡ false → doneOf (turnedAway p) (c .output) (c .work) ≡ called (p .tables) c

@@ -1,10 +1,9 @@
 -- What a decided answer has: the number that was given, and the text of paper 01; and what a change decides. Assumes nothing.
 use Prim.Native.Nat.{ℕ, zero, suc}
 use mathlib.Core.Path.{_≡_, refl, sym, ap, _∙_}
-use mathlib.Core.Bool.{true, false}
 use mathlib.Core.List.{List, _++_}
 use native.Mathlib.Omega.{arith}
-use lib.ListN.{length, drop, replicate}
+use lib.ListN.{length}
 use Rattle.marks.specs.Sets.{markIn}
 use Rattle.lines.specs.declared.Command.{Command}
 use Rattle.lines.specs.declared.Command.the-variants as line
@@ -14,10 +13,9 @@ use Rattle.tables.specs.Limits.{Limits}
 use Rattle.tables.specs.Stored.{stored}
 use Rattle.meaning.specs.Sets.{power, worth, numberOn}
 use Rattle.meaning.specs.Choice.{planEntries, shownSet}
-use Rattle.meaning.specs.Cells.{cellsOf}
 use Rattle.calls.specs.Causes.{Cause, lowest, causes}
 use Rattle.calls.specs.Effects.{effect, acted}
-use Rattle.calls.specs.Printing.{planText, checkText, printed, text, zeroed, searched, workAfter}
+use Rattle.calls.specs.Printing.{planText, checkText, printed, text, workAfter}
 use Rattle.engine.specs.Shown.{runOf}
 use Rattle.planner.specs.declared.answers.Answer.the-variants.{Accepted}
 use Rattle.planner.specs.declared.changes.Changed.{Changed}
@@ -26,29 +24,6 @@ use Rattle.planner.specs.Answers.{numberOf, textOf, answerOf, linesTo}
 use Rattle.planner.specs.Changes.{changedBy}
 use Rattle.planner.specs.Decided.{Shown, alone, acceptedAs, answeredAs, unshown, decidedBy}
 use Rattle.planner.proofs.RunLines.{plan-lines, check-lines}
-
--- ---- the work after a line
--- only a plan that searched touches it
-pub unsearched : (t : Tables) (n : ℕ) (c : Command) (w : List ℕ) → searched n ≡ false → workAfter t n c w ≡ w
-unfolding workAfter
-unsearched t n line.Clear w e = refl
-unsearched t n (line.Book s g) w e = refl
-unsearched t n (line.Start q) w e = refl
-unsearched t n (line.End g) w e = refl
-unsearched t n (line.Rule q m g) w e = refl
-unsearched t n (line.Row g q h) w e = refl
-unsearched t n (line.Load p u v) w e = refl
-unsearched t n (line.Power k u) w e = refl
-unsearched t n (line.Worth k v) w e = refl
-unsearched t n (line.Budget u) w e = refl
-unsearched t n line.Plan w e = rw e
-unsearched t n (line.Check s m) w e = refl
-unsearched t n line.Broken w e = refl
-
--- and it leaves its cells 0
-pub cleared : (t : Tables) (n : ℕ) (w v : List ℕ) → searched n ≡ true → v ≡ replicate (cellsOf t) 0 ++ drop (cellsOf t) w → v ≡ workAfter t n line.Plan w
-unfolding workAfter zeroed
-cleared t n w v e is = is ∙ rw e
 
 -- ---- the answer
 accepted-zero : (t : Tables) (c : Command) → numberOf (acceptedAs t c .answer) ≡ 0

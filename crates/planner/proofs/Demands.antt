@@ -1,12 +1,14 @@
--- Demands 2 and 3 of the code: what the promise of `Planner::call` comes to. Assumes nothing.
+-- Demands 1, 2 and 3 of the code: what the promise of `Planner::call` comes to. Assumes nothing.
 use Prim.Native.Nat.{ℕ}
 use mathlib.Core.Path.{_≡_, sym, ap, subst, _∙_}
 use mathlib.Core.List.{List, [], _∷_, map}
 use Rattle.marks.specs.declared.LoadSet.{LoadSet}
-use Rattle.tables.specs.Stored.{tablesOf, Holds}
+use Rattle.tables.specs.Stored.{tablesOf, Lengths, Holds}
 use Rattle.calls.specs.Calls.{Call, Reply, Done, called}
+use Rattle.calls.specs.Demand1.{Demand1}
 use Rattle.calls.specs.Demand2.{CheckCall, CheckRight}
 use Rattle.calls.specs.Demand3 as paper
+use Rattle.calls.proofs.Demand1.{demand1 as paper-demand1}
 use Rattle.calls.proofs.Demand2.{check-right}
 use Rattle.calls.proofs.Demand3 as paper-proofs
 use Rattle.planner.specs.declared.Planner.{Planner}
@@ -16,6 +18,11 @@ use Rattle.planner.specs.Calls.{doneOf}
 use Rattle.planner.specs.History.{Exchange, History, exchangeOf}
 use Rattle.planner.proofs.Commands.{lawful}
 use Rattle.planner.proofs.Calling.{held}
+
+-- demand 1: on every planner, whatever it holds, a call gives its answer or the one refusal that applies, and leaves what the paper says
+pub demand1 : (p : Planner) → Lengths (p .tables) → (c : Call) (r : Called) (output work : List ℕ)
+    → doneOf r output work ≡ called (p .tables) c → Demand1 (p .tables) c (doneOf r output work)
+demand1 p len c r output work is = subst (Demand1 (p .tables) c) (sym is) (paper-demand1 (p .tables) len c)
 
 -- demand 2: on every planner within the limits, a check says yes exactly of the sets that the automaton accepts, and shows their lowest run
 pub demand2 : (p : Planner) → Holds (p .tables) → (c : Call) (σ : LoadSet) → CheckCall (tablesOf (p .tables)) c σ

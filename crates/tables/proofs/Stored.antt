@@ -19,7 +19,7 @@ use Rattle.tables.specs.declared.load.LoadList.{LoadList}
 use Rattle.tables.specs.declared.tables.StoredTables.{StoredTables}
 use Rattle.tables.specs.Tables.{Transition, Load, Tables, noRule, noLoad}
 use Rattle.tables.specs.Limits.{maxRules, maxLoads, ruleIn, sameRule, rulesIn, limits, Limits}
-use Rattle.tables.specs.Stored.{storedRules, storedLoads, storedBook, stored, rulesOf, loadsOf, bookOf, tablesOf, zeroRule, zeroLoad, keepsLimits, Holds}
+use Rattle.tables.specs.Stored.{storedRules, storedLoads, storedBook, stored, rulesOf, loadsOf, bookOf, tablesOf, zeroRule, zeroLoad, keepsLimits, Lengths, Holds}
 use Rattle.tables.proofs.Parts.{limits-parts}
 
 -- the three numbers of a place that holds 0
@@ -98,12 +98,6 @@ module _ (t : Tables) (h : Limits t) where
       h
 
 -- ---- tables that are handed in
--- the lengths of their arrays, which their type gives
-pub record Lengths (s : StoredTables) : Type 0 where
-  pub loadRules : length (s .book .«load_rules» .items) ≡ maxRules
-  pub rowRules : length (s .book .«row_rules» .items) ≡ maxRules
-  pub loads : length (s .loads .items) ≡ maxLoads
-
 module _ (s : StoredTables) (len : Lengths s) where
   pub keeps-stored : keepsLimits s ≡ true → (s ≡ stored (tablesOf s)) × Limits (tablesOf s)
   unfolding keepsLimits stored storedBook tablesOf bookOf

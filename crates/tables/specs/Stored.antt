@@ -56,6 +56,12 @@ bookOf b = record {
 unfoldable pub tablesOf : StoredTables → Tables
 tablesOf s = record { book = bookOf (s .book); loads = loadsOf (s .loads); budget = s .budget }
 
+-- the arrays have the lengths that their types give them
+pub record Lengths (s : StoredTables) : Type 0 where
+  pub loadRules : length (s .book .«load_rules» .items) ≡ maxRules
+  pub rowRules : length (s .book .«row_rules» .items) ≡ maxRules
+  pub loads : length (s .loads .items) ≡ maxLoads
+
 -- "unused places hold 0"
 unfoldable pub zeroRule : Transition → Bool
 zeroRule r = eqb (r .from) 0 && eqb (r .label) 0 && eqb (r .to) 0

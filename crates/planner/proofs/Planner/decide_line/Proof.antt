@@ -14,7 +14,7 @@ use Rattle.planner.specs.declared.search.Decided.{Decided}
 use Rattle.planner.specs.Answers.{numberOf}
 use Rattle.planner.specs.Decided.{decidedBy}
 use Rattle.planner.proofs.Searching.{refuses}
-use Rattle.planner.proofs.Deciding.{unsearched}
+use Rattle.calls.proofs.Work.{unsearched}
 use Rattle.planner.proofs.Planner.decide_line.Statement.{statement}
 use Rattle.planner.proofs.Planner.decide_line.Tie as tie
 

@@ -16,7 +16,7 @@ use Rattle.planner.specs.declared.search.Decided.{Decided}
 use Rattle.planner.specs.Answers.{numberOf}
 use Rattle.planner.proofs.Commands.{load-count, few}
 use Rattle.planner.proofs.Searching.{none-found, some-found, plan-four, plan-eight, plan-nine, plan-accepted, kept, refuses, plans}
-use Rattle.planner.proofs.Deciding.{unsearched, cleared}
+use Rattle.calls.proofs.Work.{unsearched, cleared}
 use Rattle.planner.proofs.Planner.plan.Statement.{statement}
 use Rattle.planner.proofs.Planner.plan.Tie as tie
 

@@ -4,8 +4,8 @@ use mathlib.Core.Bool.{_&&_}
 use borrow.Author.Needs.{needs}
 use Rattle.lists.proofs.Arrays.{of-map}
 use Rattle.tables.specs.Limits.{budgetIn}
-use Rattle.tables.specs.Stored.{keepsLimits}
-use Rattle.tables.proofs.Stored.{Lengths, keeps-exactly}
+use Rattle.tables.specs.Stored.{keepsLimits, Lengths}
+use Rattle.tables.proofs.Stored.{keeps-exactly}
 use Rattle.tables.proofs.Places.{tables-placed}
 use Rattle.tables.proofs.tables.StoredTables.keeps_limits.Statement.{statement}
 use Rattle.tables.proofs.tables.StoredTables.keeps_limits.Tie as tie

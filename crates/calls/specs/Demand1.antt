@@ -1,0 +1,37 @@
+-- Demand 1: what every call gives and leaves, on any planner, with any line, output, place and work.
+-- It stands for "Causes and numbers" of paper 01: "The lowest number that applies is given. Each is given exactly in its case." and the
+-- columns "returned" and "left as it was"; and for the buffers of "Lines". (That a call ends and does nothing undefined is part of the proof
+-- of every function. The judge's part stands in the crate judge.) Assumes nothing.
+use Prim.Native.Nat.{_+_, _≤_, _<_}
+use mathlib.Core.Path.{_≡_}
+use mathlib.Core.Bool.{false, not}
+use mathlib.Core.List.{List, _∷_}
+use lib.ListN.{length, take, drop}
+use Rattle.lines.specs.Answers.{refused, freeBytes}
+use Rattle.tables.specs.declared.tables.StoredTables.{StoredTables}
+use Rattle.tables.specs.Stored.{tablesOf, keepsLimits}
+use Rattle.calls.specs.Causes.{Cause, _if_, allCauses, Lowest}
+use Rattle.calls.specs.Printing.{searched}
+use Rattle.calls.specs.Calls.{Call, Done, written, turnedAway}
+
+-- every cause of the table, in its order: "a planner handed in that breaks a limit", then those of its tables
+abbrev pub causesOf : StoredTables → Call → List Cause
+causesOf s c = (1 if not (keepsLimits s)) ∷ allCauses (tablesOf s) (length (c .work)) (c .line) (length (c .output)) (c .place)
+
+pub record Demand1 (s : StoredTables) (c : Call) (d : Done) : Type 0 where
+  -- its answer, or exactly in the paper's case one numbered refusal
+  pub number : Lowest (causesOf s c) (d .reply .number)
+  pub most : d .reply .number ≤ 10
+  -- a refusal changes no table
+  pub state : 0 < d .reply .number → d .tables ≡ s
+  -- 1: "number, 0 bytes", and "everything" is left as it was
+  pub one : d .reply .number ≡ 1 → d .reply ≡ turnedAway c
+  -- from 2 on: "number, `no,N`"
+  pub prints : 2 ≤ d .reply .number → written c (d .reply) ≡ refused (d .reply .number)
+  -- "1,024 bytes must be free from there": no answer is longer
+  pub fits : d .reply .count ≤ freeBytes
+  -- "Bytes before the place and after the answer keep their values."
+  pub before : take (c .place) (d .reply .output) ≡ take (c .place) (c .output)
+  pub behind : drop (c .place + d .reply .count) (d .reply .output) ≡ drop (c .place + d .reply .count) (c .output)
+  -- work is left as it was, but by an accepted line and by refusal 9
+  pub work : searched (d .reply .number) ≡ false → d .reply .work ≡ c .work
