@@ -95,7 +95,8 @@ fn no_numbers() -> Numbers
     }
 }
 
-// The numbers after a word that ends at a place. Each has a comma before it; the first byte that breaks the form ends the reading.
+// The numbers after a word that ends at a place. Each has a comma before it. "It .. stops at the first byte that breaks its form": the paper
+// names nested loops over fields and digits for this, left by a label at the first bad byte.
 fn read_numbers(s: &[u8], end: usize) -> Numbers
     ensures { λ r. ⌜ r ≡ numbersIn (fieldsAfter end (now (s .entry))) ⌝ }
 {
