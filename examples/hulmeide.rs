@@ -1,5 +1,6 @@
 //! The planner for Rust: a safe wrapper of the static library's C functions (include/hulmeide.h).
 
+use std::mem::MaybeUninit;
 use std::num::NonZeroU32;
 
 /// A line has at most this many bytes, its line feed not counted.
@@ -14,11 +15,12 @@ pub const CELLS: usize = 16384;
 const PLANNER_BYTES: usize = 616;
 const NOT_A_RUN: u32 = 255;
 
-/// The planner's tables, with the size and the alignment that the header gives them. They are changed by lines alone.
+/// The planner's tables, with the size and the alignment that the header gives them. They are changed by lines alone. Between the fields
+/// there are bytes that nobody writes.
 #[repr(C, align(8))]
 #[derive(Clone)]
 pub struct Planner {
-    bytes: [u8; PLANNER_BYTES],
+    bytes: [MaybeUninit<u8>; PLANNER_BYTES],
 }
 
 /// The number of a refusal, 1 to 10. A refusal leaves the planner as it was.
@@ -66,7 +68,7 @@ impl Refusal {
 impl Planner {
     /// A fresh planner: no book, no rules, no loads, and budget 0.
     pub fn new() -> Planner {
-        let mut planner = Planner { bytes: [0; PLANNER_BYTES] };
+        let mut planner = Planner { bytes: [MaybeUninit::uninit(); PLANNER_BYTES] };
         // SAFETY: the pointer is to a whole planner that nobody else holds.
         unsafe { hulmeide_fresh(&mut planner) };
         planner

@@ -3,10 +3,29 @@
 use hulmeide::{Planner, CELLS, FREE_BYTES, LINE_BYTES};
 use std::io::{self, BufRead, Write};
 
-/// A line without its line feed, and of a line that is too long one byte more than a line may have.
-fn kept(line: &[u8]) -> &[u8] {
-    let line = line.strip_suffix(b"\n").unwrap_or(line);
-    &line[..line.len().min(LINE_BYTES + 1)]
+/// Of a line that is too long one byte more is kept than a line may have.
+const KEPT_BYTES: usize = LINE_BYTES + 1;
+
+/// Takes the next line off the input, without its line feed, and keeps of it what the planner is to see. False at the end of the input.
+fn next_line(input: &mut impl BufRead, line: &mut Vec<u8>) -> io::Result<bool> {
+    line.clear();
+    let mut begun = false;
+    loop {
+        let bytes = input.fill_buf()?;
+        if bytes.is_empty() {
+            return Ok(begun);
+        }
+        begun = true;
+        let feed = bytes.iter().position(|byte| *byte == b'\n');
+        let part = &bytes[..feed.unwrap_or(bytes.len())];
+        let room = KEPT_BYTES - line.len();
+        line.extend_from_slice(&part[..part.len().min(room)]);
+        let used = part.len() + usize::from(feed.is_some());
+        input.consume(used);
+        if feed.is_some() {
+            return Ok(true);
+        }
+    }
 }
 
 /// The numbers of the run that an answer shows: three of each line "load,mark,state,load rule,row rule".
@@ -21,20 +40,25 @@ fn judged(planner: &Planner, text: &str) -> bool {
     !shows || planner.judge(&shown_run(text)) == Ok(true)
 }
 
+/// The refusal that an answer prints, if it prints one.
+fn printed_refusal(text: &str) -> Option<u32> {
+    text.strip_prefix("no,").map(|number| number.trim_end().parse().expect("a number"))
+}
+
 fn main() -> io::Result<()> {
     let mut planner = Planner::new();
     let mut out = [0; FREE_BYTES];
     let mut work = vec![0; CELLS];
     let mut input = io::stdin().lock();
     let mut output = io::stdout().lock();
-    let mut line = Vec::new();
-    while input.read_until(b'\n', &mut line)? > 0 {
-        let answer = planner.call(kept(&line), &mut out, 0, &mut work);
+    let mut line = Vec::with_capacity(KEPT_BYTES);
+    while next_line(&mut input, &mut line)? {
+        let answer = planner.call(&line, &mut out, 0, &mut work);
         let text = std::str::from_utf8(&out[..answer.count]).expect("answers are plain text");
+        assert_eq!(answer.refusal.map(|refusal| refusal.number()), printed_refusal(text));
         assert!(judged(&planner, text), "the planner showed what is no run");
         output.write_all(text.as_bytes())?;
         output.flush()?;
-        line.clear();
     }
     Ok(())
 }

@@ -36,6 +36,13 @@ class HighestFirst(Oracle):
         return reversed(numbers)
 
 
+class PowerKept(Oracle):
+    """A row keeps the power of the load above it as allowance."""
+
+    def left_for_row(self, allowance, power):
+        return allowance
+
+
 class FirstBudget(Oracle):
     """The plan of the first budget is repeated."""
 
@@ -54,7 +61,7 @@ class StoresNothing(Oracle):
         super().act(word, f)
 
 
-WRONG = [StageRestarts, LeafAlwaysEnds, HighestFirst, FirstBudget, StoresNothing]
+WRONG = [StageRestarts, LeafAlwaysEnds, HighestFirst, PowerKept, FirstBudget, StoresNothing]
 MOST_RUNS = 1500  # a tree with more runs is left out: plain enumeration would be slow
 BATCH = 100  # sessions that are given to one run of the program
 
@@ -101,7 +108,7 @@ def damaged(rng):
     if kind == 4:
         return bytes(rng.choice((0, 9, 13, 32, 44, 48, 49, 57, 99, 112, 128, 255)) for _ in range(rng.randint(0, 12)))
     if kind == 5:
-        return b'check,' + b'01'[rng.randrange(2):][:1] * rng.randint(1, 80)
+        return b'check,' + rng.choice((b'0', b'1')) * rng.randint(1, 80)
     return b'budget,' + b'0' * rng.randint(60, 90)
 
 
@@ -129,7 +136,7 @@ def session(rng):
     for _ in range(rng.randint(3, 10)):
         line = question(rng, len(oracle.loads))
         if line.startswith((b'load,', b'book', b'rule', b'row', b'start')) and rng.random() < 0.5:
-            continue
+            continue  # half of what would change the book or the tree is left out, so that more plans are of the cabinet built
         if not say(line):
             return None
     say(b'plan')
@@ -153,44 +160,42 @@ def printed(program, lines):
     return out.decode('latin-1').split('\n')[:-1]
 
 
+def shares(program, batch):
+    """What the program prints for sessions given to one run of it, cut up by how much each should print. The last one gets the rest."""
+    out = printed(program, [line for lines, _ in batch for line in lines])
+    parts = []
+    for _, answers in batch[:-1]:
+        count = sum(len(answer) for answer in answers)
+        parts.append(out[:count])
+        out = out[count:]
+    return parts + [out]
+
+
+def all_printed(program, cases):
+    """What the program prints for each session."""
+    batches = [cases[at:at + BATCH] for at in range(0, len(cases), BATCH)]
+    return [part for batch in batches for part in shares(program, batch)]
+
+
 def difference(lines, answers, out):
-    """None, or the first line whose answer the program does not print. What it prints is taken off the front of out."""
-    first = None
+    """None, or the first line whose answer is not what was printed; an empty line stands for what was printed besides."""
+    at = 0
     for line, answer in zip(lines, answers):
-        got = out[:len(answer)]
-        del out[:len(answer)]
-        if got != answer and first is None:
-            first = line, answer, got
-    return first
+        got = out[at:at + len(answer)]
+        if got != answer:
+            return line, answer, got
+        at += len(answer)
+    return (b'', [], out[at:]) if out[at:] else None
 
 
-def compared(program, cases):
-    """The number of sessions in which the program prints something else than the oracle."""
-    failed = 0
-    for at in range(0, len(cases), BATCH):
-        batch = cases[at:at + BATCH]
-        out = printed(program, [line for lines, _ in batch for line in lines])
-        for lines, answers in batch:
-            wrong = difference(lines, answers, out)
-            if wrong:
-                failed += 1
-                print('DIFFERS at %r: expected %r, printed %r, in the session %r' % (*wrong, lines))
-        if out:
-            failed += 1
-            print('MORE is printed than asked for: %r' % out[:3])
-    return failed
+def differing(cases, outs):
+    """The sessions in which something else was printed than the oracle says."""
+    found = [(lines, difference(lines, answers, out)) for (lines, answers), out in zip(cases, outs)]
+    return [(lines, wrong) for lines, wrong in found if wrong]
 
 
-def told_apart(other, cases):
-    """In how many sessions a wrong oracle answers something else. One that cannot answer at all counts as told apart."""
-    told = 0
-    for lines, answers in cases:
-        oracle = other()
-        try:
-            told += any(oracle.answer(line) != answer for line, answer in zip(lines, answers))
-        except (IndexError, UnboundLocalError):
-            told += 1
-    return told
+def answered_by(oracle, lines):
+    return [oracle.answer(line) for line in lines]
 
 
 def main():
@@ -200,14 +205,19 @@ def main():
     options.add_argument('--seed', type=int, default=1)
     args = options.parse_args()
     cases = sessions(random.Random(args.seed), args.cases)
-    failed = compared(args.program, cases)
+    outs = all_printed(args.program, cases)
+    wrong = differing(cases, outs)
+    for lines, first in wrong[:3]:
+        print('DIFFERS at %r: expected %r, printed %r, in the session %r' % (*first, lines))
     firsts = [answer[0] for _, answers in cases for answer in answers]
     plans = sum(first.startswith('plan') for first in firsts)
     print('%d sessions with %d plans shown, %d refusals 9, %d sets allowed, %d not'
           % (len(cases), plans, firsts.count('no,9'), firsts.count('yes'), firsts.count('no,10')))
+    failed = len(wrong)
     for other in WRONG:
-        told = told_apart(other, cases[:500])
-        print('%s: told apart in %d of %d sessions' % (other.__name__, told, len(cases[:500])))
+        answered = [(lines, answered_by(other(), lines)) for lines, _ in cases[:500]]
+        told = len(differing(answered, outs))
+        print('%s: told apart in %d of %d sessions' % (other.__name__, told, len(answered)))
         failed += told == 0
     print('%d passed, %d failed' % (len(cases) + len(WRONG) - failed, failed))
     return 1 if failed else 0

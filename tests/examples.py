@@ -4,10 +4,12 @@
   examples.py LINE_PROGRAM PROGRAM.. [--sessions N] [--seed S]
 
 The input holds sessions of valid and damaged lines, lines of every length around the most that a line may have, lines far longer than any
-buffer, bytes of every value, large cabinets, and a last line with and without its line feed. The last line is 'N passed, M failed'.
+buffer, bytes of every value, large cabinets, and a last line with and without its line feed. Each program must also answer a line as soon as
+it is complete, while its input stays open. The last line is 'N passed, M failed'.
 """
 import argparse
 import random
+import select
 import subprocess
 import sys
 from pathlib import Path
@@ -66,6 +68,25 @@ def printed(program, data):
     return subprocess.run([program], input=data, stdout=subprocess.PIPE, check=True).stdout
 
 
+def answers_at_once(program):
+    """Is a line answered while the input stays open?"""
+    with subprocess.Popen([program], stdin=subprocess.PIPE, stdout=subprocess.PIPE, bufsize=0) as running:
+        running.stdin.write(b'budget,1\n')
+        ready, _, _ = select.select([running.stdout], [], [], 10)
+        answer = running.stdout.read(3) if ready else b''
+        running.stdin.close()
+        return answer == b'ok\n'
+
+
+def compared(programs, expected, data, name):
+    """How many programs print what is expected for an input."""
+    same = [program for program in programs if printed(program, data) == expected]
+    for program in programs:
+        if program not in same:
+            print('%s differs from the line program on: %s' % (program, name))
+    return len(same)
+
+
 def main():
     options = argparse.ArgumentParser()
     options.add_argument('line_program')
@@ -73,17 +94,15 @@ def main():
     options.add_argument('--sessions', type=int, default=1000)
     options.add_argument('--seed', type=int, default=1)
     args = options.parse_args()
-    passed = failed = lines = 0
+    passed = lines = inputs_made = 0
     for name, data in inputs(random.Random(args.seed), args.sessions):
-        expected = printed(args.line_program, data)
+        passed += compared(args.programs, printed(args.line_program, data), data, name)
         lines += data.count(b'\n')
-        for program in args.programs:
-            same = printed(program, data) == expected
-            if not same:
-                print('%s differs from the line program on: %s' % (program, name))
-            passed, failed = passed + same, failed + (not same)
-    print('%d lines to each program' % lines)
-    print('%d passed, %d failed' % (passed, failed))
+        inputs_made += 1
+    prompt = [program for program in [args.line_program] + args.programs if answers_at_once(program)]
+    failed = inputs_made * len(args.programs) - passed + len(args.programs) + 1 - len(prompt)
+    print('%d lines to each program; answered at once by %s' % (lines, ', '.join(prompt)))
+    print('%d passed, %d failed' % (passed + len(prompt), failed))
     return 1 if failed else 0
 
 
