@@ -6,7 +6,8 @@
  * keeps, so there may be any number of planners.
  *
  * What the caller owes: every pointer is to memory that is there for the length given, aligned for its type and not null, also where the
- * length is 0; the planner, the output and the work do not overlap one another or the line; nobody else writes them during a call.
+ * length is 0; the planner, the output and the work do not overlap one another or the line; nobody else writes them, the line or the run
+ * during a call.
  * What the bytes are does not matter. A planner, an output and a work may hold anything.
  *
  * What is proved is in crates/firmware/src/lib.rt: each function has its promise there, for every planner and all buffers. The lines and

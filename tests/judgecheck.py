@@ -4,8 +4,9 @@
   judgecheck.py LIBRARY.so [--cases N] [--seed S]
 
 Each case is a book and a tree, built line by line, and proposed runs of every sort: runs, what would be runs but for one rule of the paper,
-runs with one number changed, numbers that name nothing, numbers of another width, and too few or too many of them. A run is a run exactly if the enumeration has it. Then the same runs are
-given to oracles that are wrong on purpose, and each must be told apart. The last line is 'N passed, M failed'.
+runs with one number changed, numbers that name nothing, numbers of another width, and too few or too many of them. Numbers are a run exactly
+if the enumeration has them. Then the same numbers are given to oracles that are wrong on purpose, and each must be told apart from the judge.
+The last line is 'N passed, M failed'.
 """
 import argparse
 import random

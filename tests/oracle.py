@@ -170,43 +170,42 @@ class Oracle:
 
     # ---- lines
 
+    def in_range(self, word, f):
+        """Is every value of a command in its range?"""
+        n, states, stages = len(self.loads), self.states, self.stages
+        if word == 'book':
+            return 1 <= f[0] <= 8 and 1 <= f[1] <= 8
+        if word == 'start':
+            return 1 <= f[0] <= states
+        if word == 'end':
+            return 1 <= f[0] <= stages
+        if word == 'rule':
+            return 1 <= f[0] <= states and f[1] <= 1 and 1 <= f[2] <= stages
+        if word == 'row':
+            return 1 <= f[0] <= stages and 1 <= f[1] <= states and 1 <= f[2] <= stages
+        if word == 'load':
+            return (f[0] == 0 if n == 0 else 1 <= f[0] <= n) and f[1] <= 500 and f[2] <= 1000
+        if word == 'power':
+            return 1 <= f[0] <= n and f[1] <= 500
+        if word == 'worth':
+            return 1 <= f[0] <= n and f[1] <= 1000
+        if word == 'budget':
+            return f[0] <= 500
+        return word != 'check' or len(f) == n
+
     def refusal(self, command, cells):
         """The lowest number that applies, 0 for none, but for 9 and 10."""
         if command is None:
             return 3
         word, f = command
-        n = len(self.loads)
-        if word in ('plan', 'check') and n == 0:
+        if word in ('plan', 'check') and not self.loads:
             return 4
-        if word == 'book' and not (1 <= f[0] <= 8 and 1 <= f[1] <= 8):
+        if not self.in_range(word, f):
             return 5
-        if word == 'start' and not 1 <= f[0] <= self.states:
-            return 5
-        if word == 'end' and not 1 <= f[0] <= self.stages:
-            return 5
-        if word == 'rule' and not (1 <= f[0] <= self.states and f[1] <= 1 and 1 <= f[2] <= self.stages):
-            return 5
-        if word == 'row' and not (1 <= f[0] <= self.stages and 1 <= f[1] <= self.states and 1 <= f[2] <= self.stages):
-            return 5
-        if word == 'load' and not ((f[0] == 0 if n == 0 else 1 <= f[0] <= n) and f[1] <= 500 and f[2] <= 1000):
-            return 5
-        if word == 'power' and not (1 <= f[0] <= n and f[1] <= 500):
-            return 5
-        if word == 'worth' and not (1 <= f[0] <= n and f[1] <= 1000):
-            return 5
-        if word == 'budget' and not f[0] <= 500:
-            return 5
-        if word == 'check' and len(f) != n:
-            return 5
-        if word == 'load' and n >= 64:
+        kept, most = {'load': (self.loads, 64), 'rule': (self.rules, 32), 'row': (self.rows, 32)}.get(word, ([], 1))
+        if len(kept) >= most:
             return 6
-        if word == 'rule' and len(self.rules) >= 32:
-            return 6
-        if word == 'row' and len(self.rows) >= 32:
-            return 6
-        if word == 'rule' and tuple(f) in self.rules:
-            return 7
-        if word == 'row' and tuple(f) in self.rows:
+        if word in ('rule', 'row') and tuple(f) in kept:
             return 7
         if word == 'plan' and cells < self.cells():
             return 8

@@ -23,7 +23,7 @@ use Rattle.calls.specs.Calls.{Call, Reply, numberOf, reply, answer, turn
 use Rattle.calls.specs.Demand1.{Demand1}
 use Rattle.calls.proofs.Numbers.{causes-lowest, refusal-most, refused-keeps}
 use Rattle.calls.proofs.Answers.{called-stored, answer-at}
-use Rattle.calls.proofs.Work.{unsearched}
+use Rattle.calls.proofs.Work.{clash, unchanged, unsearched, plan-zeroed}
 use Rattle.calls.proofs.Fits.{answer-fits}
 use Rattle.calls.proofs.Printed.{written-is}
 
@@ -40,7 +40,8 @@ broken s c e =
       fits = lit≤ tt;
       before = refl;
       behind = refl;
-      work = λ _. refl;
+      cleared = λ _ e. absurd (clash (sym e));
+      unchanged = λ _. refl;
     }
 
 -- ---- bytes stored at a place that has room for them
@@ -105,7 +106,8 @@ module _ (t : Tables) (h : Limits t) (c : Call) where
         behind = ⊎-elim
             (λ e. subst (λ (r : Reply). drop (c .place + r .count) (r .output) ≡ drop (c .place + r .count) (c .output)) (sym (one e)) refl)
             (stored-behind (c .output) bs (c .place)) one-or-room;
-        work = unsearched t n (parse (c .line)) (c .work);
+        cleared = λ p e. rw (tables-stored t h) (plan-zeroed t n (parse (c .line)) (c .work) p e);
+        unchanged = unchanged t n (parse (c .line)) (c .work);
       }
 
 pub demand1 : (s : StoredTables) → Lengths s → (c : Call) → Demand1 s c (called s c)

@@ -6,7 +6,7 @@ pub mod Work
 pub mod Fits
 pub mod Printed
 pub mod Demand1
-pub mod Demand3
 pub mod Demand2
+pub mod Demand3
 pub mod Program
 pub mod Session

@@ -1,17 +1,21 @@
--- Demand 1: what every call gives and leaves, on any planner, with any line, output, place and work.
+-- Demand 1: what every call gives and leaves, on any planner, whatever its fields hold, with any line, output, place and work. (The proof
+-- takes the lengths of the planner's arrays, which their types give: `Lengths` of crate tables.)
 -- It stands for "Causes and numbers" of paper 01: "The lowest number that applies is given. Each is given exactly in its case." and the
 -- columns "returned" and "left as it was"; and for the buffers of "Lines". (That a call ends and does nothing undefined is part of the proof
 -- of every function. The judge's part stands in the crate judge.) Assumes nothing.
 use Prim.Native.Nat.{_+_, _≤_, _<_}
 use mathlib.Core.Path.{_≡_}
-use mathlib.Core.Bool.{false, not}
+use mathlib.Core.Bool.{true, not}
 use mathlib.Core.List.{List, _∷_}
 use lib.ListN.{length, take, drop}
+use Rattle.lines.specs.declared.Command.the-variants.{Plan}
+use Rattle.lines.specs.Grammar.{parse}
 use Rattle.lines.specs.Answers.{refused, freeBytes}
 use Rattle.tables.specs.declared.tables.StoredTables.{StoredTables}
 use Rattle.tables.specs.Stored.{tablesOf, keepsLimits}
+use Rattle.meaning.specs.Cells.{cellsOf}
 use Rattle.calls.specs.Causes.{Cause, _if_, allCauses, Lowest}
-use Rattle.calls.specs.Printing.{searched}
+use Rattle.calls.specs.Printing.{zeroed, searched}
 use Rattle.calls.specs.Calls.{Call, Done, written, turnedAway}
 
 -- every cause of the table, in its order: "a planner handed in that breaks a limit", then those of its tables
@@ -33,5 +37,6 @@ pub record Demand1 (s : StoredTables) (c : Call) (d : Done) : Type 0 where
   -- "Bytes before the place and after the answer keep their values."
   pub before : take (c .place) (d .reply .output) ≡ take (c .place) (c .output)
   pub behind : drop (c .place + d .reply .count) (d .reply .output) ≡ drop (c .place + d .reply .count) (c .output)
-  -- work is left as it was, but by an accepted line and by refusal 9
-  pub work : searched (d .reply .number) ≡ false → d .reply .work ≡ c .work
+  -- "After a plan or refusal 9 those cells are 0; all other cells, and all cells after any other call, are unchanged."
+  pub cleared : parse (c .line) ≡ Plan → searched (d .reply .number) ≡ true → d .reply .work ≡ zeroed (cellsOf (tablesOf s)) (c .work)
+  pub unchanged : (parse (c .line) ≡ Plan → searched (d .reply .number) ≡ true → ⊥) → d .reply .work ≡ c .work

@@ -5,7 +5,7 @@ pub mod Effects
 pub mod Printing
 pub mod Calls
 pub mod Demand1
-pub mod Demand3
 pub mod Demand2
+pub mod Demand3
 pub mod Program
 pub mod Session

@@ -1,5 +1,5 @@
--- Two problems that agree on the book and on a row, with all loads below it, have the same best for that row, from each stage and at each
--- allowance, whatever else they hold. It stands for request Seven. Assumes nothing.
+-- Two problems with the same book and, from a load on, the same row as a forest have the same best for that row, from each stage and at each
+-- allowance, whatever else they hold. Request Seven asks for that. Assumes nothing.
 use Prim.Native.Nat.{ℕ}
 use mathlib.Core.Path.{_≡_, ap₂}
 use Rattle.tables.specs.Tables.{Book}

@@ -21,11 +21,11 @@ use Rattle.tables.specs.declared.load.Load.{Load}
 use Rattle.tables.specs.declared.load.LoadList.{LoadList}
 use Rattle.tables.specs.declared.tables.StoredTables.{StoredTables}
 use Rattle.tables.specs.Tables.{noRule, noLoad}
-use Rattle.tables.specs.Limits.{between, maxStates, maxRules, maxLoads, sizeIn, bookSize, marksIn, ruleIn, sameRule, loadRuleRange, rowRuleRange, rulesIn, bookIn, parentIn, powerIn, worthIn, budgetIn, loadIn, loadsIn, limits}
+use Rattle.tables.specs.Limits.{between, maxStates, maxRules, maxLoads, maxWorth, sizeIn, bookSize, marksIn, ruleIn, sameRule, loadRuleRange, rowRuleRange, rulesIn, bookIn, parentIn, powerIn, worthIn, budgetIn, loadIn, loadsIn, limits}
 use Rattle.tables.specs.Stored.{rulesOf, loadsOf, bookOf, tablesOf, zeroRule, zeroLoad, keepsLimits}
 use Rattle.meaning.proofs.Ordered.{loads-ordered}
 use Rattle.meaning.specs.Cell.{powerLimit}
-use Rattle.cells.specs.Problem.{maxWorth, RulesIn, LoadsIn, Lawful}
+use Rattle.cells.specs.Problem.{RulesIn, LoadsIn, Lawful}
 use Rattle.cells.proofs.Tables.{rule-at, rules-length}
 
 range : (a b x : ℕ) → between a b x ≡ true → (a ≤ x) × (x ≤ b)

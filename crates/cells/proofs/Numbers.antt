@@ -1,13 +1,12 @@
 -- Cells as numbers: that of the empty set, and the bound that every cell of a search keeps. A request that changes what is best changes
--- this file. Of 64 loads worth 1,000 each no cell passes 130,001; as worth × 512 + 512 − power, and of 128 loads, none would pass
--- 132,096,512, which is below the limit of 2 ^ 30, and two below it fit 32 bits together. Assumes nothing.
+-- this file. The limit is 2 ^ 30: two numbers below it fit 32 bits together, and no cell passes it, not even of 128 loads worth 1,000
+-- each with cells worth × 512 + 512 − power, which are at most 65,536,512. Assumes nothing.
 use Prim.Native.Nat.{ℕ, _+_, _*_, _≤_, _<_}
 use mathlib.Core.Path.{_≡_, refl}
 use native.Mathlib.Numerals.{add-one}
 use native.Mathlib.Omega.{arith}
-use Rattle.tables.specs.Limits.{maxLoads}
+use Rattle.tables.specs.Limits.{maxLoads, maxWorth}
 use Rattle.meaning.specs.Cell.{cell, empty}
-use Rattle.cells.specs.Problem.{maxWorth}
 use Rattle.cells.specs.Work.{cellLimit, heldIn}
 
 pub empty-is : 1 ≡ empty

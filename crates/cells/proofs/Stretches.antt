@@ -22,7 +22,8 @@ use Rattle.meaning.proofs.Cells.{row-end, row-cell}
 use Rattle.meaning.proofs.Rows.{after-above}
 use Rattle.cells.specs.declared.problem.Problem.{Problem}
 use Rattle.cells.specs.declared.problem.StoredItem.{StoredItem}
-use Rattle.cells.specs.Problem.{bookFor, loadsFor, itemsIf, itemsFor, itemOf, shapeOf, maxWorth, Lawful}
+use Rattle.cells.specs.Problem.{bookFor, loadsFor, itemsIf, itemsFor, itemOf, shapeOf, Lawful}
+use Rattle.tables.specs.Limits.{maxWorth}
 use Rattle.cells.specs.Work.{placeOf, cellLimit, heldIn, heldBranch, heldRow, branchFor, rowFor, cellOf, Holds}
 use Rattle.cells.specs.Strip.{Rising, Rises}
 use Rattle.cells.proofs.Numbers.{cell-fits, held-same}

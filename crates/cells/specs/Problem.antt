@@ -14,7 +14,7 @@ use Rattle.tables.specs.declared.load.LoadList.{LoadList}
 use Rattle.tables.specs.declared.rule.TransitionList.{TransitionList}
 use Rattle.tables.specs.declared.tables.StoredTables.{StoredTables}
 use Rattle.tables.specs.Tables.{Book, noLoad, noRule}
-use Rattle.tables.specs.Limits.{maxLoads, maxRules, maxStates}
+use Rattle.tables.specs.Limits.{maxLoads, maxRules, maxStates, maxWorth}
 use Rattle.tables.specs.Stored.{bookOf, loadsOf}
 use Rattle.meaning.specs.Forest.{Item, planned, checked, IsTree}
 use Rattle.meaning.specs.Cell.{powerLimit}
@@ -75,10 +75,6 @@ pub record RulesIn (l : TransitionList) (low high stages : ℕ) : Type 0 where
   pub full : length (l .items) ≡ maxRules
   pub label : (j : ℕ) → j < l .count → (low ≤ getD (l .items) j noRule .label) × (getD (l .items) j noRule .label ≤ high)
   pub to : (j : ℕ) → j < l .count → (0 < getD (l .items) j noRule .to) × (getD (l .items) j noRule .to ≤ stages)
-
--- "worth 0 to 1,000"
-abbrev pub maxWorth : ℕ
-maxWorth = 1000
 
 -- the loads are a tree, and their figures are in range
 pub record LoadsIn (l : LoadList) : Type 0 where

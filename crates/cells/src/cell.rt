@@ -2,17 +2,20 @@
 ghost use mathlib.Core.Path.{_≡_};
 ghost use Prim.Native.Nat.{max, _≤_, _<_};
 ghost use Rattle.meaning.specs.Cell.{cell, powerLimit, _⊕_};
-ghost use Rattle.cells.specs.Problem.{maxWorth};
+ghost use Rattle.tables.specs.Limits.{maxWorth};
 ghost use Rattle.cells.specs.Work.{cellLimit, heldIn};
 
 // The cell of the empty set.
 pub const EMPTY: u32 = 1;
 
+// No cell of a search passes this, and two numbers below it fit 32 bits together.
+const CELL_LIMIT: u32 = 1073741824;
+
 // What a cell says, whatever it holds.
 pub fn held(x: u32) -> u32
     ensures { λ r. ⌜ r ≡ heldIn x ⌝ }
 {
-    x % 1073741824
+    x % CELL_LIMIT
 }
 
 pub(crate) fn greater(x: u32, y: u32) -> u32

@@ -8,12 +8,12 @@ ghost use mathlib.Core.Path.{_≡_};
 ghost use mathlib.Core.Bool.{true};
 ghost use Prim.Native.Nat.{_-_, _≤_, _<_};
 ghost use lib.ListN.{length};
-ghost use Rattle.tables.specs.Limits.{maxLoads};
+ghost use Rattle.tables.specs.Limits.{maxLoads, maxWorth};
 ghost use Rattle.tables.specs.Stored.{loadsOf, keepsLimits};
 ghost use Rattle.meaning.specs.Forest.{after};
 ghost use Rattle.meaning.specs.Cell.{powerLimit, draw, score};
 ghost use Rattle.meaning.specs.Cells.{loadAt};
-ghost use Rattle.cells.specs.Problem.{planProblem, checkProblem, loadsFor, itemsFor, itemOf, servesIf, shapeOf, maxWorth, Lawful};
+ghost use Rattle.cells.specs.Problem.{planProblem, checkProblem, loadsFor, itemsFor, itemOf, servesIf, shapeOf, Lawful};
 ghost use Rattle.cells.specs.Work.{cellLimit};
 
 // The tables of a search. Where `fixed`, only the load rules with the marks of `set` serve, and no figure counts.

@@ -23,9 +23,13 @@ ghost use Rattle.lists.specs.Argmax.{guard};
 ghost use Rattle.tables.specs.Stored.{rulesOf};
 ghost use Rattle.meaning.specs.Cell.{powerLimit};
 ghost use Rattle.meaning.specs.Best.{bestRule, loadReach, rowReach, shares};
-ghost use Rattle.cells.specs.Problem.{itemOf, shapeOf, maxWorth, RulesIn, Lawful};
+ghost use Rattle.cells.specs.Problem.{itemOf, shapeOf, RulesIn, Lawful};
+ghost use Rattle.tables.specs.Limits.{maxWorth};
 ghost use Rattle.cells.specs.Work.{cellLimit, placeOf, Ready, heldBranch, heldRow, cellOf, Holds, Filled};
 ghost use Rattle.cells.specs.Strip.{moved, Raised, Rises};
+
+// The cells of a strip: one for each allowance from 0 to 500, and more.
+const STRIP: usize = 512;
 
 // The strip raised to the row from load k onward at stage g, joined with `own` and moved up by `shift`.
 fn lift_row(
@@ -234,7 +238,7 @@ pub(crate) fn stretch(p: Problem, work: &mut [u32], k: usize, x: usize, from: us
     requires { ⌜ (0 < k) × (k ≤ shapeOf p .loads) × (x < shapeOf p .states + shapeOf p .stages) × (from ≤ to) × (to ≤ shapeOf p .budget + 1) ⌝ }
     ensures { λ _. ⌜ Filled p (now (work .entry)) (now (work .exit)) (placeOf (shapeOf p) k x + from) (placeOf (shapeOf p) k x + to) ⌝ }
 {
-    let mut strip = [0u32; 512];
+    let mut strip = [0u32; STRIP];
     raise(p, &work[..], &mut strip[..], k, x, from, to);
     let at = place(shape_of(p), k, x);
     store(work, &strip[..], at, from, to);

@@ -17,7 +17,8 @@ ghost use Rattle.marks.specs.Bits.{hasMark};
 ghost use Rattle.tables.specs.Stored.{rulesOf};
 ghost use Rattle.meaning.specs.Cell.{powerLimit};
 ghost use Rattle.meaning.specs.Best.{shares, loadReach, rowReach, bestRule};
-ghost use Rattle.cells.specs.Problem.{itemOf, maxWorth, RulesIn};
+ghost use Rattle.cells.specs.Problem.{itemOf, RulesIn};
+ghost use Rattle.tables.specs.Limits.{maxWorth};
 ghost use Rattle.cells.specs.Work.{cellLimit, Ready, heldBranch, heldRow};
 ghost use Rattle.engine.specs.Search.{greatestOf};
 
@@ -69,7 +70,7 @@ fn branch_at(sh: Shape, work: &[u32], k: usize, q: usize, c: usize) -> u32
 }
 
 // The best part of the allowance c for the branch of load k in state q, beside the row from load `next` onward at stage h.
-pub fn best_share(
+pub(crate) fn best_share(
     sh: Shape,
     work: &[u32],
     k: usize,
@@ -137,7 +138,7 @@ fn row_reach(sh: Shape, t: Transition, work: &[u32], k: usize, next: usize, g: u
 }
 
 // The best load rule for a load in state q with the allowance c.
-pub fn best_load_rule(
+pub(crate) fn best_load_rule(
     sh: Shape,
     rules: TransitionList,
     i: StoredItem,
@@ -161,7 +162,7 @@ pub fn best_load_rule(
 }
 
 // The best row rule for the row from load k onward at the stage g with the allowance c.
-pub fn best_row_rule(
+pub(crate) fn best_row_rule(
     sh: Shape,
     rules: TransitionList,
     work: &[u32],
@@ -197,7 +198,7 @@ fn start_at(sh: Shape, starts: Marks, work: &[u32], s: usize, c: usize) -> u32
 }
 
 // The best start state, less 1, with allowance c.
-pub fn best_start(sh: Shape, starts: Marks, work: &[u32], c: usize) -> Best
+pub(crate) fn best_start(sh: Shape, starts: Marks, work: &[u32], c: usize) -> Best
     requires { ⌜ Ready sh (now work) ⌝ }
     requires { ⌜ (0 < sh .loads) × (c ≤ sh .budget) ⌝ }
     ensures { λ r. ⌜ greatestOf r ≡ argmax (λ s. guard (hasMark (starts .0) (suc s)) (heldBranch sh (now (work .entry)) 1 (suc s) c)) (sh .states) ⌝ }

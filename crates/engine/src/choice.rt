@@ -33,7 +33,7 @@ pub struct RowChoice {
 }
 
 // The lowest load rule that still reaches the best for load k in state q with allowance c, which is possible.
-pub fn load_choice(p: Problem, work: &[u32], k: usize, q: u8, c: usize) -> LoadChoice
+pub(crate) fn load_choice(p: Problem, work: &[u32], k: usize, q: u8, c: usize) -> LoadChoice
     requires { ⌜ Complete p (now work) ⌝ }
     requires { ⌜ (0 < k) × (k ≤ p .tables .loads .count) × (c ≤ p .tables .budget) × (0 < branchFor p k q c) ⌝ }
     ensures { λ r. ⌜ r ≡ loadChoice p k q c ⌝ }
@@ -60,7 +60,7 @@ pub fn load_choice(p: Problem, work: &[u32], k: usize, q: u8, c: usize) -> LoadC
 
 // The lowest row rule that still reaches the best for the row from load k onward at stage g with allowance c, which is possible; then the
 // smallest allowance for the load's branch that does.
-pub fn row_choice(p: Problem, work: &[u32], k: usize, g: u8, c: usize) -> RowChoice
+pub(crate) fn row_choice(p: Problem, work: &[u32], k: usize, g: u8, c: usize) -> RowChoice
     requires { ⌜ Complete p (now work) ⌝ }
     requires { ⌜ (0 < k) × (k ≤ p .tables .loads .count) × (c ≤ p .tables .budget) × (0 < rowFor p k g c) ⌝ }
     ensures { λ r. ⌜ r ≡ rowChoice p k g c ⌝ }

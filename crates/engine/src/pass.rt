@@ -89,7 +89,7 @@ fn pass_next(p: Problem, work: &[u32], s: Pass, n: usize) -> Pass
 }
 
 // Reads the run back: nothing where no start state is possible.
-pub fn trace(p: Problem, work: &[u32]) -> Outcome
+pub(crate) fn trace(p: Problem, work: &[u32]) -> Outcome
     requires { ⌜ Complete p (now work) ⌝ }
     requires { ⌜ 0 < p .tables .loads .count ⌝ }
     ensures { λ r. ⌜ r ≡ outcomeOf (bestFor p) (inOrder (entriesFor p) 1 (p .tables .loads .count)) ⌝ }

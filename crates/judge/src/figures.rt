@@ -75,7 +75,7 @@ fn step_of(
 }
 
 // The figures of every load, by the numbers that the run gives it.
-pub fn look_up(t: StoredTables, run: &[u32]) -> Figures
+pub(crate) fn look_up(t: StoredTables, run: &[u32]) -> Figures
     requires { ⌜ (keepsLimits t ≡ true) × (length (now run) ≡ 3 * t .loads .count) ⌝ }
     ensures { λ r. ⌜ LookedUp (tablesOf t) (proposed (now (run .entry))) (t .loads .count) (t .book .ends) (r .parents) (r .begins) (r .stages) (r .nexts) ⌝ }
 {

@@ -54,7 +54,7 @@ fn next_sibling(n: usize, k: usize, parents: &[u8; MAX_LOADS]) -> usize
 }
 
 // Is the branch of load k run by the rules? Its row of children begins at the stage of its load rule.
-pub fn branch_runs<'a>(
+pub(crate) fn branch_runs<'a>(
     n: usize,
     k: usize,
     ends: Marks,

@@ -1,4 +1,4 @@
--- Lines of bytes: how they are read, what is printed, and how input is cut into lines.
+-- Lines of bytes: how they are read, what is printed, and how input is cut into lines. Reading serves only inside.
 pub mod Text
 pub mod Length
 pub mod Grammar

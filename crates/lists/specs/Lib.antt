@@ -1,5 +1,5 @@
 -- Lists, as every other crate needs them: laid out in arrays, tested, and searched for the greatest value.
--- They stand for no sentence of a paper; the papers' definitions are built from them.
+-- The papers' definitions are built from them; each file names what it is for.
 pub mod Tests
 pub mod Arrays
 pub mod Places

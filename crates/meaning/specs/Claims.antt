@@ -52,7 +52,7 @@ pub record Claims (t : Tables) : Type 0 where
   -- "checked set not allowed" is refusal 10, and else its run is shown
   pub allowed : (σ : ℕ → ℕ) → (0 < bestCheck t σ) ↔ Accepted t σ
   pub checked : (σ : ℕ → ℕ) → 0 < bestCheck t σ → CheckShown t σ (checkEntries t σ)
-  -- "the judge says yes exactly of runs": of its own marks
+  -- the judge says yes exactly of runs: those of its own marks
   pub judged : (ρ : ℕ → Assigned) → T (judgeTree (t .book) ρ (treeOf t)) ↔ TreeRun (t .book) (ownMarks (t .book) ρ) ρ (treeOf t)
   -- a greater budget is never worse
   pub grows : (b c : ℕ) → b ≤ c → bestPlan (setBudget t b) ≤ bestPlan (setBudget t c)

@@ -1,6 +1,7 @@
 -- Sets of loads of the tables: their figures, whether they are allowed, and which is best.
 -- It stands for "A set's worth and power are the sums of its loads' figures, 0 for the empty set; it fits if its power is at most the
--- budget", "A set is allowed if it has a run" and demand 3's "no allowed set that fits is worth more". Assumes nothing.
+-- budget", "A set is allowed if it has a run" and "The plan has the greatest worth of all allowed sets whose power is within the budget". Assumes
+-- nothing.
 use Prim.Native.Nat.{ℕ, zero, suc, _≤_}
 use lib.Dec.{eqb}
 use Rattle.lists.specs.Argmax.{guard}
@@ -9,7 +10,7 @@ use Rattle.meaning.specs.Forest.{Forest, planned, tree, sum}
 use Rattle.meaning.specs.Runs.{Assigned, TreeRun}
 use Rattle.meaning.specs.Acceptance.{Accepts}
 
--- a figure counts where the mark is not 0
+-- a figure counts where the mark is not 0; a load rule has mark 0 or 1
 abbrev pub counted : (mark figure : ℕ) → ℕ
 counted zero x = 0
 counted (suc m) x = x

@@ -149,7 +149,7 @@ fn called(p: Planner, lent: Lent, word: &[u8], every: bool) -> Planner {
 }
 
 // Each line of a text, on the planner that the one before left. The lines are parted by blanks.
-pub fn called_on_each(p: Planner, lent: Lent, text: &[u8], every: bool) -> Planner {
+pub(crate) fn called_on_each(p: Planner, lent: Lent, text: &[u8], every: bool) -> Planner {
     let mut planner = p;
     let mut at: usize = 0;
     while at < text.len() {

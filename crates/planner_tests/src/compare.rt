@@ -52,6 +52,6 @@ fn same_book(a: StoredBook, b: StoredBook) -> bool {
         & same_rules(a.row_rules, b.row_rules)
 }
 
-pub fn same_tables(a: StoredTables, b: StoredTables) -> bool {
+pub(crate) fn same_tables(a: StoredTables, b: StoredTables) -> bool {
     same_book(a.book, b.book) & same_loads(a.loads, b.loads) & (a.budget == b.budget)
 }

@@ -98,7 +98,7 @@ fn with_load(p: Planner, n: [u64; MOST_NUMBERS]) -> Planner {
 }
 
 // The planner with this change.
-pub fn damaged(p: Planner, change: &[u8]) -> Planner {
+pub(crate) fn damaged(p: Planner, change: &[u8]) -> Planner {
     if change.len() == 0 {
         return p;
     }

@@ -2,24 +2,24 @@
 use crate::text::end_of;
 use libc::STDOUT_FILENO;
 
-pub fn print(text: &[u8]) {
+pub(crate) fn print(text: &[u8]) {
     io::write_all(STDOUT_FILENO, text);
 }
 
 // A text, and a number after it.
-pub fn print_count(text: &[u8], n: usize) {
+pub(crate) fn print_count(text: &[u8], n: usize) {
     print(text);
     io::print_decimal(STDOUT_FILENO, n as u64);
 }
 
 // A text on a line of its own.
-pub fn print_line(text: &[u8]) {
+pub(crate) fn print_line(text: &[u8]) {
     print(text);
     print(b"\n");
 }
 
 // An answer on one line: `/` stands for each line feed.
-pub fn print_answer(answer: &[u8]) {
+pub(crate) fn print_answer(answer: &[u8]) {
     let mut at: usize = 0;
     while at < answer.len() {
         let end = end_of(answer, at, b'\n');

@@ -18,7 +18,7 @@ fn print_verdict(p: Planner, run: &[u32]) {
 }
 
 // The verdict on these numbers.
-pub fn judged(p: Planner, run: NumberList) {
+pub(crate) fn judged(p: Planner, run: NumberList) {
     let mut figures = [0u32; MOST_NUMBERS];
     let items = run.items;
     for i in 0..MOST_NUMBERS {

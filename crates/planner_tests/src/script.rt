@@ -82,7 +82,7 @@ fn obey(t: Test, line: &[u8]) -> Test {
 }
 
 // Every step of a script, from a fresh planner on.
-pub fn follow(script: &[u8]) {
+pub(crate) fn follow(script: &[u8]) {
     let mut test = Test {
         planner: Planner::fresh(),
         lent: ROOM,

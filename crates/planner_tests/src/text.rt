@@ -22,7 +22,7 @@ pub struct Line {
 }
 
 // Where the part ends that begins at a place: at the next byte of this kind, or at the end.
-pub fn end_of(text: &[u8], at: usize, byte: u8) -> usize
+pub(crate) fn end_of(text: &[u8], at: usize, byte: u8) -> usize
     requires { ⌜ at ≤ length (now text) ⌝ }
     ensures { λ r. ⌜ (at ≤ r) × (r ≤ length (now (text .entry))) ⌝ }
 {
@@ -35,7 +35,7 @@ pub fn end_of(text: &[u8], at: usize, byte: u8) -> usize
 }
 
 // Where the next part begins: past the byte that ends this one, or at the end.
-pub fn past(text: &[u8], end: usize) -> usize
+pub(crate) fn past(text: &[u8], end: usize) -> usize
     requires { ⌜ end ≤ length (now text) ⌝ }
     ensures { λ r. ⌜ r ≡ min (end + 1) (length (now (text .entry))) ⌝ }
 {
@@ -67,7 +67,7 @@ fn number(word: &[u8]) -> u64 {
 }
 
 // The number of each word that begins with a digit.
-pub fn numbers(text: &[u8]) -> NumberList {
+pub(crate) fn numbers(text: &[u8]) -> NumberList {
     let mut found = NumberList {
         items: [0; MOST_NUMBERS],
         count: 0,
@@ -118,7 +118,7 @@ fn decoded(code: &[u8]) -> u8 {
 }
 
 // The line that a word stands for: `%` with two digits of base 16 stands for a byte, and `%` without them for nothing.
-pub fn line_of(word: &[u8]) -> Line
+pub(crate) fn line_of(word: &[u8]) -> Line
     ensures { λ r. ⌜ r .count ≤ length (r .bytes) ⌝ }
 {
     let mut line = Line {

@@ -70,14 +70,23 @@ parentIn (suc zero) p = eqb p 0
 parentIn (suc (suc k)) p = between 1 (suc k) p
 
 -- "Power is 0 to 500 watts, worth 0 to 1,000. The budget is 0 to 500 watts."
+abbrev pub maxPower : ℕ
+maxPower = 500
+
+abbrev pub maxWorth : ℕ
+maxWorth = 1000
+
+abbrev pub maxBudget : ℕ
+maxBudget = 500
+
 abbrev pub powerIn : ℕ → Bool
-powerIn w = leb w 500
+powerIn w = leb w maxPower
 
 abbrev pub worthIn : ℕ → Bool
-worthIn v = leb v 1000
+worthIn v = leb v maxWorth
 
 abbrev pub budgetIn : ℕ → Bool
-budgetIn b = leb b 500
+budgetIn b = leb b maxBudget
 
 unfoldable pub loadIn : (number : ℕ) → Load → Bool
 loadIn k l = parentIn k (l .parent) && powerIn (l .power) && worthIn (l .worth)

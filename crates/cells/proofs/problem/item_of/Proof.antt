@@ -14,7 +14,8 @@ use Rattle.meaning.specs.Forest.{Item, planned}
 use Rattle.meaning.specs.Cell.{powerLimit}
 use Rattle.meaning.specs.Cells.{loadAt}
 use Rattle.cells.specs.declared.problem.Problem.{Problem}
-use Rattle.cells.specs.Problem.{itemsIf, itemsFor, maxWorth, LoadsIn}
+use Rattle.cells.specs.Problem.{itemsIf, itemsFor, LoadsIn}
+use Rattle.tables.specs.Limits.{maxWorth}
 use Rattle.cells.proofs.Tables.{load-stored}
 use Rattle.cells.proofs.problem.item_of.Statement.{statement}
 use Rattle.cells.proofs.problem.item_of.Tie as tie
