@@ -16,10 +16,9 @@ use Rattle.lists.proofs.Arrays.{take-laid}
 use Rattle.lines.specs.declared.Command.{Command}
 use Rattle.lines.specs.declared.Command.the-variants.{Broken, Check}
 use Rattle.lines.specs.declared.reading.Word.{Word}
-use Rattle.lines.specs.declared.reading.Numbers.{Numbers}
 use Rattle.lines.specs.Text.{bytes, comma, same, before}
 use Rattle.lines.specs.Grammar.{onFirst, fields, isNumber, valueFrom, value, isBit, isBits, loadsOf, Form, numbers, bits, table, find, parse}
-use Rattle.lines.specs.Reading.{codeFrom, code, mostLetters, wordOf, fieldsAfter, mostNumbers, numbersIn, bitsOf, numbered, withNumbers}
+use Rattle.lines.specs.Reading.{codeFrom, code, mostLetters, wordOf, fieldsAfter, mostNumbers, countOf, numbersIn, bitsOf, numbered, withNumbers}
 use Rattle.lines.proofs.Before.{before-most}
 use Rattle.lines.proofs.Fields.{Cons, cons, fields-cons}
 use Rattle.lines.proofs.Codes.{Bytes, bytes-take, code-word, same-is, same-code}
@@ -44,10 +43,14 @@ word-split (b ∷ bs) = go (eqb b comma) (word-split bs)
 abbrev shortCode : List ℕ → ℕ
 shortCode w = pick (leb (length w) mostLetters) (code w) 0
 
+-- how many numbers the table has after a word
+abbrev countAfter : List ℕ → ℕ
+countAfter w = countOf table (shortCode w)
+
 -- what the rows of the table keep to, and that the word is not one of those before bits
 abbrev Rows : List Form → List ℕ → Type 0
 Rows [] w = Unit {0}
-Rows (numbers v n f ∷ xs) w = (Bytes v × (length v ≤ mostLetters) × (n ≤ mostNumbers)) × Rows xs w
+Rows (numbers v n f ∷ xs) w = (Bytes v × (length v ≤ mostLetters) × (n ≤ mostNumbers) × (countOf table (code v) ≡ n)) × Rows xs w
 Rows (bits v f ∷ xs) w = (same v w ≡ false) × Rows xs w
 
 long-word : (v w : List ℕ) → length v < length w → same v w ≡ false
@@ -76,15 +79,17 @@ map-at (f ∷ fs) zero = refl
 map-at (f ∷ fs) (suc i) = map-at fs i
 
 module _ (w : List ℕ) (b : Bytes w) (fs : List (List ℕ)) where
-  -- fields that are no numbers, or too many
-  find-broken : (xs : List Form) → Rows xs w → every isNumber fs && leb (length fs) mostNumbers ≡ false → find xs w fs ≡ Broken
+  -- a word that is not in the table, or fields that are not its numbers
+  find-broken : (xs : List Form) → Rows xs w → (countAfter w ≤ mostNumbers → eqb (length fs) (countAfter w) && every isNumber fs ≡ false) → find xs w fs ≡ Broken
   unfolding find
   find-broken [] r h = refl
-  find-broken (numbers v n f ∷ xs) r h = rw (no (every isNumber fs) refl h) (find-broken xs (r .1) h)
+  find-broken (numbers v n f ∷ xs) r h = rw (same-short v w (r .0 .0) b (r .0 .1), no (eqb (shortCode w) (code v)) refl) (find-broken xs (r .1) h)
     where
-      no : (t : Bool) → every isNumber fs ≡ t → t && leb (length fs) mostNumbers ≡ false → same v w && eqb (length fs) n && every isNumber fs ≡ false
-      no true e l = rw (ne-eqb (length fs) n (λ q. absurd (omega (arith, r .0 .2, leb-false (length fs) mostNumbers l))), and-false (same v w))
-      no false e l = rw (e, and-false (same v w && eqb (length fs) n))
+      no : (t : Bool) → eqb (shortCode w) (code v) ≡ t → t && eqb (length fs) n && every isNumber fs ≡ false
+      no true e =
+          let m : countAfter w ≡ n = ap (countOf table) (eqb-true (shortCode w) (code v) e) ∙ r .0 .3 in
+          rw m at h (r .0 .2)
+      no false e = refl
   find-broken (bits v f ∷ xs) r h = rw (r .0) (find-broken xs (r .1) h)
 
   find-numbers : (xs : List Form) → Rows xs w → every isNumber fs ≡ true → find xs w fs ≡ numbered xs (shortCode w) (map value fs)
@@ -102,34 +107,31 @@ module _ (w : List ℕ) (b : Bytes w) (fs : List (List ℕ)) where
       go false false = refl
   find-numbers (bits v f ∷ xs) r h = rw (r .0) (find-numbers xs (r .1) h)
 
--- no word has the number 0
-none-numbered : (w : List ℕ) (xs : List Form) → Rows xs w → (ns : List ℕ) → numbered xs 0 ns ≡ Broken
-unfolding numbered
-none-numbered w [] r ns = refl
-none-numbered w (numbers v n f ∷ xs) r ns =
-    rw (ne-eqb 0 (code v) (λ e. absurd (omega (arith, code-positive 1 v (lit< tt)))), and-false (eqb (length ns) n)) (none-numbered w xs (r .1) ns)
-none-numbered w (bits v f ∷ xs) r ns = none-numbered w xs (r .1) ns
+-- fields that are no numbers, or more of them than m, are not m numbers
+not-fitting : (a : Bool) (k m : ℕ) → a && leb k m ≡ false → eqb k m && a ≡ false
+not-fitting true k m h = rw (ne-eqb k m (λ e. absurd (omega (arith, leb-false k m h))))
+not-fitting false k m h = and-false (eqb k m)
 
-none-with : (n : Numbers) → ((ns : List ℕ) → numbered table 0 ns ≡ Broken) → withNumbers 0 n ≡ Broken
-unfolding withNumbers
-none-with n h = rw h (go (n .ok))
-  where
-    go : (t : Bool) → pick t Broken Broken ≡ Broken
-    go true = refl
-    go false = refl
+module _ (w : List ℕ) (b : Bytes w) (r : Rows table w) (fs : List (List ℕ)) where
+  -- the numbers that the loop reads are those of the grammar
+  with-find : countAfter w ≤ mostNumbers → withNumbers (shortCode w) (numbersIn (countAfter w) fs) ≡ find table w fs
+  unfolding withNumbers numbersIn
+  with-find l = go (every isNumber fs && leb (length fs) (countAfter w)) refl
+    where
+      m : ℕ
+      m = countAfter w
 
--- the numbers that the loop reads are those of the grammar
-with-find : (w : List ℕ) → Bytes w → Rows table w → (fs : List (List ℕ)) → withNumbers (shortCode w) (numbersIn fs) ≡ find table w fs
-unfolding withNumbers numbersIn
-with-find w b r fs = go (every isNumber fs && leb (length fs) mostNumbers) refl
-  where
-    go : (t : Bool) → every isNumber fs && leb (length fs) mostNumbers ≡ t → withNumbers (shortCode w) (numbersIn fs) ≡ find table w fs
-    go true e =
-        let few = leb-true (length fs) mostNumbers (and-right (every isNumber fs) (leb (length fs) mostNumbers) e) in
-        let back : take (length fs) (laid 0 mostNumbers (map value fs)) ≡ map value fs =
-        rw (← (length-map fs value)) (take-laid 0 mostNumbers (map value fs) (omega (arith, length-map fs value))) in
-        rw (e, back) (sym (find-numbers w b fs table r (and-left (every isNumber fs) (leb (length fs) mostNumbers) e)))
-    go false e = rw e (sym (find-broken w b fs table r e))
+      go : (t : Bool) → every isNumber fs && leb (length fs) m ≡ t → withNumbers (shortCode w) (numbersIn m fs) ≡ find table w fs
+      go true e =
+          let few = leb-true (length fs) m (and-right (every isNumber fs) (leb (length fs) m) e) in
+          let back : take (length fs) (laid 0 mostNumbers (map value fs)) ≡ map value fs =
+          rw (← (length-map fs value)) (take-laid 0 mostNumbers (map value fs) (omega (arith, length-map fs value))) in
+          rw (e, back) (sym (find-numbers w b fs table r (and-left (every isNumber fs) (leb (length fs) m) e)))
+      go false e = rw e (sym (find-broken w b fs table r (λ k. not-fitting (every isNumber fs) (length fs) m e)))
+
+  -- a word that the table has not before numbers is none of the grammar
+  none-find : mostNumbers < countAfter w → Broken ≡ find table w fs
+  none-find l = sym (find-broken w b fs table r (λ k. absurd (omega arith)))
 
 -- ---- one field of bits is the whole rest of the line
 abbrev checked : List (List ℕ) → Command
@@ -171,6 +173,11 @@ bits-field t = go (one-field t)
     go (inr e) = rw (e .0, no-bits t (e .1))
 
 -- ---- a line of bytes
+-- no word of the table has the number 0
+count-none : countOf table 0 ≡ mostNumbers + 1
+unfolding countOf
+count-none = refl
+
 abbrev check : List ℕ
 check = bytes "check"
 
@@ -199,6 +206,7 @@ module _ (s : List ℕ) (b : Bytes s) where
   length-word = omega (arith, length-take (before comma s) s, before-most comma s)
 
   rows : same check (wordIn s) ≡ false → Rows table (wordIn s)
+  unfolding countOf
   rows h = (omega arith, (omega arith, (omega arith, (omega arith, (omega arith, (omega arith, (omega arith, (omega arith, (omega arith, (omega arith, (omega arith, (h, tt))))))))))))
 
   short : before comma s ≤ mostLetters → wordOf s ≡ record { code = shortCode (wordIn s); end = before comma s }
@@ -209,25 +217,30 @@ module _ (s : List ℕ) (b : Bytes s) where
   unfolding wordOf
   long l = rw (lt-leb (before comma s) mostLetters l)
 
-  -- a word before numbers
-  numbers-parse : (wordOf s .code ≡ code check → ⊥) → withNumbers (wordOf s .code) (numbersIn (fieldsAfter (wordOf s .end) s)) ≡ parse s
-  numbers-parse h = go (below-or mostLetters (before comma s))
+  coded : wordOf s .code ≡ shortCode (wordIn s)
+  coded = go (below-or mostLetters (before comma s))
     where
-      w : List ℕ
-      w = wordIn s
+      go : (mostLetters < before comma s) ⊎ (before comma s ≤ mostLetters) → wordOf s .code ≡ shortCode (wordIn s)
+      go (inl l) = rw (long l, lt-leb (length (wordIn s)) mostLetters (omega (arith, length-word)))
+      go (inr l) = rw (short l)
 
-      bw : Bytes w
-      bw = bytes-take (before comma s) s b
+  -- a word that is not the one before bits: the table has it before numbers, or not at all
+  module _ (h : wordOf s .code ≡ code check → ⊥) where
+    word-bytes : Bytes (wordIn s)
+    word-bytes = bytes-take (before comma s) s b
 
-      go : (mostLetters < before comma s) ⊎ (before comma s ≤ mostLetters) → withNumbers (wordOf s .code) (numbersIn (fieldsAfter (wordOf s .end) s)) ≡ parse s
-      go (inl l) =
-          let r = rows (long-word check w (omega (arith, length-word))) in
-          let z : shortCode w ≡ 0 = rw (lt-leb (length w) mostLetters (omega (arith, length-word))) in
-          let n = none-numbered w table r in
-          rw (long l) (none-with (numbersIn (fieldsAfter 0 s)) n ∙ sym (parse-find ∙ sym (with-find w bw r (fieldsAfter (before comma s) s)) ∙ rw z (none-with (numbersIn (fieldsAfter (before comma s) s)) n)))
-      go (inr l) =
-          let c : same check w ≡ false = same-short check w (omega arith) bw (omega arith) ∙ ne-eqb (shortCode w) (code check) (λ q. h (rw (short l) q)) in
-          rw (short l) (with-find w bw (rows c) (fieldsAfter (before comma s) s) ∙ sym parse-find)
+    word-rows : Rows table (wordIn s)
+    word-rows = rows (same-short check (wordIn s) (omega arith) word-bytes (omega arith) ∙ ne-eqb (shortCode (wordIn s)) (code check) (λ q. h (coded ∙ q)))
+
+    numbers-parse : countOf table (wordOf s .code) ≤ mostNumbers → withNumbers (wordOf s .code) (numbersIn (countOf table (wordOf s .code)) (fieldsAfter (wordOf s .end) s)) ≡ parse s
+    numbers-parse l = go (below-or mostLetters (before comma s))
+      where
+        go : (mostLetters < before comma s) ⊎ (before comma s ≤ mostLetters) → withNumbers (wordOf s .code) (numbersIn (countOf table (wordOf s .code)) (fieldsAfter (wordOf s .end) s)) ≡ parse s
+        go (inl g) = absurd (omega (arith, count-none, ap (λ (x : Word). countOf table (x .code)) (long g)))
+        go (inr g) = rw (short g) (with-find (wordIn s) word-bytes word-rows (fieldsAfter (before comma s) s) (rw coded at l) ∙ sym parse-find)
+
+    none-parse : mostNumbers < countOf table (wordOf s .code) → Broken ≡ parse s
+    none-parse l = none-find (wordIn s) word-bytes word-rows (fieldsAfter (before comma s) s) (rw coded at l) ∙ sym parse-find
 
   -- the word before bits
   bits-parse : wordOf s .code ≡ code check → bitsOf (drop (wordOf s .end + 1) s) ≡ parse s
@@ -242,11 +255,15 @@ module _ (s : List ℕ) (b : Bytes s) where
           rw (short l) (bits-after (before comma s) s ∙ sym (parse-find ∙ rw w (find-check (fieldsAfter (before comma s) s))))
 
   module _ {r : Word} (e : r ≡ wordOf s) where
-    pub read-numbers : (r .code ≡ code check → ⊥) → withNumbers (r .code) (numbersIn (fieldsAfter (r .end) s)) ≡ parse s
-    read-numbers = subst⁻¹ (λ (x : Word). (x .code ≡ code check → ⊥) → withNumbers (x .code) (numbersIn (fieldsAfter (x .end) s)) ≡ parse s) e numbers-parse
-
     pub read-bits : r .code ≡ code check → bitsOf (drop (r .end + 1) s) ≡ parse s
     read-bits = subst⁻¹ (λ (x : Word). x .code ≡ code check → bitsOf (drop (x .end + 1) s) ≡ parse s) e bits-parse
+
+    module _ (h : r .code ≡ code check → ⊥) {m : ℕ} (k : m ≡ countOf table (r .code)) where
+      pub read-numbers : m ≤ mostNumbers → withNumbers (r .code) (numbersIn m (fieldsAfter (r .end) s)) ≡ parse s
+      read-numbers l = rw (k, e) (numbers-parse (rw e at h) (rw (k, e) at l))
+
+      pub read-none : mostNumbers < m → Broken ≡ parse s
+      read-none l = none-parse (rw e at h) (rw (k, e) at l)
 
 pub word-inside : (s : List ℕ) → wordOf s .end ≤ length s
 unfolding wordOf

@@ -17,7 +17,7 @@ use Rattle.lists.proofs.Arrays.{laid-snoc, length-snoc}
 use Rattle.lines.specs.declared.reading.Numbers.{Numbers}
 use Rattle.lines.specs.Text.{comma, nought}
 use Rattle.lines.specs.Grammar.{onFirst, fields, mostDigits, isDigit, isNumber, valueFrom, value}
-use Rattle.lines.specs.Reading.{fieldsAfter, mostNumbers, mayFollow, noNumbers, numbersIn}
+use Rattle.lines.specs.Reading.{fieldsAfter, mostNumbers, mayFollow, noNumbers, someNumbers, numbersIn}
 use Rattle.lines.proofs.Fields.{Cons, cons, fields-cons, fields-end, fields-comma, fields-byte}
 
 -- ---- a field, with d digits and the value v read so far: may it go on so to its end?
@@ -93,58 +93,58 @@ good-number (b ∷ bs) = go (eqb b nought) refl (isDigit b) refl
         (good-on 1 (0 + (b - nought)) bs (omega arith) (omega (arith, leb-true nought b low)) (omega arith) ∙ rw one rest)
     go false e false d = rw (d, le-leb 1 (suc n) (omega arith), and-false (leb (suc n) mostDigits))
 
--- ---- what the fields from one on give, n numbers being read, and of this field d digits with the value v
-pub collect : ℕ → List ℕ → ℕ → ℕ → List (List ℕ) → Numbers
-collect n vs d v [] = noNumbers
-collect n vs d v (f ∷ []) = pick (good d v f && ltb n mostNumbers) (record { ok = true; count = n + 1; values = set vs n (valueFrom v f) }) noNumbers
-collect n vs d v (f ∷ g ∷ fs) = pick (good d v f && ltb n mostNumbers) (collect (n + 1) (set vs n (valueFrom v f)) 0 0 (g ∷ fs)) noNumbers
+-- ---- what the fields from one on give, n numbers of at most m being read, and of this field d digits with the value v
+pub collect : (m n : ℕ) → List ℕ → ℕ → ℕ → List (List ℕ) → Numbers
+collect m n vs d v [] = noNumbers
+collect m n vs d v (f ∷ []) = pick (good d v f && ltb n m) (someNumbers (n + 1) (set vs n (valueFrom v f))) noNumbers
+collect m n vs d v (f ∷ g ∷ fs) = pick (good d v f && ltb n m) (collect m (n + 1) (set vs n (valueFrom v f)) 0 0 (g ∷ fs)) noNumbers
 
 -- a field ends, and others follow
-collect-more : (n : ℕ) (vs : List ℕ) (d v : ℕ) (f : List ℕ) (fs : List (List ℕ)) → Cons fs
-    → collect n vs d v (f ∷ fs) ≡ pick (good d v f && ltb n mostNumbers) (collect (n + 1) (set vs n (valueFrom v f)) 0 0 fs) noNumbers
+collect-more : (m n : ℕ) (vs : List ℕ) (d v : ℕ) (f : List ℕ) (fs : List (List ℕ)) → Cons fs
+    → collect m n vs d v (f ∷ fs) ≡ pick (good d v f && ltb n m) (collect m (n + 1) (set vs n (valueFrom v f)) 0 0 fs) noNumbers
 unfolding collect
-collect-more n vs d v f fs (cons g gs) = refl
+collect-more m n vs d v f fs (cons g gs) = refl
 
 -- a byte of a field
-collect-byte : (n : ℕ) (vs : List ℕ) (d v b : ℕ) (u : Bool) → mayFollow d v b ≡ u → (fs : List (List ℕ)) → Cons fs
-    → collect n vs d v (onFirst b fs) ≡ pick u (collect n vs (d + 1) (v * 10 + (b - nought)) fs) noNumbers
+collect-byte : (m n : ℕ) (vs : List ℕ) (d v b : ℕ) (u : Bool) → mayFollow d v b ≡ u → (fs : List (List ℕ)) → Cons fs
+    → collect m n vs d v (onFirst b fs) ≡ pick u (collect m n vs (d + 1) (v * 10 + (b - nought)) fs) noNumbers
 unfolding collect good valueFrom
-collect-byte n vs d v b true e fs (cons f []) = rw e
-collect-byte n vs d v b true e fs (cons f (g ∷ gs)) = rw e
-collect-byte n vs d v b false e fs (cons f []) = rw e
-collect-byte n vs d v b false e fs (cons f (g ∷ gs)) = rw e
+collect-byte m n vs d v b true e fs (cons f []) = rw e
+collect-byte m n vs d v b true e fs (cons f (g ∷ gs)) = rw e
+collect-byte m n vs d v b false e fs (cons f []) = rw e
+collect-byte m n vs d v b false e fs (cons f (g ∷ gs)) = rw e
 
 -- what a line gives from the end of its word or of a number on: no more numbers, or a comma and more of them
-pub after : List ℕ → ℕ → ℕ → List ℕ → Numbers
-after s i n vs = pick (ltb i (length s)) (collect n vs 0 0 (fields (drop (i + 1) s))) (record { ok = true; count = n; values = vs })
+pub after : (m : ℕ) → List ℕ → ℕ → ℕ → List ℕ → Numbers
+after m s i n vs = pick (ltb i (length s)) (collect m n vs 0 0 (fields (drop (i + 1) s))) (someNumbers n vs)
 
 -- ---- one turn
-module _ (s : List ℕ) (i n : ℕ) (vs : List ℕ) (d v : ℕ) where
+module _ (m : ℕ) (s : List ℕ) (i n : ℕ) (vs : List ℕ) (d v : ℕ) where
   abbrev pub from : Numbers
-  from = collect n vs d v (fields (drop i s))
+  from = collect m n vs d v (fields (drop i s))
 
   module _ (h : i < length s) (k : getD s i 0 ≡ comma → ⊥) where
-    turn : (u : Bool) → mayFollow d v (getD s i 0) ≡ u → from ≡ pick u (collect n vs (d + 1) (v * 10 + (getD s i 0 - nought)) (fields (drop (i + 1) s))) noNumbers
-    turn u e = ap (collect n vs d v) (fields-byte s i h k) ∙ collect-byte n vs d v (getD s i 0) u e (fields (drop (i + 1) s)) (fields-cons (drop (i + 1) s))
+    turn : (u : Bool) → mayFollow d v (getD s i 0) ≡ u → from ≡ pick u (collect m n vs (d + 1) (v * 10 + (getD s i 0 - nought)) (fields (drop (i + 1) s))) noNumbers
+    turn u e = ap (collect m n vs d v) (fields-byte s i h k) ∙ collect-byte m n vs d v (getD s i 0) u e (fields (drop (i + 1) s)) (fields-cons (drop (i + 1) s))
 
-    pub digit : mayFollow d v (getD s i 0) ≡ true → from ≡ collect n vs (d + 1) (v * 10 + (getD s i 0 - nought)) (fields (drop (i + 1) s))
+    pub digit : mayFollow d v (getD s i 0) ≡ true → from ≡ collect m n vs (d + 1) (v * 10 + (getD s i 0 - nought)) (fields (drop (i + 1) s))
     digit e = turn true e
 
     pub bad : mayFollow d v (getD s i 0) ≡ false → from ≡ noNumbers
     bad e = turn false e
 
-  ended : i < length s → getD s i 0 ≡ comma → from ≡ pick (ltb 0 d && ltb n mostNumbers) (collect (n + 1) (set vs n v) 0 0 (fields (drop (i + 1) s))) noNumbers
+  ended : i < length s → getD s i 0 ≡ comma → from ≡ pick (ltb 0 d && ltb n m) (collect m (n + 1) (set vs n v) 0 0 (fields (drop (i + 1) s))) noNumbers
   unfolding good valueFrom
-  ended h k = ap (collect n vs d v) (fields-comma s i h k) ∙ collect-more n vs d v [] (fields (drop (i + 1) s)) (fields-cons (drop (i + 1) s))
+  ended h k = ap (collect m n vs d v) (fields-comma s i h k) ∙ collect-more m n vs d v [] (fields (drop (i + 1) s)) (fields-cons (drop (i + 1) s))
 
   -- a number with a digit or more ends at a comma, or at the end of the line
-  pub ends-comma : i < length s → getD s i 0 ≡ comma → (d ≡ 0 → ⊥) → n < mostNumbers → from ≡ after s i (n + 1) (set vs n v)
+  pub ends-comma : i < length s → getD s i 0 ≡ comma → (d ≡ 0 → ⊥) → n < m → from ≡ after m s i (n + 1) (set vs n v)
   unfolding after
-  ends-comma h k p l = ended h k ∙ rw (lt-ltb 0 d (omega arith), lt-ltb n mostNumbers l, lt-ltb i (length s) h)
+  ends-comma h k p l = ended h k ∙ rw (lt-ltb 0 d (omega arith), lt-ltb n m l, lt-ltb i (length s) h)
 
-  pub ends-line : length s ≤ i → (d ≡ 0 → ⊥) → n < mostNumbers → from ≡ after s i (n + 1) (set vs n v)
+  pub ends-line : length s ≤ i → (d ≡ 0 → ⊥) → n < m → from ≡ after m s i (n + 1) (set vs n v)
   unfolding collect good valueFrom after
-  ends-line h p l = ap (collect n vs d v) (fields-end s i h) ∙ rw (lt-ltb 0 d (omega arith), lt-ltb n mostNumbers l, le-ltb i (length s) h)
+  ends-line h p l = ap (collect m n vs d v) (fields-end s i h) ∙ rw (lt-ltb 0 d (omega arith), lt-ltb n m l, le-ltb i (length s) h)
 
   -- one with none breaks the form
   pub none-comma : i < length s → getD s i 0 ≡ comma → d ≡ 0 → from ≡ noNumbers
@@ -152,26 +152,26 @@ module _ (s : List ℕ) (i n : ℕ) (vs : List ℕ) (d v : ℕ) where
 
   pub none-line : length s ≤ i → d ≡ 0 → from ≡ noNumbers
   unfolding collect good
-  none-line h p = ap (collect n vs d v) (fields-end s i h) ∙ rw p
+  none-line h p = ap (collect m n vs d v) (fields-end s i h) ∙ rw p
 
 -- so does a number too many
-full : (n : ℕ) (vs : List ℕ) → mostNumbers ≤ n → (fs : List (List ℕ)) → collect n vs 0 0 fs ≡ noNumbers
+full : (m n : ℕ) (vs : List ℕ) → m ≤ n → (fs : List (List ℕ)) → collect m n vs 0 0 fs ≡ noNumbers
 unfolding collect
-full n vs h [] = refl
-full n vs h (f ∷ []) = rw (le-ltb n mostNumbers h, and-false (good 0 0 f))
-full n vs h (f ∷ g ∷ fs) = rw (le-ltb n mostNumbers h, and-false (good 0 0 f))
+full m n vs h [] = refl
+full m n vs h (f ∷ []) = rw (le-ltb n m h, and-false (good 0 0 f))
+full m n vs h (f ∷ g ∷ fs) = rw (le-ltb n m h, and-false (good 0 0 f))
 
-module _ (s : List ℕ) (i n : ℕ) (vs : List ℕ) where
-  pub at-end : length s ≤ i → after s i n vs ≡ record { ok = true; count = n; values = vs }
+module _ (m : ℕ) (s : List ℕ) (i n : ℕ) (vs : List ℕ) where
+  pub at-end : length s ≤ i → after m s i n vs ≡ someNumbers n vs
   unfolding after
   at-end h = rw (le-ltb i (length s) h)
 
-  pub at-comma : i < length s → after s i n vs ≡ from s (i + 1) n vs 0 0
+  pub at-comma : i < length s → after m s i n vs ≡ from m s (i + 1) n vs 0 0
   unfolding after
   at-comma h = rw (lt-ltb i (length s) h)
 
-  pub too-many : i < length s → mostNumbers ≤ n → after s i n vs ≡ noNumbers
-  too-many h l = at-comma h ∙ full n vs l (fields (drop (i + 1) s))
+  pub too-many : i < length s → m ≤ n → after m s i n vs ≡ noNumbers
+  too-many h l = at-comma h ∙ full m n vs l (fields (drop (i + 1) s))
 
 -- ---- what a digit is, and the number that it makes
 pub record Digit (d v b : ℕ) : Type 0 where
@@ -193,59 +193,59 @@ is-digit d v b h m =
     record { low = low; high = high; few = few; small = omega arith; fits = omega arith }
 
 -- ---- the numbers of all the fields, laid out after those read
-abbrev told : List ℕ → List (List ℕ) → Numbers
-told xs fs = pick (every isNumber fs && leb (length xs + length fs) mostNumbers) (record { ok = true; count = length xs + length fs; values = laid 0 mostNumbers (xs ++ map value fs) }) noNumbers
+abbrev told : (m : ℕ) → List ℕ → List (List ℕ) → Numbers
+told m xs fs = pick (every isNumber fs && leb (length xs + length fs) m) (someNumbers (length xs + length fs) (laid 0 mostNumbers (xs ++ map value fs))) noNumbers
 
-told-more : (xs : List ℕ) (f : List ℕ) (fs : List (List ℕ)) → isNumber f ≡ true → told (xs ++ (value f ∷ [])) fs ≡ told xs (f ∷ fs)
+told-more : (m : ℕ) (xs : List ℕ) (f : List ℕ) (fs : List (List ℕ)) → isNumber f ≡ true → told m (xs ++ (value f ∷ [])) fs ≡ told m xs (f ∷ fs)
 unfolding every
-told-more xs f fs h =
+told-more m xs f fs h =
     let n : length (xs ++ (value f ∷ [])) + length fs ≡ length xs + suc (length fs) = omega (arith, length-snoc xs (value f)) in
     rw (h, n, append-snoc xs (value f) (map value fs))
 
 -- no number in form, or one too many
-told-broken : (xs : List ℕ) (f : List ℕ) (fs : List (List ℕ)) → isNumber f ≡ false → told xs (f ∷ fs) ≡ noNumbers
+told-broken : (m : ℕ) (xs : List ℕ) (f : List ℕ) (fs : List (List ℕ)) → isNumber f ≡ false → told m xs (f ∷ fs) ≡ noNumbers
 unfolding every
-told-broken xs f fs h = rw h
+told-broken m xs f fs h = rw h
 
-told-full : (xs : List ℕ) (f : List ℕ) (fs : List (List ℕ)) → mostNumbers ≤ length xs → told xs (f ∷ fs) ≡ noNumbers
-told-full xs f fs h = rw (lt-leb (length xs + suc (length fs)) mostNumbers (omega arith), and-false (every isNumber (f ∷ fs)))
+told-full : (m : ℕ) (xs : List ℕ) (f : List ℕ) (fs : List (List ℕ)) → m ≤ length xs → told m xs (f ∷ fs) ≡ noNumbers
+told-full m xs f fs h = rw (lt-leb (length xs + suc (length fs)) m (omega arith), and-false (every isNumber (f ∷ fs)))
 
-told-last : (xs : List ℕ) → length xs ≤ mostNumbers → told xs [] ≡ record { ok = true; count = length xs; values = laid 0 mostNumbers xs }
+told-last : (m : ℕ) (xs : List ℕ) → length xs ≤ m → told m xs [] ≡ someNumbers (length xs) (laid 0 mostNumbers xs)
 unfolding every
-told-last xs h =
+told-last m xs h =
     let n : length xs + 0 ≡ length xs = omega arith in
-    rw (n, le-leb (length xs) mostNumbers h, append-nil xs)
+    rw (n, le-leb (length xs) m h, append-nil xs)
 
-collect-told : (fs : List (List ℕ)) (f : List ℕ) (xs : List ℕ) → collect (length xs) (laid 0 mostNumbers xs) 0 0 (f ∷ fs) ≡ told xs (f ∷ fs)
+collect-told : (m : ℕ) → m ≤ mostNumbers → (fs : List (List ℕ)) (f : List ℕ) (xs : List ℕ) → collect m (length xs) (laid 0 mostNumbers xs) 0 0 (f ∷ fs) ≡ told m xs (f ∷ fs)
 unfolding collect
-collect-told [] f xs = rw (good-number f) (go (isNumber f) refl (ltb (length xs) mostNumbers) refl)
+collect-told m l [] f xs = rw (good-number f) (go (isNumber f) refl (ltb (length xs) m) refl)
   where
-    go : (a : Bool) → isNumber f ≡ a → (l : Bool) → ltb (length xs) mostNumbers ≡ l
-        → pick (a && l) (record { ok = true; count = length xs + 1; values = set (laid 0 mostNumbers xs) (length xs) (value f) }) noNumbers ≡ told xs (f ∷ [])
-    go false e l h = sym (told-broken xs f [] e)
-    go true e false h = sym (told-full xs f [] (ltb-false (length xs) mostNumbers h))
+    go : (a : Bool) → isNumber f ≡ a → (t : Bool) → ltb (length xs) m ≡ t
+        → pick (a && t) (someNumbers (length xs + 1) (set (laid 0 mostNumbers xs) (length xs) (value f))) noNumbers ≡ told m xs (f ∷ [])
+    go false e t h = sym (told-broken m xs f [] e)
+    go true e false h = sym (told-full m xs f [] (ltb-false (length xs) m h))
     go true e true h =
-        let k = ltb-true (length xs) mostNumbers h in
-        ap₂ {A = ℕ} {B = List ℕ} (λ c vs. record { ok = true; count = c; values = vs }) (sym (length-snoc xs (value f))) (laid-snoc 0 mostNumbers xs (value f) k)
-        ∙ sym (told-last (xs ++ (value f ∷ [])) (omega (arith, length-snoc xs (value f)))) ∙ told-more xs f [] e
-collect-told (g ∷ fs) f xs = rw (good-number f) (go (isNumber f) refl (ltb (length xs) mostNumbers) refl (collect-told fs g (xs ++ (value f ∷ []))))
+        let k = ltb-true (length xs) m h in
+        ap₂ someNumbers (sym (length-snoc xs (value f))) (laid-snoc 0 mostNumbers xs (value f) (omega arith))
+        ∙ sym (told-last m (xs ++ (value f ∷ [])) (omega (arith, length-snoc xs (value f)))) ∙ told-more m xs f [] e
+collect-told m l (g ∷ fs) f xs = rw (good-number f) (go (isNumber f) refl (ltb (length xs) m) refl (collect-told m l fs g (xs ++ (value f ∷ []))))
   where
-    go : (a : Bool) → isNumber f ≡ a → (l : Bool) → ltb (length xs) mostNumbers ≡ l
-        → collect (length (xs ++ (value f ∷ []))) (laid 0 mostNumbers (xs ++ (value f ∷ []))) 0 0 (g ∷ fs) ≡ told (xs ++ (value f ∷ [])) (g ∷ fs)
-        → pick (a && l) (collect (length xs + 1) (set (laid 0 mostNumbers xs) (length xs) (value f)) 0 0 (g ∷ fs)) noNumbers ≡ told xs (f ∷ g ∷ fs)
-    go false e l h ih = sym (told-broken xs f (g ∷ fs) e)
-    go true e false h ih = sym (told-full xs f (g ∷ fs) (ltb-false (length xs) mostNumbers h))
+    go : (a : Bool) → isNumber f ≡ a → (t : Bool) → ltb (length xs) m ≡ t
+        → collect m (length (xs ++ (value f ∷ []))) (laid 0 mostNumbers (xs ++ (value f ∷ []))) 0 0 (g ∷ fs) ≡ told m (xs ++ (value f ∷ [])) (g ∷ fs)
+        → pick (a && t) (collect m (length xs + 1) (set (laid 0 mostNumbers xs) (length xs) (value f)) 0 0 (g ∷ fs)) noNumbers ≡ told m xs (f ∷ g ∷ fs)
+    go false e t h ih = sym (told-broken m xs f (g ∷ fs) e)
+    go true e false h ih = sym (told-full m xs f (g ∷ fs) (ltb-false (length xs) m h))
     go true e true h ih =
-        rw (laid-snoc 0 mostNumbers xs (value f) (ltb-true (length xs) mostNumbers h), ← (length-snoc xs (value f))) (ih ∙ told-more xs f (g ∷ fs) e)
+        rw (laid-snoc 0 mostNumbers xs (value f) (omega (arith, ltb-true (length xs) m h)), ← (length-snoc xs (value f))) (ih ∙ told-more m xs f (g ∷ fs) e)
 
 -- ---- where the loops begin
-pub begin : (s : List ℕ) (e : ℕ) → numbersIn (fieldsAfter e s) ≡ after s e 0 (replicate mostNumbers 0)
+pub begin : (m : ℕ) → m ≤ mostNumbers → (s : List ℕ) (e : ℕ) → numbersIn m (fieldsAfter e s) ≡ after m s e 0 (replicate mostNumbers 0)
 unfolding numbersIn fieldsAfter after laid every
-begin s e = go (ltb e (length s))
+begin m l s e = go (ltb e (length s))
   where
-    told-all : (fs : List (List ℕ)) → Cons fs → collect 0 (replicate mostNumbers 0) 0 0 fs ≡ told [] fs
-    told-all fs (cons f gs) = collect-told gs f []
+    told-all : (fs : List (List ℕ)) → Cons fs → collect m 0 (replicate mostNumbers 0) 0 0 fs ≡ told m [] fs
+    told-all fs (cons f gs) = collect-told m l gs f []
 
-    go : (t : Bool) → numbersIn (pick t (fields (drop (e + 1) s)) []) ≡ pick t (collect 0 (replicate mostNumbers 0) 0 0 (fields (drop (e + 1) s))) (record { ok = true; count = 0; values = replicate mostNumbers 0 })
+    go : (t : Bool) → numbersIn m (pick t (fields (drop (e + 1) s)) []) ≡ pick t (collect m 0 (replicate mostNumbers 0) 0 0 (fields (drop (e + 1) s))) (someNumbers 0 (replicate mostNumbers 0))
     go true = sym (told-all (fields (drop (e + 1) s)) (fields-cons (drop (e + 1) s)) ∙ rw zero-add)
-    go false = refl
+    go false = rw (le-leb 0 m (omega arith))

@@ -39,6 +39,12 @@ fieldsAfter e s = pick (ltb e (length s)) (fields (drop (e + 1) s)) []
 abbrev pub mostNumbers : ℕ
 mostNumbers = 3
 
+-- how many numbers the table has after the word with this number; one more than after any word where it has no such word before numbers
+unfoldable pub countOf : List Form → ℕ → ℕ
+countOf [] c = mostNumbers + 1
+countOf (numbers w n f ∷ xs) c = pick (eqb c (code w)) n (countOf xs c)
+countOf (bits w f ∷ xs) c = countOf xs c
+
 -- may b be the next digit of a number with so many digits and this value so far?
 abbrev pub mayFollow : (digits value b : ℕ) → Bool
 mayFollow d v b = isDigit b && ltb d mostDigits && (eqb d 0 || ltb 0 v)
@@ -46,9 +52,12 @@ mayFollow d v b = isDigit b && ltb d mostDigits && (eqb d 0 || ltb 0 v)
 abbrev pub noNumbers : Numbers
 noNumbers = record { ok = false; count = 0; values = replicate mostNumbers 0 }
 
--- the values of fields that are all numbers, and not too many
-unfoldable pub numbersIn : List (List ℕ) → Numbers
-numbersIn fs = pick (every isNumber fs && leb (length fs) mostNumbers) (record { ok = true; count = length fs; values = laid 0 mostNumbers (map value fs) }) noNumbers
+abbrev pub someNumbers : ℕ → List ℕ → Numbers
+someNumbers n vs = record { ok = true; count = n; values = vs }
+
+-- the values of fields that are all numbers, and at most so many
+unfoldable pub numbersIn : (most : ℕ) → List (List ℕ) → Numbers
+numbersIn most fs = pick (every isNumber fs && leb (length fs) most) (someNumbers (length fs) (laid 0 mostNumbers (map value fs))) noNumbers
 
 -- ---- bits
 unfoldable pub bitsOf : List ℕ → Command

@@ -4,12 +4,13 @@ use crate::Command;
 use crate::MOST_BYTES;
 use crate::NOUGHT;
 use marks::LoadSet;
+ghost use Prim.Native.Nat.{_≤_};
 ghost use mathlib.Core.Path.{_≡_};
 ghost use mathlib.Core.List.{[], _∷_};
 ghost use lib.ListN.{drop};
 ghost use Rattle.lines.specs.Length.{tooLong};
 ghost use Rattle.lines.specs.Grammar.{table, parse};
-ghost use Rattle.lines.specs.Reading.{wordOf, mayFollow, noNumbers, fieldsAfter, numbersIn, bitsOf, numbered, withNumbers};
+ghost use Rattle.lines.specs.Reading.{wordOf, countOf, mayFollow, mostNumbers, noNumbers, someNumbers, fieldsAfter, numbersIn, bitsOf, numbered, withNumbers};
 
 const MOST_LETTERS: usize = 6;
 
@@ -78,6 +79,19 @@ fn read_word(s: &[u8]) -> Word
     }
 }
 
+// How many numbers the table has after a word. For `check` and for a word that is not in the table: one more than after any other.
+fn numbers_of(code: u64) -> usize
+    ensures { λ r. ⌜ r ≡ countOf table code ⌝ }
+{
+    match code {
+        CLEAR | PLAN => 0,
+        START | END | BUDGET => 1,
+        BOOK | POWER | WORTH => 2,
+        RULE | ROW | LOAD => 3,
+        _ => MOST_NUMBERS + 1,
+    }
+}
+
 // May b be the next digit of a number with this many digits and this value so far?
 fn may_follow(digits: u32, value: u32, b: u8) -> bool
     ensures { λ r. ⌜ r ≡ mayFollow digits value b ⌝ }
@@ -95,23 +109,30 @@ fn no_numbers() -> Numbers
     }
 }
 
-// The numbers after a word that ends at a place. Each has a comma before it. "It .. stops at the first byte that breaks its form": the paper
-// names nested loops over fields and digits for this, left by a label at the first bad byte.
-fn read_numbers(s: &[u8], end: usize) -> Numbers
-    ensures { λ r. ⌜ r ≡ numbersIn (fieldsAfter end (now (s .entry))) ⌝ }
+fn some_numbers(count: usize, values: [u32; MOST_NUMBERS]) -> Numbers
+    ensures { λ r. ⌜ r ≡ someNumbers count values ⌝ }
+{
+    Numbers {
+        ok: true,
+        count: count,
+        values: values,
+    }
+}
+
+// The numbers after a word that ends at a place, where there are at most so many. Each has a comma before it. "It .. stops at the first byte
+// that breaks its form": the paper names nested loops over fields and digits for this, left by a label at the first bad byte.
+fn read_numbers(s: &[u8], end: usize, most: usize) -> Numbers
+    requires { ⌜ most ≤ mostNumbers ⌝ }
+    ensures { λ r. ⌜ r ≡ numbersIn most (fieldsAfter end (now (s .entry))) ⌝ }
 {
     let mut values = [0u32; MOST_NUMBERS];
     let mut count: usize = 0;
     let mut at = end;
     'fields: loop {
         if s.len() <= at {
-            return Numbers {
-                ok: true,
-                count: count,
-                values: values,
-            };
+            return some_numbers(count, values);
         }
-        if MOST_NUMBERS <= count {
+        if most <= count {
             break 'fields;
         }
         at += 1;
@@ -257,7 +278,7 @@ pub fn too_long(line: &[u8]) -> bool
     MOST_BYTES < line.len()
 }
 
-// What a line asks for.
+// What a line asks for. No byte after a word that is not in the table is read.
 pub fn read(line: &[u8]) -> Command
     ensures { λ r. ⌜ r ≡ parse (now (line .entry)) ⌝ }
 {
@@ -267,5 +288,9 @@ pub fn read(line: &[u8]) -> Command
     if code == CHECK {
         return read_bits(line, end + 1);
     }
-    with_numbers(code, read_numbers(line, end))
+    let most = numbers_of(code);
+    if MOST_NUMBERS < most {
+        return Command::Broken;
+    }
+    with_numbers(code, read_numbers(line, end, most))
 }

@@ -5,7 +5,7 @@ use borrow.Author.Needs.{needs}
 use Rattle.lines.specs.declared.reading.Word.{Word}
 use Rattle.lines.specs.Reading.{withNumbers}
 use Rattle.lines.proofs.Codes.{Bytes, all-bytes}
-use Rattle.lines.proofs.Commands.{word-inside, read-numbers, read-bits}
+use Rattle.lines.proofs.Commands.{word-inside, read-bits, read-numbers, read-none}
 use Rattle.lines.proofs.reading.read.Statement.{statement}
 use Rattle.lines.proofs.reading.read.Tie as tie
 
@@ -23,10 +23,27 @@ returns c = let w = c .before .before in c .read-bits .ensures ∙ read-bits _ (
 
 returns-2 : tie.Need-returns-2
 returns-2 c =
-    let w = c .before .before .before in
-    c .with-numbers .ensures ∙ ap (withNumbers (w .read-word .result .code)) (c .before .read-numbers .ensures) ∙ read-numbers _ (bytes (w .before)) (w .read-word .ensures) (c .before .before .if1 .left)
+    let i = c .before .before in
+    let w = i .before in
+    read-none _ (bytes (w .before)) (w .read-word .ensures) (i .if1 .left) (c .before .numbers-of .ensures) (c .if2 .taken)
+
+returns-3 : tie.Need-returns-3
+returns-3 c =
+    let n = c .before .before .before in
+    let w = n .before .before in
+    c .with-numbers .ensures ∙ ap (withNumbers (w .read-word .result .code)) (c .before .read-numbers .ensures)
+    ∙ read-numbers _ (bytes (w .before)) (w .read-word .ensures) (n .before .if1 .left) (n .numbers-of .ensures) (c .before .before .if2 .left)
 
 pub read-spec : {M : Type 1} → statement M
 read-spec =
     tie.close
-    (tie.spec (λ c κs. search needs) add-read-bits (λ c κs. search needs) returns (λ c κs. search needs) (λ c κs. search needs) returns-2)
+    (tie.spec
+    (λ c κs. search needs)
+    add-read-bits
+    (λ c κs. search needs)
+    returns
+    (λ c κs. search needs)
+    returns-2
+    (λ c κs. search needs)
+    (λ c κs. search needs)
+    returns-3)
