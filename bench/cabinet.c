@@ -10,8 +10,8 @@ static bool found(const TransitionList *list, Transition t) {
     return false;
 }
 
-// Rules that are all different. Each first number gets as many as another, and of load rules each mark too. A longer list begins with the
-// shorter one.
+// Rules that are all different. Their first numbers go round, so that each state or stage has as many as another; the mark or state and the
+// last number are random. A longer list begins with the shorter one.
 static void add_rules(TransitionList *list, int rules, int states, bool of_loads) {
     srand(5);
     while ((int)list->count < rules) {
