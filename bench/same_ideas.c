@@ -3,6 +3,9 @@
 #include "cells.h"
 #include <string.h>
 
+// The cells of a strip: as many as the proved one has, so that both clear the same number.
+enum { STRIP_CELLS = 512 };
+
 static uint32_t greater(uint32_t x, uint32_t y) {
     return x < y ? y : x;
 }
@@ -46,7 +49,7 @@ static void raise_row(const Tables *t, uint32_t *work, uint32_t *strip, int k, i
 
 // The cells of load k and the state or stage `from`.
 static void fill_stretch(const Tables *t, uint32_t *work, int k, bool of_loads, int from) {
-    uint32_t strip[512] = {0};
+    uint32_t strip[STRIP_CELLS] = {0};
     const TransitionList *rules = of_loads ? &t->book.load_rules : &t->book.row_rules;
     int other = of_loads ? first_child(t, k) : next_sibling(t, k);
     for (size_t j = 0; j < rules->count; j++) {
