@@ -42,7 +42,7 @@ Tables tables_of(Cabinet c) {
     srand(6);
     for (int k = 0; k < c.loads; k++) {
         uint8_t parent = (uint8_t)parent_of(c.shape, k);
-        t.loads.items[k] = (Load){parent, (uint16_t)(rand() % (60 * MOST_LOADS / c.loads)), (uint16_t)(rand() % 1001)};
+        t.loads.items[k] = (Load){parent, (uint16_t)(rand() % (60 * HULMEIDE_MAX_LOADS / c.loads)), (uint16_t)(rand() % 1001)};
     }
     t.loads.count = (size_t)c.loads;
     return t;

@@ -1,5 +1,5 @@
-// Bytes of stack that a plan of the largest cabinet uses, and bytes of state.
-// A plan runs in a thread whose stack was painted; the lowest byte that changed tells how deep it went.
+// Bytes of stack that a call on the largest cabinet uses, and bytes of state.
+// A call is made in a thread whose stack was painted. The lowest byte that changed tells how deep it went below the function that made it.
 #include "cabinet.h"
 #include <pthread.h>
 #include <stdio.h>
@@ -8,55 +8,113 @@
 
 enum { STACK = 1 << 20, PAINT = 0xa5 };
 
-static uint32_t work[MOST_CELLS];
-static Tables tables;
+// ---- depth
 
-static void *nothing(void *out) {
-    return out;
+// A call to be measured, the stack that it runs on, and the bytes of it that it used.
+typedef struct { void (*call)(void); uint8_t *stack; size_t used; } Measured;
+
+static void *measure(void *given) {
+    Measured *m = given;
+    m->call();
+    size_t low = 0;
+    while (m->stack[low] == PAINT)
+        low++;
+    m->used = (size_t)((uint8_t *)__builtin_frame_address(0) - (m->stack + low));
+    return NULL;
 }
 
-static void *proved(void *out) {
-    *(Outcome *)out = bench_plan(tables, work, cells_of(&tables));
-    return out;
-}
-
-static void *plain_c(void *out) {
-    *(Outcome *)out = plain_c_plan(&tables, work);
-    return out;
-}
-
-static void *plain_rust(void *out) {
-    plain_rust_plan(&tables, work, cells_of(&tables), out);
-    return out;
-}
-
-// The bytes from the top of a thread's stack down to the lowest that the function changed.
-static size_t depth(void *(*function)(void *)) {
-    uint8_t *stack = aligned_alloc(4096, STACK);
-    memset(stack, PAINT, STACK);
+static size_t depth(void (*call)(void)) {
+    Measured m = {call, aligned_alloc(4096, STACK), 0};
+    memset(m.stack, PAINT, STACK);
     pthread_attr_t attributes;
     pthread_attr_init(&attributes);
-    pthread_attr_setstack(&attributes, stack, STACK);
+    pthread_attr_setstack(&attributes, m.stack, STACK);
     pthread_t thread;
-    Outcome out;
-    if (pthread_create(&thread, &attributes, function, &out) != 0) {
+    if (pthread_create(&thread, &attributes, measure, &m) != 0) {
         printf("no thread\n");
         exit(1);
     }
     pthread_join(thread, NULL);
-    size_t low = 0;
-    while (low < STACK && stack[low] == PAINT)
-        low++;
-    free(stack);
-    return STACK - low;
+    free(m.stack);
+    return m.used;
+}
+
+// ---- calls
+
+static uint32_t work[HULMEIDE_MAX_CELLS];
+static Tables tables;
+static const char *line;
+static Answer answer;
+static uint32_t run[3 * HULMEIDE_MAX_LOADS];
+static uint32_t verdict;
+static Outcome outcome;
+
+static void nothing(void) {
+}
+
+static void proved_call(void) {
+    answer_line(&tables, line, work, &answer);
+}
+
+static void proved_judge(void) {
+    verdict = hulmeide_judge(&tables, run, 3 * tables.loads.count);
+}
+
+static void plain_c(void) {
+    outcome = plain_c_plan(&tables, work);
+}
+
+static void plain_rust(void) {
+    plain_rust_plan(&tables, work, cells_of(&tables), &outcome);
+}
+
+// ---- what is printed
+
+static void expect(uint32_t number, uint32_t expected) {
+    if (number != expected) {
+        printf("number %u in the place of %u\n", number, expected);
+        exit(1);
+    }
+}
+
+static void print_line(const char *name, const char *given, uint32_t number) {
+    line = given;
+    printf(" %s %zu,", name, depth(proved_call));
+    expect(answer.reply.number, number);
+}
+
+// The check of the set that was planned, and the judge on its run.
+static void print_check_and_judge(void) {
+    Run planned = shown(&answer).run;
+    char check[HULMEIDE_LINE_BYTES] = "check,";
+    for (size_t k = 0; k < tables.loads.count; k++) {
+        strcat(check, planned.set >> k & 1 ? "1" : "0");
+        run[3 * k] = planned.states[k];
+        run[3 * k + 1] = planned.load_rules[k];
+        run[3 * k + 2] = planned.row_rules[k];
+    }
+    print_line("check", check, HULMEIDE_ACCEPTED);
+    printf(" judge %zu,", depth(proved_judge));
+    expect(verdict, HULMEIDE_ACCEPTED);
+}
+
+static void print_calls(const char *name, Shape shape) {
+    tables = tables_of((Cabinet){shape, HULMEIDE_MAX_LOADS, HULMEIDE_MAX_STATES, HULMEIDE_MAX_RULES, HULMEIDE_MAX_BUDGET});
+    printf("%s:", name);
+    print_line("plan", "plan", HULMEIDE_ACCEPTED);
+    print_check_and_judge();
+    print_line("change", "power,64,1", HULMEIDE_ACCEPTED);
+    print_line("refused", "load,1,1,1", HULMEIDE_FULL);
+    printf(" plan in plain C %zu, in plain Rust %zu\n", depth(plain_c), depth(plain_rust));
 }
 
 int main(void) {
-    tables = tables_of((Cabinet){CHAIN, MOST_LOADS, MOST_STATES, MOST_RULES, MOST_BUDGET});
-    size_t bare = depth(nothing);
-    printf("\nBytes of stack for a plan, a chain of 64 loads: proved %zu, plain C %zu, plain Rust %zu\n",
-        depth(proved) - bare, depth(plain_c) - bare, depth(plain_rust) - bare);
-    printf("Bytes of state: tables %zu, of which load rules %zu, row rules %zu, loads %zu; a run %zu; the largest work %zu\n",
-        sizeof(Tables), sizeof(TransitionList), sizeof(TransitionList), sizeof(LoadList), sizeof(Run), MOST_CELLS * sizeof(uint32_t));
+    printf("\nBytes of stack: 64 loads, 8 states, 8 stages, 32 + 32 rules, budget 500; ");
+    printf("a function that does nothing uses %zu\n", depth(nothing));
+    print_calls("random", RANDOM);
+    print_calls("star", STAR);
+    print_calls("chain", CHAIN);
+    printf("Bytes of state: planner %zu, of which load rules %zu, row rules %zu, loads %zu; the largest work %zu\n", sizeof tables,
+        sizeof tables.book.load_rules, sizeof tables.book.row_rules, sizeof tables.loads, sizeof work);
     return 0;
 }

@@ -9,24 +9,44 @@ enum { PROVED, PLAIN_C, PLAIN_RUST, SAME_IDEAS, WAYS, ROUNDS = 30 };
 
 static const char *const names[WAYS] = {"proved", "plain C", "plain Rust", "same ideas"};
 
-static uint32_t work[MOST_CELLS];
+static uint32_t work[HULMEIDE_MAX_CELLS];
 
-static Outcome plan(int way, const Tables *t) {
-    Outcome out;
+// What the last plan gave: the proved one gives a text, and each other one an outcome.
+static Answer answer;
+static Outcome outcome;
+
+static void plan(int way, Tables *t) {
     switch (way) {
     case PROVED:
-        return bench_plan(*t, work, cells_of(t));
+        answer_line(t, "plan", work, &answer);
+        break;
     case PLAIN_C:
-        return plain_c_plan(t, work);
+        outcome = plain_c_plan(t, work);
+        break;
+    case PLAIN_RUST:
+        plain_rust_plan(t, work, cells_of(t), &outcome);
+        break;
     case SAME_IDEAS:
-        return same_ideas_plan(t, work);
-    default:
-        plain_rust_plan(t, work, cells_of(t), &out);
-        return out;
+        outcome = same_ideas_plan(t, work);
+        break;
     }
 }
 
 // ---- answers
+
+// The worth, the power and the number of the loads that are on.
+typedef struct { unsigned worth, power, on; } Figures;
+
+static Figures figures_of(const Tables *t, uint64_t set) {
+    Figures figures = {0, 0, 0};
+    for (size_t k = 0; k < t->loads.count; k++)
+        if (set >> k & 1) {
+            figures.worth += t->loads.items[k].worth;
+            figures.power += t->loads.items[k].power;
+            figures.on++;
+        }
+    return figures;
+}
 
 static bool all_zero(size_t cells) {
     for (size_t i = 0; i < cells; i++)
@@ -36,20 +56,32 @@ static bool all_zero(size_t cells) {
 }
 
 static bool same_outcome(const Outcome *x, const Outcome *y) {
-    return x->found == y->found && x->run.set == y->run.set && !memcmp(x->run.states, y->run.states, MOST_LOADS)
-        && !memcmp(x->run.load_rules, y->run.load_rules, MOST_LOADS) && !memcmp(x->run.row_rules, y->run.row_rules, MOST_LOADS);
+    return x->found == y->found && x->run.set == y->run.set && !memcmp(x->run.states, y->run.states, sizeof x->run.states)
+        && !memcmp(x->run.load_rules, y->run.load_rules, sizeof x->run.load_rules)
+        && !memcmp(x->run.row_rules, y->run.row_rules, sizeof x->run.row_rules);
+}
+
+// Does the proved answer begin with the line that this plan has?
+static bool begins_with(const Tables *t, const Outcome *out) {
+    Figures figures = figures_of(t, out->run.set);
+    char line[HULMEIDE_LINE_BYTES];
+    int length = snprintf(line, sizeof line, "plan,%u,%u,%u\n", figures.worth, figures.power, figures.on);
+    if (!out->found)
+        length = snprintf(line, sizeof line, "no,%d\n", HULMEIDE_NONE_FITS);
+    return answer.reply.count >= (size_t)length && !memcmp(answer.text, line, (size_t)length);
 }
 
 // The plan that all ways agree on. Each begins with cells that hold rubbish, and leaves them at 0.
-static Outcome agreed(const Tables *t) {
+static Outcome agreed(Tables *t) {
     Outcome first = {0};
     for (int way = 0; way < WAYS; way++) {
         memset(work, 0xa5, sizeof work);
-        Outcome out = plan(way, t);
-        if (way == 0)
-            first = out;
-        if (!same_outcome(&first, &out) || !all_zero(cells_of(t))) {
-            printf("answers differ: %s and %s\n", names[0], names[way]);
+        plan(way, t);
+        if (way == PROVED)
+            first = shown(&answer);
+        Outcome out = way == PROVED ? first : outcome;
+        if (!begins_with(t, &out) || !same_outcome(&first, &out) || !all_zero(cells_of(t))) {
+            printf("answers differ: %s and %s\n", names[PROVED], names[way]);
             exit(1);
         }
     }
@@ -57,17 +89,11 @@ static Outcome agreed(const Tables *t) {
 }
 
 static void print_answer(const Tables *t, const Outcome *out) {
-    unsigned worth = 0, power = 0;
-    if (!out->found) {
+    Figures figures = figures_of(t, out->run.set);
+    if (out->found)
+        printf("  %6u %5u %3u\n", figures.worth, figures.power, figures.on);
+    else
         printf("  no plan\n");
-        return;
-    }
-    for (size_t k = 0; k < t->loads.count; k++)
-        if (out->run.set >> k & 1) {
-            worth += t->loads.items[k].worth;
-            power += t->loads.items[k].power;
-        }
-    printf("  %6u %5u %3d\n", worth, power, __builtin_popcountll(out->run.set));
 }
 
 // ---- times
@@ -78,7 +104,7 @@ static double seconds(void) {
     return (double)t.tv_sec + 1e-9 * (double)t.tv_nsec;
 }
 
-static double time_of(int way, const Tables *t, int turns) {
+static double time_of(int way, Tables *t, int turns) {
     double began = seconds();
     for (int turn = 0; turn < turns; turn++)
         plan(way, t);
@@ -86,7 +112,7 @@ static double time_of(int way, const Tables *t, int turns) {
 }
 
 // The best time of each way. Every round times each way once, in turns that take about a millisecond.
-static void best_times(const Tables *t, double best[WAYS]) {
+static void best_times(Tables *t, double best[WAYS]) {
     int turns[WAYS];
     for (int way = 0; way < WAYS; way++) {
         best[way] = time_of(way, t, 1);
@@ -121,20 +147,20 @@ static void print_trees(void) {
     const char *const shapes[] = {"random", "star", "chain"};
     print_head("Trees: 8 states, 8 stages, 32 + 32 rules, budget 500", "tree", "loads");
     for (int shape = RANDOM; shape <= CHAIN; shape++)
-        for (int loads = 8; loads <= MOST_LOADS; loads *= 2)
-            print_row(shapes[shape], loads, (Cabinet){shape, loads, 8, 32, MOST_BUDGET});
+        for (int loads = 8; loads <= HULMEIDE_MAX_LOADS; loads *= 2)
+            print_row(shapes[shape], loads, (Cabinet){shape, loads, 8, 32, HULMEIDE_MAX_BUDGET});
 }
 
 static void print_growth(void) {
     print_head("Growth with loads: random tree, 4 states, 4 stages, 32 + 32 rules, budget 250", "", "loads");
-    for (int loads = 8; loads <= MOST_LOADS; loads *= 2)
+    for (int loads = 8; loads <= HULMEIDE_MAX_LOADS; loads *= 2)
         print_row("loads", loads, (Cabinet){RANDOM, loads, 4, 32, 250});
     print_head("Growth with rules of each sort: random tree of 64 loads, 4 states, 4 stages, budget 250", "", "rules");
-    for (int rules = 8; rules <= MOST_RULES; rules += 8)
-        print_row("rules", rules, (Cabinet){RANDOM, MOST_LOADS, 4, rules, 250});
+    for (int rules = 8; rules <= HULMEIDE_MAX_RULES; rules += 8)
+        print_row("rules", rules, (Cabinet){RANDOM, HULMEIDE_MAX_LOADS, 4, rules, 250});
     print_head("Growth with the budget: random tree of 64 loads, 4 states, 4 stages, 32 + 32 rules", "", "watts");
-    for (int budget = 125; budget <= MOST_BUDGET; budget += 125)
-        print_row("budget", budget, (Cabinet){RANDOM, MOST_LOADS, 4, MOST_RULES, budget});
+    for (int budget = 125; budget <= HULMEIDE_MAX_BUDGET; budget += 125)
+        print_row("budget", budget, (Cabinet){RANDOM, HULMEIDE_MAX_LOADS, 4, HULMEIDE_MAX_RULES, budget});
 }
 
 int main(void) {
