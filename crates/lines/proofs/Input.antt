@@ -143,6 +143,9 @@ module _ {s buffer after : List ℕ} {m : ℕ} {r : Taken} (t : Took s buffer af
   held-is : r .held ≡ m + length (bytesFor m s)
   held-is = ap (λ (x : Taken). x .held) (t .taken)
 
+  pub held-few : r .held ≤ mostKept
+  held-few = omega (arith, held-is, text-length, few)
+
   length-held : length (take m buffer) ≡ m
   length-held = omega (arith, length-take m buffer)
 

@@ -1,6 +1,6 @@
 -- A line that is taken from a chunk takes a byte of it or more, and no more than the chunk has. Assumes nothing.
 use Prim.Native.Nat.{ℕ, _+_, _-_, _≤_, _<_}
-use mathlib.Core.Path.{_≡_, refl, ap}
+use mathlib.Core.Path.{_≡_, refl, sym, ap, _∙_}
 use mathlib.Core.Bool.{Bool, true, false}
 use mathlib.Core.List.{List}
 use native.Mathlib.Omega.{arith}
@@ -34,3 +34,14 @@ took-bounds s p l m had r h k =
     let e : r .count ≡ takenFrom had part .count = ap (λ (x : Taken). x .count) (k .taken) in
     let b = count-bounds had part (omega arith) in
     omega arith
+
+-- one that does not end takes all that is left
+pub took-all : (s : List ℕ) (p : ℕ) (l m : List ℕ) (had : ℕ) (r : Taken) → p < length s → Took (take (length s - p) (drop p s)) l m had r → r .ended ≡ false
+    → p + r .count ≡ length s
+unfolding hasEnd
+took-all s p l m had r h k e =
+    let part = take (length s - p) (drop p s) in
+    let len : length part ≡ length s - p = omega (arith, length-take (length s - p) (drop p s), length-drop p s) in
+    let none : ltb (before lineFeed part) (length part) ≡ false = sym (ap (λ (x : Taken). x .ended) (k .taken)) ∙ e in
+    let count : r .count ≡ before lineFeed part + 0 = ap (λ (x : Taken). x .count) (k .taken) ∙ ap (λ (b : Bool). before lineFeed part + pick b 1 0) none in
+    omega (arith, count, len, before-most lineFeed part, ltb-false (before lineFeed part) (length part) none)

@@ -5,6 +5,13 @@ use lines::splitting::MOST_KEPT;
 use lines::splitting::take_line;
 use planner::Planner;
 use planner::call::Called;
+ghost use Prim.Native.Nat.{_≤_};
+ghost use mathlib.Core.Path.{_≡_};
+ghost use mathlib.Core.Bool.{true};
+ghost use lib.ListN.{length, take};
+ghost use Rattle.calls.specs.Program.{doneOn, answered, afterChunk};
+ghost use Rattle.planner.specs.Calls.{doneOf};
+ghost use Rattle.load_planner.specs.Session.{leftOf, carriedOf, Within, Stepped};
 
 // "The line program lends 1,024 bytes and 16,384 cells."
 const LENT_BYTES: usize = 1024;
@@ -19,18 +26,17 @@ struct Session {
 }
 
 // Prints the first bytes of the output.
-fn show(out: &[u8], count: usize) -> bool {
-    if out.len() < count {
-        return false;
-    }
+fn show(out: &[u8], count: usize) -> bool
+    requires { ⌜ count ≤ length (now out) ⌝ }
+{
     io::write_all(STDOUT_FILENO, &out[..count])
 }
 
 // The call on the line whose bytes are held.
-fn call(planner: Planner, line: &[u8], held: usize, out: &mut [u8], work: &mut [u32]) -> Called {
-    if line.len() < held {
-        return planner.call(line, out, 0, work);
-    }
+fn call(planner: Planner, line: &[u8], held: usize, out: &mut [u8], work: &mut [u32]) -> Called
+    requires { ⌜ held ≤ length (now line) ⌝ }
+    ensures { λ r. ⌜ doneOf r (now (out .exit)) (now (work .exit)) ≡ doneOn (leftOf planner (now (out .entry)) (now (work .entry))) (take held (now (line .entry))) ⌝ }
+{
     planner.call(&line[..held], out, 0, work)
 }
 
@@ -40,7 +46,11 @@ fn answer(
     line: &[u8; MOST_KEPT],
     out: &mut [u8; LENT_BYTES],
     work: &mut [u32; LENT_CELLS],
-) -> Session {
+) -> Session
+    requires { ⌜ Within (s .held) (now line) ⌝ }
+    ensures call { λ r. ⌜ carriedOf r (now (line .entry)) (now (out .exit)) (now (work .exit)) ≡ answered (carriedOf s (now (line .entry)) (now (out .entry)) (now (work .entry))) ⌝ }
+    ensures none { λ r. ⌜ r .held ≡ 0 ⌝ }
+{
     let called = call(s.planner, &*line, s.held, &mut *out, &mut *work);
     let planner = called.planner;
     let open = show(&*out, called.count);
@@ -61,7 +71,11 @@ fn take_chunk(
     line: &mut [u8; MOST_KEPT],
     out: &mut [u8; LENT_BYTES],
     work: &mut [u32; LENT_CELLS],
-) -> Session {
+) -> Session
+    requires { ⌜ Within (s .held) (now line) ⌝ }
+    ensures chunk { λ r. ⌜ (r .open ≡ true → carriedOf r (now (line .exit)) (now (out .exit)) (now (work .exit)) ≡ afterChunk (carriedOf s (now (line .entry)) (now (out .entry)) (now (work .entry))) (now (chunk .entry))) ⌝ }
+    ensures held { λ r. ⌜ Within (r .held) (now (line .exit)) ⌝ }
+{
     let mut session = s;
     let mut at: usize = 0;
     while at < chunk.len() {
@@ -85,7 +99,11 @@ fn step(
     line: &mut [u8; MOST_KEPT],
     out: &mut [u8; LENT_BYTES],
     work: &mut [u32; LENT_CELLS],
-) -> Session {
+) -> Session
+    requires { ⌜ Within (s .held) (now line) ⌝ }
+    ensures chunk { λ r. ⌜ (r .open ≡ true → Stepped (carriedOf s (now (line .entry)) (now (out .entry)) (now (work .entry))) (carriedOf r (now (line .exit)) (now (out .exit)) (now (work .exit))) (now (chunk .exit))) ⌝ }
+    ensures held { λ r. ⌜ Within (r .held) (now (line .exit)) ⌝ }
+{
     let mut session = s;
     let got = libc::read(STDIN_FILENO, &mut *chunk);
     if got < 0 {

@@ -1,12 +1,14 @@
 -- `main` is safe and ends. Assumes nothing.
-use mathlib.Core.Path.{_≡_}
+use mathlib.Core.Path.{_≡_, refl}
 use borrow.Author.Needs.{needs}
+use lib.Dec.{lit≤}
 use lib.ListN.{length}
+use Rattle.load_planner.specs.Session.{Within}
 use Rattle.load_planner.proofs.main.Statement.{statement}
 use Rattle.load_planner.proofs.main.Tie as tie
 
 abbrev Inv-loop : tie.InvT-loop
-Inv-loop chunk₀ line₀ out₀ work₀ session₀ turns₀ chunk line out work session turns = length chunk ≡ 4096
+Inv-loop chunk₀ line₀ out₀ work₀ session₀ turns₀ chunk line out work session turns = (length chunk ≡ 4096) × Within (session .held) line
 
 abbrev μ-loop : tie.MeasureT-loop
 μ-loop chunk₀ line₀ out₀ work₀ session₀ turns₀ chunk line out work session turns = turns
@@ -15,7 +17,7 @@ fresh-requires : tie.Need-fresh-requires Inv-loop μ-loop
 fresh-requires c κs = search needs
 
 loop-holds : tie.Need-loop-holds Inv-loop μ-loop
-loop-holds c = search needs
+loop-holds c = (refl, record { few = lit≤ tt; room = refl })
 
 slice-aggregate-step : tie.Need-slice-aggregate-step Inv-loop μ-loop
 slice-aggregate-step c = search needs
@@ -30,7 +32,7 @@ loop-less : tie.Need-loop-less Inv-loop μ-loop
 loop-less c = search needs
 
 loop-again : tie.Need-loop-again Inv-loop μ-loop
-loop-again c = search needs
+loop-again c = (search needs, c .before .step .ensures .1)
 
 returns : tie.Need-returns Inv-loop μ-loop
 returns c = search needs

@@ -1,0 +1,42 @@
+-- `answer` meets its contract: it leaves what the call leaves, and what the call wrote is part of the output. Assumes nothing.
+use Prim.Native.Nat.{_≤_}
+use mathlib.Core.Path.{_≡_, refl, ap}
+use mathlib.Core.List.{[]}
+use borrow.Author.Needs.{needs}
+use native.Mathlib.Omega.{arith}
+use lib.ListN.{length}
+use Rattle.lines.specs.Answers.{freeBytes}
+use Rattle.tables.specs.Stored.{Lengths}
+use Rattle.calls.specs.Calls.{Done}
+use Rattle.calls.specs.Program.{Left, leftBy, doneOn, Carried, answered}
+use Rattle.planner.proofs.Demands.{demand1}
+use Rattle.lists.proofs.Arrays.{of-map}
+use Rattle.load_planner.proofs.answer.Statement.{statement}
+use Rattle.load_planner.proofs.answer.Tie as tie
+
+lengths : (c : tie.Start) → Lengths (c .args .s .planner .tables)
+lengths c = record { loadRules = search (needs, of-map); rowRules = search (needs, of-map); loads = search (needs, of-map) }
+
+show-requires : tie.Need-show-requires
+show-requires c κs =
+    let k = c .before .before .before in
+    let e = k .before .before .before .before in
+    let r = k .call .result in
+    let size : length (k .call .last .1 .1 .1 .0) ≡ freeBytes = search needs in
+    omega (arith, size, demand1 (e .args .s .planner) (lengths e) _ r _ _ (k .call .ensures) .fits)
+
+answers : (x : Carried) (d : Done) → d ≡ doneOn (x .left) (x .begun) → record { left = leftBy d; begun = [] } ≡ answered x
+answers x d e = ap (λ (d : Done). record { left = leftBy d; begun = [] }) e
+
+returns : tie.Need-returns
+returns c =
+    let k = c .before .before .before .before .before .before .before in
+    (answers _ _ (k .call .ensures), refl)
+
+returns-2 : tie.Need-returns-2
+returns-2 c =
+    let k = c .before .before .before .before .before in
+    (answers _ _ (k .call .ensures), refl)
+
+pub answer-spec : {M : Type 1} → statement M
+answer-spec = tie.close (tie.spec (λ c κs. search needs) show-requires (λ c. search needs) (λ c κs. search needs) returns returns-2)

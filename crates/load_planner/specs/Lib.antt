@@ -1,0 +1,2 @@
+-- What the line program keeps from line to line and from chunk to chunk.
+pub mod Session
