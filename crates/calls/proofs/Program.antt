@@ -51,6 +51,12 @@ pub chunk-none : (x : Carried) → afterChunk x [] ≡ x
 unfolding afterChunk leftAfter feed
 chunk-none x = refl
 
+-- one chunk more
+pub chunks-more : (cs : List (List ℕ)) (x : Carried) (c : List ℕ) → afterChunks x (cs ++ (c ∷ [])) ≡ afterChunk (afterChunks x cs) c
+unfolding afterChunks
+chunks-more [] x c = refl
+chunks-more (d ∷ cs) x c = chunks-more cs (afterChunk x d) c
+
 end-left : (x : Left) (l : List ℕ) → atEnd (record { left = x; begun = l }) ≡ leftAfter x (feedAll l [])
 unfolding atEnd leftAfter feedAll
 end-left x [] = refl

@@ -8,7 +8,7 @@ use lib.ListN.{length, take, drop, length-drop}
 use lib.Seq.{take-all, drop-drop, drop-length, length-sets}
 use Rattle.lists.specs.Tests.{pick}
 use Rattle.lines.specs.declared.splitting.Taken.{Taken}
-use Rattle.lines.specs.Input.{mostKept, ahead, feed, bytesFor, Took}
+use Rattle.lines.specs.Input.{mostKept, Fed, ahead, feed, bytesFor, Took}
 use Rattle.lines.proofs.Input.{took-feeds, held-few}
 use Rattle.calls.specs.Program.{Left, Carried, answered, afterChunk}
 use Rattle.calls.proofs.Program.{chunk-ends, chunk-held, chunk-none}
@@ -43,13 +43,15 @@ module _ (x₀ : Carried) (s : List ℕ) (left : Left) (buffer after : List ℕ)
   whole : take (length s - p) (drop p s) ≡ drop p s
   whole = take-all (length s - p) (drop p s) (omega (arith, length-drop p s))
 
-  fed : feed (take held buffer) (drop p s)
-      ≡ pick (r .ended) (ahead (take (r .held) after) (feed [] (drop (p + r .count) s))) (record { ended = []; begun = take (r .held) after })
-  fed =
+  -- what is left of the chunk gives, the line having ended or not, with this after it
+  abbrev given : Bool → (rest : List ℕ) → Fed
+  given b rest = pick b (ahead (take (r .held) after) (feed [] rest)) (record { ended = []; begun = take (r .held) after })
+
+  fed : (b : Bool) → r .ended ≡ b → feed (take held buffer) (drop p s) ≡ given b (drop (p + r .count) s)
+  fed b e =
       ap (feed (take held buffer)) (sym whole)
       ∙ took-feeds took (t .within .room) (t .within .few)
-      ∙ ap (λ (c : List ℕ). pick (r .ended) (ahead (take (r .held) after) (feed [] c)) (record { ended = []; begun = take (r .held) after }))
-      (ap (drop (r .count)) whole ∙ drop-drop (r .count) p s)
+      ∙ (λ i. given (e i) ((ap (drop (r .count)) whole ∙ drop-drop (r .count) p s) i))
 
   turn-few : r .held ≤ mostKept
   turn-few = held-few took (t .within .room) (t .within .few)
@@ -64,13 +66,10 @@ module _ (x₀ : Carried) (s : List ℕ) (left : Left) (buffer after : List ℕ)
   pub turn-ended : r .ended ≡ true → (x : Left) (n : ℕ) → carried x after n ≡ answered (carried left after (r .held)) → n ≡ 0 → Turned x₀ s x after n (p + r .count)
   turn-ended e x n is none = record { inside = took-bounds s p _ _ _ _ h took .1; within = record { few = omega (arith, none); room = turn-room }; rest = rest }
     where
-      first : feed (take held buffer) (drop p s) ≡ ahead (take (r .held) after) (feed [] (drop (p + r .count) s))
-      first = fed ∙ ap (λ (b : Bool). pick b (ahead (take (r .held) after) (feed [] (drop (p + r .count) s))) (record { ended = []; begun = take (r .held) after })) e
-
       rest : afterChunk (carried x after n) (drop (p + r .count) s) ≡ afterChunk x₀ s
       rest =
           ap (λ (x : Carried). afterChunk x (drop (p + r .count) s)) is
-          ∙ sym (chunk-ends (carried left buffer held) (drop p s) (take (r .held) after) (drop (p + r .count) s) first)
+          ∙ sym (chunk-ends (carried left buffer held) (drop p s) (take (r .held) after) (drop (p + r .count) s) (fed true e))
           ∙ t .rest
 
   -- it did not end, and is the line begun
@@ -80,13 +79,10 @@ module _ (x₀ : Carried) (s : List ℕ) (left : Left) (buffer after : List ℕ)
       end : p + r .count ≡ length s
       end = took-all s p _ _ _ _ h took e
 
-      first : feed (take held buffer) (drop p s) ≡ record { ended = []; begun = take (r .held) after }
-      first = fed ∙ ap (λ (b : Bool). pick b (ahead (take (r .held) after) (feed [] (drop (p + r .count) s))) (record { ended = []; begun = take (r .held) after })) e
-
       rest : afterChunk (carried x after n) (drop (p + r .count) s) ≡ afterChunk x₀ s
       rest =
           ap (afterChunk (carried x after n)) (ap (λ (i : ℕ). drop i s) end ∙ drop-length s)
           ∙ chunk-none (carried x after n)
           ∙ (λ i. carried (is i) after (same i))
-          ∙ sym (chunk-held (carried left buffer held) (drop p s) (take (r .held) after) first)
+          ∙ sym (chunk-held (carried left buffer held) (drop p s) (take (r .held) after) (fed false e))
           ∙ t .rest

@@ -4,7 +4,7 @@ use mathlib.Core.Path.{_≡_}
 use mathlib.Core.List.{List}
 use lib.ListN.{length, take}
 use Rattle.lines.specs.Input.{mostKept}
-use Rattle.calls.specs.Program.{Left, Carried, afterChunk}
+use Rattle.calls.specs.Program.{Left, Carried, afterChunk, afterChunks, started, lentCells}
 use Rattle.planner.specs.declared.Planner.{Planner}
 use Rattle.load_planner.specs.declared.Session.{Session}
 
@@ -24,3 +24,8 @@ pub record Within (held : ℕ) (line : List ℕ) : Type 0 where
 pub record Stepped (before after : Carried) (buffer : List ℕ) : Type 0 where
   pub count : ℕ
   pub taken : after ≡ afterChunk before (take count buffer)
+
+-- chunks were read and taken, one after the other from the start
+pub record Ran (x : Carried) : Type 0 where
+  pub chunks : List (List ℕ)
+  pub taken : x ≡ afterChunks (started lentCells) chunks
