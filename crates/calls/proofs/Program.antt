@@ -1,9 +1,11 @@
 -- What the line program prints for any input is the replies of a history, so demand 3 holds of it; and a line that is cut after 81 bytes is
 -- answered as the whole line. Assumes nothing.
-use Prim.Native.Nat.{ℕ}
+use Prim.Native.Nat.{ℕ, _<_}
 use mathlib.Core.Path.{_≡_, refl, sym, ap, _∙_}
 use mathlib.Core.Bool.{Bool, true, false}
 use mathlib.Core.List.{List, [], _∷_, _++_, map, flatten}
+use native.Mathlib.Omega.{arith}
+use lib.ListN.{length}
 use Rattle.lines.specs.Length.{tooLong}
 use Rattle.lines.specs.Input.{lines, kept, Fed, ahead, feed, feedAll}
 use Rattle.lines.proofs.Input.{kept-short, kept-tells, chunks-lines}
@@ -50,6 +52,17 @@ chunk-held x c l e = ap (afterFed (x .left)) e
 pub chunk-none : (x : Carried) → afterChunk x [] ≡ x
 unfolding afterChunk leftAfter feed
 chunk-none x = refl
+
+-- the end, with no line begun and with one
+pub end-none : (x : Left) (l : List ℕ) → length l ≡ 0 → atEnd (record { left = x; begun = l }) ≡ x
+unfolding atEnd
+end-none x [] h = refl
+end-none x (b ∷ l) h = absurd (omega (arith, h))
+
+pub end-some : (x : Left) (l : List ℕ) → 0 < length l → atEnd (record { left = x; begun = l }) ≡ answered (record { left = x; begun = l }) .left
+unfolding atEnd
+end-some x [] h = absurd (omega (arith, h))
+end-some x (b ∷ l) h = refl
 
 -- one chunk more
 pub chunks-more : (cs : List (List ℕ)) (x : Carried) (c : List ℕ) → afterChunks x (cs ++ (c ∷ [])) ≡ afterChunk (afterChunks x cs) c

@@ -7,9 +7,9 @@ use planner::Planner;
 use planner::call::Called;
 ghost use Prim.Native.Nat.{_≤_};
 ghost use mathlib.Core.Path.{_≡_};
-ghost use mathlib.Core.Bool.{true};
+ghost use mathlib.Core.Bool.{true, false};
 ghost use lib.ListN.{length, take};
-ghost use Rattle.calls.specs.Program.{doneOn, answered, afterChunk};
+ghost use Rattle.calls.specs.Program.{doneOn, answered, afterChunk, atEnd};
 ghost use Rattle.planner.specs.Calls.{doneOf};
 ghost use Rattle.load_planner.specs.Session.{leftOf, carriedOf, Within, Stepped};
 
@@ -92,7 +92,27 @@ fn take_chunk(
     session
 }
 
-// One read and its answers. At the end of the input a line without line feed counts.
+// The end of the input: a line without line feed counts.
+fn finish(
+    s: Session,
+    line: &[u8; MOST_KEPT],
+    out: &mut [u8; LENT_BYTES],
+    work: &mut [u32; LENT_CELLS],
+) -> Session
+    requires { ⌜ Within (s .held) (now line) ⌝ }
+    ensures end { λ r. ⌜ leftOf (r .planner) (now (out .exit)) (now (work .exit)) ≡ atEnd (carriedOf s (now (line .entry)) (now (out .entry)) (now (work .entry))) ⌝ }
+    ensures none { λ r. ⌜ r .held ≡ 0 ⌝ }
+    ensures shut { λ r. ⌜ r .open ≡ false ⌝ }
+{
+    let mut session = s;
+    if 0 < session.held {
+        session = answer(session, &*line, &mut *out, &mut *work);
+    }
+    session.open = false;
+    session
+}
+
+// One read and its answers.
 fn step(
     s: Session,
     chunk: &mut [u8],
@@ -112,11 +132,7 @@ fn step(
         return session;
     }
     if got == 0 {
-        if 0 < session.held {
-            session = answer(session, &*line, &mut *out, &mut *work);
-        }
-        session.open = false;
-        return session;
+        return finish(session, &*line, &mut *out, &mut *work);
     }
     let n = io::count(got, &*chunk);
     take_chunk(session, &chunk[..n], line, out, work)

@@ -11,14 +11,11 @@ returns c = ((λ e. closed e refl), c .before .before .before .before .before .b
 
 returns-2 : tie.Need-returns-2
 returns-2 c =
-    let e = c .before .before .before .before .before .before .before .before .before .before .before .before .before in
-    ((λ e. closed e refl), record { few = omega (arith, c .answer .ensures .1); room = e .pre .room })
+    let e = c .before .before .before .before .before .before .before .before .before .before .before in
+    ((λ e. closed e (c .finish .ensures .1 .1)), record { few = omega (arith, c .finish .ensures .1 .0); room = e .pre .room })
 
 returns-3 : tie.Need-returns-3
-returns-3 c = ((λ e. closed e refl), c .before .before .before .before .before .before .before .before .before .pre)
-
-returns-4 : tie.Need-returns-4
-returns-4 c = ((λ e. record { count = c .before .before .before .before .before .count .result; taken = c .take-chunk .ensures .0 e }), c .take-chunk .ensures .1)
+returns-3 c = ((λ e. record { count = c .before .before .before .before .before .count .result; taken = c .take-chunk .ensures .0 e }), c .take-chunk .ensures .1)
 
 pub step-spec : {M : Type 1} → statement M
 step-spec =
@@ -32,11 +29,9 @@ step-spec =
     (λ c κs. search needs)
     (λ c. search needs)
     returns-2
-    (λ c. search needs)
-    returns-3
     (λ c κs. search needs)
     (λ c. search needs)
     (λ c. search needs)
     (λ c κs. search needs)
     (λ c. search needs)
-    returns-4)
+    returns-3)
