@@ -63,10 +63,14 @@ class Edit:
             path.write_text(text.replace(old, new))
 
 
-def libraries():
-    """The crates of crates.txt that are libraries of this repository, in its order."""
+def crates():
+    """The crates of crates.txt that are of this repository, in its order."""
     names = re.findall(r"^(\w+):", (ROOT / "crates.txt").read_text(), re.M)
-    return [n for n in names if (ROOT / "crates" / n / "src" / "lib.rt").exists()]
+    return [n for n in names if (ROOT / "crates" / n).exists()]
+
+
+def is_library(crate):
+    return (ROOT / "crates" / crate / "src" / "lib.rt").exists()
 
 
 def edits_of(crate):
@@ -203,15 +207,15 @@ def run(edits):
             finally:
                 free.put(scratch)
 
-        crates = sorted({edit.crate for edit in edits})
-        list(pool.map(lambda c: with_scratch(lambda s: keep_checked(s, c, store)), crates))
+        edited = sorted({edit.crate for edit in edits})
+        list(pool.map(lambda c: with_scratch(lambda s: keep_checked(s, c, store)), edited))
         return sum(pool.map(lambda e: with_scratch(lambda s: try_edit(e, s, store)), edits))
 
 
 def counts_of(edits):
     """How many edits are refused of each public function of the libraries that have code."""
     counts = []
-    for crate in libraries():
+    for crate in filter(is_library, crates()):
         functions = public_functions(crate)
         if not functions and any("pub fn" in path.read_text() for path in (ROOT / "crates" / crate / "src").rglob("*.rt")):
             raise RuntimeError(f"{crate} has functions, and its interface lists none")
@@ -221,7 +225,7 @@ def counts_of(edits):
 
 def main():
     wanted = sys.argv[1:]
-    every = [edit for crate in libraries() for edit in edits_of(crate)]
+    every = [edit for crate in crates() for edit in edits_of(crate)]
     edits = [e for e in every if not wanted or e.crate in wanted or e.name() in wanted]
     if not edits:
         print("no such crate or edit")

@@ -1,4 +1,5 @@
--- A line that is taken from a chunk takes a byte of it or more, and no more than the chunk has. Assumes nothing.
+-- A line that is taken from a chunk takes a byte of it or more, and no more than the chunk has; all of it where the line does not end.
+-- Assumes nothing.
 use Prim.Native.Nat.{ℕ, _+_, _-_, _≤_, _<_}
 use mathlib.Core.Path.{_≡_, refl, sym, ap, _∙_}
 use mathlib.Core.Bool.{Bool, true, false}

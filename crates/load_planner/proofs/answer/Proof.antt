@@ -1,5 +1,4 @@
 -- `answer` meets its contract: it leaves what the call leaves, and what the call wrote is part of the output. Assumes nothing.
-use Prim.Native.Nat.{_≤_}
 use mathlib.Core.Path.{_≡_, refl, ap}
 use mathlib.Core.List.{[]}
 use borrow.Author.Needs.{needs}
@@ -8,7 +7,7 @@ use lib.ListN.{length}
 use Rattle.lines.specs.Answers.{freeBytes}
 use Rattle.tables.specs.Stored.{Lengths}
 use Rattle.calls.specs.Calls.{Done}
-use Rattle.calls.specs.Program.{Left, leftBy, doneOn, Carried, answered}
+use Rattle.calls.specs.Program.{leftBy, doneOn, Carried, answered}
 use Rattle.planner.proofs.Demands.{demand1}
 use Rattle.lists.proofs.Arrays.{of-map}
 use Rattle.load_planner.proofs.answer.Statement.{statement}
@@ -17,6 +16,7 @@ use Rattle.load_planner.proofs.answer.Tie as tie
 lengths : (c : tie.Start) → Lengths (c .args .s .planner .tables)
 lengths c = record { loadRules = search (needs, of-map); rowRules = search (needs, of-map); loads = search (needs, of-map) }
 
+-- no answer is longer than the output
 show-requires : tie.Need-show-requires
 show-requires c κs =
     let k = c .before .before .before in

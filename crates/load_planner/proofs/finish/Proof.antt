@@ -1,11 +1,11 @@
 -- `finish` meets its contract: a line begun has a byte or more exactly if bytes are held. Assumes nothing.
-use Prim.Native.Nat.{ℕ, _≤_}
+use Prim.Native.Nat.{ℕ}
 use mathlib.Core.Path.{_≡_, refl, sym, ap, _∙_}
 use mathlib.Core.List.{List}
 use borrow.Author.Needs.{needs}
 use native.Mathlib.Omega.{arith}
 use lib.ListN.{length, take, length-take}
-use Rattle.calls.specs.Program.{Left, Carried}
+use Rattle.calls.specs.Program.{Carried}
 use Rattle.calls.proofs.Program.{end-none, end-some}
 use Rattle.load_planner.specs.Session.{Within}
 use Rattle.load_planner.proofs.finish.Statement.{statement}
