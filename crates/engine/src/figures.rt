@@ -1,13 +1,12 @@
 // The figures of a set of loads. How many loads are on is `LoadSet::count`.
 use marks::LoadSet;
 use tables::load::LoadList;
-use tables::tables::StoredTables;
 ghost use mathlib.Core.Path.{_≡_};
 ghost use Prim.Native.Nat.{_≤_};
 ghost use Rattle.lists.specs.Argmax.{guard};
 ghost use Rattle.tables.specs.Limits.{maxLoads};
-ghost use Rattle.tables.specs.Stored.{loadsOf, tablesOf};
-ghost use Rattle.meaning.specs.Sets.{counted, power, worth};
+ghost use Rattle.tables.specs.Stored.{loadsOf};
+ghost use Rattle.meaning.specs.Sets.{counted};
 ghost use Rattle.marks.specs.Sets.{markIn};
 ghost use Rattle.engine.specs.Figures.{figuresOf};
 
@@ -25,7 +24,7 @@ fn counted_if(on: bool, figure: u16) -> u32
 }
 
 // The sums of the figures of the loads that are in the set.
-fn figures_of(loads: LoadList, set: LoadSet) -> Figures
+pub fn figures_of(loads: LoadList, set: LoadSet) -> Figures
     requires { ⌜ loads .count ≤ maxLoads ⌝ }
     ensures { λ r. ⌜ r ≡ figuresOf (loadsOf loads) (markIn set) ⌝ }
 {
@@ -39,18 +38,4 @@ fn figures_of(loads: LoadList, set: LoadSet) -> Figures
         worth += counted_if(on, l.worth);
     }
     Figures { power, worth }
-}
-
-pub fn power_of(t: StoredTables, set: LoadSet) -> u32
-    requires { ⌜ t .loads .count ≤ maxLoads ⌝ }
-    ensures { λ r. ⌜ r ≡ power (tablesOf t) (markIn set) ⌝ }
-{
-    figures_of(t.loads, set).power
-}
-
-pub fn worth_of(t: StoredTables, set: LoadSet) -> u32
-    requires { ⌜ t .loads .count ≤ maxLoads ⌝ }
-    ensures { λ r. ⌜ r ≡ worth (tablesOf t) (markIn set) ⌝ }
-{
-    figures_of(t.loads, set).worth
 }

@@ -4,8 +4,7 @@ use crate::answers::Answer;
 use cells::problem::plan_problem;
 use cells::problem::shape_of;
 use cells::work::cells_needed;
-use engine::figures::power_of;
-use engine::figures::worth_of;
+use engine::figures::figures_of;
 use engine::run::Run;
 use marks::LoadSet;
 use tables::tables::StoredTables;
@@ -80,9 +79,10 @@ impl Planner {
         }
         let run = outcome.run;
         let set = run.set;
+        let figures = figures_of(tables.loads, set);
         let answer = Answer::Planned {
-            worth: worth_of(tables, set),
-            power: power_of(tables, set),
+            worth: figures.worth,
+            power: figures.power,
             on: set.count(),
         };
         Decided {

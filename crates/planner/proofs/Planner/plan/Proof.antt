@@ -12,11 +12,12 @@ use Rattle.meaning.specs.Choice.{planEntries}
 use Rattle.meaning.specs.Cells.{cellsOf}
 use Rattle.calls.specs.Printing.{searched}
 use Rattle.calls.proofs.Answers.{positive}
+use Rattle.calls.proofs.Work.{unsearched, cleared}
+use Rattle.engine.specs.declared.figures.Figures.{Figures}
 use Rattle.planner.specs.declared.search.Decided.{Decided}
 use Rattle.planner.specs.Answers.{numberOf}
 use Rattle.planner.proofs.Commands.{load-count, few}
 use Rattle.planner.proofs.Searching.{none-found, some-found, plan-four, plan-eight, plan-nine, plan-accepted, kept, refuses, plans}
-use Rattle.calls.proofs.Work.{unsearched, cleared}
 use Rattle.planner.proofs.Planner.plan.Statement.{statement}
 use Rattle.planner.proofs.Planner.plan.Tie as tie
 
@@ -60,24 +61,21 @@ returns-3 c =
     let none = none-found (bestPlan (tablesOf s)) (planEntries (tablesOf s)) (o .plan .ensures .0) (not-true _ (c .before .if3 .taken)) in
     (refuses s (e .pre) Plan _ 8 r (plan-nine (tablesOf s) (length (e .args .work .now)) (some-loads k) (enough f) none), cleared (tablesOf s) _ (e .args .work .now) _ (ap (λ (d : Decided). searched (numberOf (d .answer))) r) (o .plan .ensures .1))
 
-worth-of-requires : tie.Need-worth-of-requires
-worth-of-requires c κs =
+figures-of-requires : tie.Need-figures-of-requires
+figures-of-requires c κs =
     let e = c .before .before .before .before .before .before .before .before .before .before .before .before .before .before in few (e .args .self .tables) (e .pre)
 
-power-of-requires : tie.Need-power-of-requires
-power-of-requires c κs =
-    let e = c .before .before .before .before .before .before .before .before .before .before .before .before .before .before .before in few (e .args .self .tables) (e .pre)
-
 returns-4 : tie.Need-returns-4
+unfolding tablesOf
 returns-4 c =
-    let w = c .before .before in
+    let w = c .before in
     let o = w .before .before .before .before .before .before .before in
     let f = o .before .before in
     let k = f .before .before in
     let e = k .before .before .before .before in
     let s = e .args .self .tables in
     let found = some-found (bestPlan (tablesOf s)) (planEntries (tablesOf s)) (o .plan .ensures .0) (not-false _ (w .before .before .before .if3 .left)) in
-    (plans s (e .pre) _ (plan-accepted (tablesOf s) (length (e .args .work .now)) (some-loads k) (enough f) (found .0)) _ (found .1) _ _ _ (w .worth-of .ensures) (c .before .power-of .ensures) (c .count .ensures), cleared (tablesOf s) 0 (e .args .work .now) _ refl (o .plan .ensures .1))
+    (plans s (e .pre) _ (plan-accepted (tablesOf s) (length (e .args .work .now)) (some-loads k) (enough f) (found .0)) _ (found .1) _ _ _ (ap (λ (x : Figures). x .worth) (w .figures-of .ensures)) (ap (λ (x : Figures). x .power) (w .figures-of .ensures)) (c .count .ensures), cleared (tablesOf s) 0 (e .args .work .now) _ refl (o .plan .ensures .1))
 
 pub plan-spec : {M : Type 1} → statement M
 plan-spec =
@@ -92,8 +90,7 @@ plan-spec =
     (λ c κs. search needs)
     (λ c. search needs)
     returns-3
-    worth-of-requires
-    power-of-requires
+    figures-of-requires
     (λ c κs. search needs)
     (λ c. search needs)
     returns-4)
