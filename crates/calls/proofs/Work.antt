@@ -45,5 +45,5 @@ unfolding workAfter
 plan-zeroed t n c w p e = rw (p, e)
 
 pub cleared : (t : Tables) (n : ℕ) (w v : List ℕ) → searched n ≡ true → v ≡ replicate (cellsOf t) 0 ++ drop (cellsOf t) w → v ≡ workAfter t n line.Plan w
-unfolding workAfter zeroed
-cleared t n w v e is = is ∙ rw e
+unfolding zeroed
+cleared t n w v e is = is ∙ sym (plan-zeroed t n line.Plan w refl e)
