@@ -15,7 +15,7 @@ use Rattle.lines.specs.Answers.{refused, freeBytes}
 use Rattle.tables.specs.declared.tables.StoredTables.{StoredTables}
 use Rattle.tables.specs.Tables.{Tables}
 use Rattle.tables.specs.Limits.{Limits}
-use Rattle.tables.specs.Stored.{stored, tablesOf, keepsLimits, Lengths}
+use Rattle.tables.specs.Stored.{stored, placesOf, tablesOf, keepsLimits, Lengths}
 use Rattle.tables.proofs.Stored.{tables-stored, stored-keeps, keeps-exactly}
 use Rattle.calls.specs.Causes.{Cause, _if_, lowest, allCauses, refusal}
 use Rattle.calls.specs.Printing.{text}
@@ -117,5 +117,5 @@ demand1 s len c = go (keepsLimits s) refl
     go : (b : Bool) → keepsLimits s ≡ b → Demand1 s c (called s c)
     go false e = subst (λ (b : Bool). Demand1 s c (calledIf b s c)) (sym e) (broken s c e)
     go true e =
-        let h = keeps-exactly s len .0 e in
+        let h = keeps-exactly s len (placesOf (s .loads)) refl .0 e in
         subst (λ (x : StoredTables). Demand1 x c (called x c)) (sym (h .2)) (subst (Demand1 (stored (h .0)) c) (sym (called-stored (h .0) (h .1) c)) (held (h .0) (h .1) c))

@@ -1,5 +1,5 @@
 -- Demand 3: one theorem about lists of calls. Assumes nothing.
-use Prim.Native.Nat.{ℕ}
+use Prim.Native.Nat.{ℕ, _≤_}
 use mathlib.Core.Path.{_≡_, refl, sym, ap, subst, _∙_}
 use mathlib.Core.Bool.{Bool, true, false}
 use mathlib.Core.List.{List, [], _∷_}
@@ -10,7 +10,7 @@ use lib.ListN.{length}
 use Rattle.lines.specs.declared.Command.the-variants.{Plan}
 use Rattle.tables.specs.declared.tables.StoredTables.{StoredTables}
 use Rattle.tables.specs.Tables.{Tables, fresh}
-use Rattle.tables.specs.Limits.{Limits}
+use Rattle.tables.specs.Limits.{mostPlaces, Limits}
 use Rattle.tables.specs.Stored.{stored}
 use Rattle.tables.proofs.Keeps.{fresh-limits}
 use Rattle.meaning.specs.Best.{bestPlan}
@@ -89,6 +89,6 @@ history-right t h (x ∷ xs) y =
       (sym r, λ k. subst (PlanRight t c) r (plan-right t h c k), ih .2),
     )
 
--- for every list of calls from a fresh planner
-pub demand3 : (xs : List Exchange) → History (stored fresh) xs → Demand3 xs
-demand3 xs y = let r = history-right fresh fresh-limits xs y in record { tables = r .0; limits = r .1; plans = r .2 }
+-- for every limit of loads up to `mostPlaces`, and every list of calls from a fresh planner
+pub demand3 : (n : ℕ) → n ≤ mostPlaces → (xs : List Exchange) → History (stored (fresh n)) xs → Demand3 n xs
+demand3 n h xs y = let r = history-right (fresh n) (fresh-limits n h) xs y in record { tables = r .0; limits = r .1; plans = r .2 }

@@ -19,7 +19,7 @@ use Rattle.lines.specs.Answers.{freeBytes, AllRanged}
 use Rattle.lines.proofs.Answers.{plan-fits, check-fits, refused-fits}
 use Rattle.tables.specs.declared.load.Load.{Load}
 use Rattle.tables.specs.Tables.{Tables}
-use Rattle.tables.specs.Limits.{powerIn, worthIn, parentIn, loadIn, Limits}
+use Rattle.tables.specs.Limits.{powerIn, worthIn, parentIn, loadIn, mostPlaces, Limits}
 use Rattle.tables.proofs.Parts.{limits-parts}
 use Rattle.meaning.specs.Forest.{sum}
 use Rattle.meaning.specs.Sets.{counted, power, worth, numberOn}
@@ -38,7 +38,7 @@ use Rattle.calls.proofs.Numbers.{passed, refusal-most}
 use Rattle.calls.proofs.Answers.{positive}
 
 -- ---- load lines
-ranged : (es : List Entry) → ((i : ℕ) → Bounded (find es i)) → (k n : ℕ) → ((i : ℕ) → k ≤ i → i < k + n → find es i .number ≤ 64)
+ranged : (es : List Entry) → ((i : ℕ) → Bounded (find es i)) → (k n : ℕ) → ((i : ℕ) → k ≤ i → i < k + n → find es i .number < 1000)
     → AllRanged (map lineOf (inOrder es k n))
 unfolding inOrder
 ranged es b k zero h = tt
@@ -47,7 +47,7 @@ ranged es b k (suc n) h = (
   ranged es b (suc k) n (λ i c d. h i (omega arith) (omega arith)),
 )
 
-all-ranged : (es : List Entry) (n : ℕ) → n ≤ 64 → Listed es n → ((i : ℕ) → Bounded (find es i)) → AllRanged (map lineOf (inOrder es 1 n))
+all-ranged : (es : List Entry) (n : ℕ) → n < 1000 → Listed es n → ((i : ℕ) → Bounded (find es i)) → AllRanged (map lineOf (inOrder es 1 n))
 all-ranged es n few l b = ranged es b 1 n (λ i c d. omega (arith, l .number i c (omega arith)))
 
 -- ---- the figures of a set
@@ -76,31 +76,31 @@ one-most true = lit≤ tt
 one-most false = lit≤ tt
 
 module _ (t : Tables) (h : Limits t) (σ : ℕ → ℕ) where
-  all-worth : worth t σ ≤ 64000
+  all-worth : worth t σ < 1000000
   all-worth =
-      omega (arith, limits-parts t h .few, sum-most (λ k l. counted (σ k) (l .worth)) 1000 (λ k l e. counted-most (σ k) (l .worth) 1000 (worth-most l k e)) (t .loads) 1 (limits-parts t h .loads))
+      omega (arith, limits-parts t h .few, limits-parts t h .places, sum-most (λ k l. counted (σ k) (l .worth)) 1000 (λ k l e. counted-most (σ k) (l .worth) 1000 (worth-most l k e)) (t .loads) 1 (limits-parts t h .loads))
 
-  all-on : numberOn t σ ≤ 64
-  all-on = omega (arith, limits-parts t h .few, sum-most (λ k l. guard (eqb (σ k) 1) 1) 1 (λ k l e. one-most (eqb (σ k) 1)) (t .loads) 1 (limits-parts t h .loads))
+  all-on : numberOn t σ < 1000
+  all-on = omega (arith, limits-parts t h .few, limits-parts t h .places, sum-most (λ k l. guard (eqb (σ k) 1) 1) 1 (λ k l e. one-most (eqb (σ k) 1)) (t .loads) 1 (limits-parts t h .loads))
 
 -- ---- answers
 module _ (t : Tables) (h : Limits t) where
-  few : length (t .loads) ≤ 64
-  few = limits-parts t h .few
+  few : length (t .loads) ≤ mostPlaces
+  few = omega (arith, limits-parts t h .few, limits-parts t h .places)
 
   pub plan-ranged : AllRanged (map lineOf (planEntries t))
   unfolding planEntries
-  plan-ranged = all-ranged (plan t) (length (t .loads)) few (plan-listed t (lawful t h .ordered)) (plan-bounded t (narrow t h))
+  plan-ranged = all-ranged (plan t) (length (t .loads)) (omega (arith, few)) (plan-listed t (lawful t h .ordered)) (plan-bounded t (narrow t h))
 
   pub check-ranged : (σ : ℕ → ℕ) → AllRanged (map lineOf (checkEntries t σ))
   unfolding checkEntries
-  check-ranged σ = all-ranged (check t σ) (length (t .loads)) few (check-listed t (lawful t h .ordered) σ) (check-bounded t (narrow t h) σ)
+  check-ranged σ = all-ranged (check t σ) (length (t .loads)) (omega (arith, few)) (check-listed t (lawful t h .ordered) σ) (check-bounded t (narrow t h) σ)
 
-  plan-few : length (map lineOf (planEntries t)) ≤ 64
+  plan-few : 14 * length (map lineOf (planEntries t)) + 20 ≤ freeBytes
   unfolding planEntries
   plan-few = omega (arith, few, length-map (planEntries t) lineOf, listed-length (plan t) (length (t .loads)) (plan-listed t (lawful t h .ordered)))
 
-  check-few : (σ : ℕ → ℕ) → length (map lineOf (checkEntries t σ)) ≤ 64
+  check-few : (σ : ℕ → ℕ) → 14 * length (map lineOf (checkEntries t σ)) + 20 ≤ freeBytes
   unfolding checkEntries
   check-few σ = omega (arith, few, length-map (checkEntries t σ) lineOf, listed-length (check t σ) (length (t .loads)) (check-listed t (lawful t h .ordered) σ))
 

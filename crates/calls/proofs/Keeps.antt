@@ -12,7 +12,8 @@ use Rattle.lines.specs.declared.Command.{Command}
 use Rattle.lines.specs.declared.Command.the-variants as line
 use Rattle.lines.specs.Grammar.{parse}
 use Rattle.tables.specs.Tables.{Tables}
-use Rattle.tables.specs.Limits.{between, bookSize, ruleIn, loadRuleRange, rowRuleRange, sameRule, maxRules, maxLoads, loadIn, powerIn, worthIn, budgetIn, Limits}
+use Rattle.tables.specs.Limits.{between, bookSize, ruleIn, loadRuleRange, rowRuleRange, sameRule, maxRules, loadIn, powerIn, worthIn, budgetIn, Limits}
+use Rattle.tables.proofs.Parts.{limits-parts}
 use Rattle.tables.proofs.Keeps.{fresh-limits, new-book-keeps, mark-start-keeps, mark-end-keeps, add-load-rule-keeps, add-row-rule-keeps, add-load-keeps, set-power-keeps, set-worth-keeps, set-budget-keeps}
 use Rattle.calls.specs.Causes.{lowest, rule, load, isLoad, causes, allCauses, refusal}
 use Rattle.calls.specs.Effects.{effect, acted, changed}
@@ -21,7 +22,7 @@ use Rattle.calls.proofs.Numbers.{passed, passed-not}
 module _ (t : Tables) (h : Limits t) where
   pub effect-keeps : (n : ℕ) (c : Command) → lowest (causes t n c) ≡ 0 → Limits (effect t c)
   unfolding effect causes
-  effect-keeps n line.Clear e = fresh-limits
+  effect-keeps n line.Clear e = fresh-limits (t .places) (limits-parts t h .places)
   effect-keeps n (line.Book s g) e = new-book-keeps t h s g (passed-not 4 (bookSize s g) [] e .0)
   effect-keeps n (line.Start q) e = mark-start-keeps t h q (passed-not 4 (between 1 (t .book .states) q) [] e .0)
   effect-keeps n (line.End g) e = mark-end-keeps t h g (passed-not 4 (between 1 (t .book .stages) g) [] e .0)
@@ -39,8 +40,8 @@ module _ (t : Tables) (h : Limits t) where
       add-row-rule-keeps t h (rule g q k) (a .0) (leb-false maxRules (length rs) (b .0)) (d .0)
   effect-keeps n (line.Load p w v) e =
       let a = passed-not 4 (loadIn (suc (length (t .loads))) (load p w v)) _ e in
-      let b = passed 5 (leb maxLoads (length (t .loads))) [] (a .1) in
-      add-load-keeps t h (load p w v) (a .0) (leb-false maxLoads (length (t .loads)) (b .0))
+      let b = passed 5 (leb (t .places) (length (t .loads))) [] (a .1) in
+      add-load-keeps t h (load p w v) (a .0) (leb-false (t .places) (length (t .loads)) (b .0))
   effect-keeps n (line.Power k w) e = set-power-keeps t h k w (and-right (isLoad t k) (powerIn w) (passed-not 4 (isLoad t k && powerIn w) [] e .0))
   effect-keeps n (line.Worth k v) e = set-worth-keeps t h k v (and-right (isLoad t k) (worthIn v) (passed-not 4 (isLoad t k && worthIn v) [] e .0))
   effect-keeps n (line.Budget w) e = set-budget-keeps t h w (passed-not 4 (budgetIn w) [] e .0)

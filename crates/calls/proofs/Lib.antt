@@ -8,5 +8,6 @@ pub mod Printed
 pub mod Demand1
 pub mod Demand2
 pub mod Demand3
+pub mod Full
 pub mod Program
 pub mod Session

@@ -6,6 +6,7 @@ use Rattle.lists.specs.Arrays.{laid}
 use Rattle.lists.specs.Places.{limited}
 use Rattle.lists.specs.Argmax.{argmax}
 use Rattle.marks.specs.Bits.{hasMark, withMark}
+use Rattle.marks.specs.Sets.{joined, hasLoad}
 use Rattle.lines.specs.Text.{same, decimalTo, decimal, field}
 use Rattle.lines.specs.Grammar.{fields, isNumber, valueFrom, isBits, joinedFrom, parse, find as findForm}
 use Rattle.lines.specs.Answers.{refused, planLine, loadLine, loadLines}
@@ -26,5 +27,5 @@ use Rattle.calls.specs.Program.{exchanges, printedBy, sessionWith}
 use Rattle.calls.specs.Session.{sessionRight}
 
 pub session-right : sessionRight ≡ true
-unfolding some every everyFrom distinct laid limited argmax hasMark withMark same decimalTo decimal field fields isNumber valueFrom isBits joinedFrom parse findForm refused planLine loadLine loadLines lines fresh ruleIn sameRule bookIn loadIn loadsIn limits storedBook stored bookOf tablesOf zeroRule zeroLoad keepsLimits row tree sum cell _⊕_ best bestTree bestPlan bestCheck choose chooseTree plan check find inOrder planEntries checkEntries lowest cellsOf noneFits notAllowed causes allCauses refusal effect changed planText checkText printed text zeroed workAfter answer called exchanges printedBy sessionWith sessionRight
+unfolding some every everyFrom distinct laid limited argmax hasMark withMark joined hasLoad same decimalTo decimal field fields isNumber valueFrom isBits joinedFrom parse findForm refused planLine loadLine loadLines lines fresh ruleIn sameRule bookIn loadIn loadsIn limits storedBook stored bookOf tablesOf zeroRule zeroLoad keepsLimits row tree sum cell _⊕_ best bestTree bestPlan bestCheck choose chooseTree plan check find inOrder planEntries checkEntries lowest cellsOf noneFits notAllowed causes allCauses refusal effect changed planText checkText printed text zeroed workAfter answer called exchanges printedBy sessionWith sessionRight
 session-right = refl

@@ -17,7 +17,7 @@ use Rattle.lines.specs.Answers.{freeBytes}
 use Rattle.tables.specs.declared.rule.Transition.{Transition}
 use Rattle.tables.specs.declared.load.Load.{Load}
 use Rattle.tables.specs.Tables.{Tables}
-use Rattle.tables.specs.Limits.{between, bookSize, ruleIn, loadRuleRange, rowRuleRange, sameRule, maxRules, maxLoads, loadIn, powerIn, worthIn, budgetIn}
+use Rattle.tables.specs.Limits.{between, bookSize, ruleIn, loadRuleRange, rowRuleRange, sameRule, maxRules, loadIn, powerIn, worthIn, budgetIn}
 use Rattle.meaning.specs.Best.{bestPlan, bestCheck}
 use Rattle.meaning.specs.Cells.{cellsOf}
 
@@ -70,7 +70,7 @@ module _ (t : Tables) (cells : ℕ) where
       ∷ (7 if some (sameRule (rule g q h)) (t .book .rowRules)) ∷ []
   causes (line.Load p w v) =
       (5 if not (loadIn (suc (length (t .loads))) (load p w v)))
-      ∷ (6 if leb maxLoads (length (t .loads))) ∷ []
+      ∷ (6 if leb (t .places) (length (t .loads))) ∷ []
   causes (line.Power k w) = (5 if not (isLoad t k && powerIn w)) ∷ []
   causes (line.Worth k v) = (5 if not (isLoad t k && worthIn v)) ∷ []
   causes (line.Budget b) = (5 if not (budgetIn b)) ∷ []

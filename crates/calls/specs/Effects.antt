@@ -10,7 +10,7 @@ use Rattle.tables.specs.Changes.{newBook, markStart, markEnd, addLoadRule, addR
 use Rattle.calls.specs.Causes.{rule, load, refusal}
 
 unfoldable pub effect : Tables → Command → Tables
-effect t line.Clear = fresh
+effect t line.Clear = fresh (t .places)
 effect t (line.Book s g) = newBook t s g
 effect t (line.Start q) = markStart t q
 effect t (line.End g) = markEnd t g

@@ -7,5 +7,6 @@ pub mod Calls
 pub mod Demand1
 pub mod Demand2
 pub mod Demand3
+pub mod Full
 pub mod Program
 pub mod Session

@@ -7,9 +7,8 @@ use native.Mathlib.Omega.{arith}
 use native.Mathlib.Decide.{decLt}
 use borrow.Author.Tests.{leb-true, eqb-true}
 use lib.Dec.{eqb, leb}
-use lib.ListN.{length, getD, drop, List·getD-eq-default}
-use Rattle.lists.specs.Tests.{every, everyFrom}
-use Rattle.lists.specs.Places.{restFree}
+use lib.ListN.{length, getD, List·getD-eq-default}
+use Rattle.lists.specs.Tests.{everyFrom}
 use Rattle.lists.proofs.Bools.{and-left, and-right}
 use Rattle.lists.proofs.Tests.{every-at, from-at}
 use Rattle.lists.proofs.Places.{limited-parts}
@@ -21,8 +20,10 @@ use Rattle.tables.specs.declared.load.Load.{Load}
 use Rattle.tables.specs.declared.load.LoadList.{LoadList}
 use Rattle.tables.specs.declared.tables.StoredTables.{StoredTables}
 use Rattle.tables.specs.Tables.{noRule, noLoad}
-use Rattle.tables.specs.Limits.{between, maxStates, maxRules, maxLoads, maxWorth, sizeIn, bookSize, marksIn, ruleIn, sameRule, loadRuleRange, rowRuleRange, rulesIn, bookIn, parentIn, powerIn, worthIn, budgetIn, loadIn, loadsIn, limits}
-use Rattle.tables.specs.Stored.{rulesOf, loadsOf, bookOf, tablesOf, zeroRule, zeroLoad, keepsLimits}
+use Rattle.tables.specs.Limits.{between, maxStates, maxRules, maxLoads, maxWorth, maxBudget, sizeIn, bookSize, ruleIn, sameRule, loadRuleRange, rowRuleRange, rulesIn, parentIn, powerIn, worthIn, loadIn}
+use Rattle.tables.specs.Stored.{rulesOf, loadsOf, bookOf, tablesOf, keepsLimits}
+use Rattle.tables.proofs.Parts.{limits-parts}
+use Rattle.tables.proofs.Kept.{kept}
 use Rattle.meaning.proofs.Ordered.{loads-ordered}
 use Rattle.meaning.specs.Cell.{powerLimit}
 use Rattle.cells.specs.Problem.{RulesIn, LoadsIn, Lawful}
@@ -30,9 +31,6 @@ use Rattle.cells.proofs.Tables.{rule-at, rules-length}
 
 range : (a b x : ℕ) → between a b x ≡ true → (a ≤ x) × (x ≤ b)
 range a b x h = (leb-true a x (and-left (leb a x) (leb x b) h), leb-true x b (and-right (leb a x) (leb x b) h))
-
-few-in : {A : Type 0} (z : A → Bool) (n k : ℕ) (xs : List A) → restFree z n k xs ≡ true → k ≤ n
-few-in z n k xs h = leb-true k n (and-left (leb k n) (every z (drop k xs)) h)
 
 -- rules of either sort
 rule-range : (m : RuleRange) (r : Transition) → ruleIn m r ≡ true → ((m .low ≤ r .label) × (r .label ≤ m .high)) × ((1 ≤ r .to) × (r .to ≤ m .to))
@@ -115,35 +113,17 @@ module _ (s : StoredTables) (h : keepsLimits s ≡ true) (er : length (s .book .
   -- at the tables' budget or less
   pub lawful : (b : ℕ) → b ≤ s .budget → (fixed : Bool) (set : LoadSet)
       → Lawful (record { tables = record { book = s .book; loads = s .loads; budget = b }; fixed = fixed; set = set })
-  unfolding keepsLimits limits bookIn loadsIn tablesOf bookOf
+  unfolding tablesOf bookOf
   lawful b lb fixed set =
-      let book = s .book in
+      let q = s .book .states in
       let g = s .book .stages in
-      let f1 = restFree zeroRule maxRules (s .book .«load_rules» .count) (s .book .«load_rules» .items) in
-      let f2 = restFree zeroRule maxRules (s .book .«row_rules» .count) (s .book .«row_rules» .items) in
-      let f3 = restFree zeroLoad maxLoads (s .loads .count) (s .loads .items) in
-      let size = sizeIn (s .book .states) g in
-      let starts = marksIn (s .book .states) (s .book .starts) in
-      let ends = marksIn g (s .book .ends) in
-      let rules = rulesIn (loadRuleRange (s .book .states) g) (rulesOf (s .book .«load_rules»)) in
-      let rows = rulesIn (rowRuleRange (s .book .states) g) (rulesOf (s .book .«row_rules»)) in
-      let few = leb (length (loadsOf (s .loads))) maxLoads in
-      let inside = everyFrom loadIn 1 (loadsOf (s .loads)) in
-      let k3 = and-left (f1 && f2 && f3) (limits (tablesOf s)) h in
-      let k2 = and-left (f1 && f2) f3 k3 in
-      let l2 = and-right (f1 && f2 && f3) (limits (tablesOf s)) h in
-      let l1 = and-left (bookIn (bookOf (s .book)) && (few && inside)) (budgetIn (s .budget)) l2 in
-      let b5 = and-left (bookIn (bookOf (s .book))) (few && inside) l1 in
-      let b4 = and-left (size && starts && ends && rules) rows b5 in
-      let z = size-in (s .book .states) g (and-left size starts (and-left (size && starts) ends (and-left (size && starts && ends) rules b4))) in
-      let c1 = few-in zeroRule maxRules (s .book .«load_rules» .count) (s .book .«load_rules» .items) (and-left f1 f2 k2) in
-      let c2 = few-in zeroRule maxRules (s .book .«row_rules» .count) (s .book .«row_rules» .items) (and-right f1 f2 k2) in
-      let c3 = few-in zeroLoad maxLoads (s .loads .count) (s .loads .items) (and-right (f1 && f2) f3 k3) in
-      let u = leb-true (s .budget) 500 (and-right (bookIn (bookOf (s .book)) && (few && inside)) (budgetIn (s .budget)) l2) in
+      let k = kept s h in
+      let p = limits-parts (tablesOf s) (k .lawful) in
+      let z = size-in q g (p .book .size) in
       record {
-        sane = record { loads = c3; states = z .0; stages = z .1; budget = omega arith };
+        sane = record { loads = omega (arith, k .loads, el); states = z .0; stages = z .1; budget = omega (arith, leb-true (s .budget) maxBudget (p .budget)) };
         staged = z .2;
-        loads = loads-in (s .loads) el (and-right few inside (and-right (bookIn (bookOf (s .book))) (few && inside) l1));
-        rules = rules-in (loadRuleRange (s .book .states) g) (s .book .«load_rules») er c1 (and-right (size && starts && ends) rules b4);
-        rows = rules-in (rowRuleRange (s .book .states) g) (s .book .«row_rules») ew c2 (and-right (size && starts && ends && rules) rows b5);
+        loads = loads-in (s .loads) el (p .loads);
+        rules = rules-in (loadRuleRange q g) (s .book .«load_rules») er (k .loadRules) (p .book .loadRules);
+        rows = rules-in (rowRuleRange q g) (s .book .«row_rules») ew (k .rowRules) (p .book .rowRules);
       }

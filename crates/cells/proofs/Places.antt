@@ -8,20 +8,21 @@ use native.Mathlib.Nat.{mul-le-mul, add-mul, mul-le-mul-right}
 use native.Mathlib.Omega.{arith}
 use Rattle.lists.specs.Argmax.{guard}
 use Rattle.marks.specs.Bits.{hasMark}
+use Rattle.tables.specs.Limits.{maxLoads}
 use Rattle.meaning.specs.Cell.{empty}
 use Rattle.cells.specs.declared.problem.Shape.{Shape}
 use Rattle.cells.specs.Problem.{Sane}
 use Rattle.cells.specs.Work.{placeOf, cellsNeeded, cellsFrom, heldRow}
 
 module _ (sh : Shape) (ok : Sane sh) where
-  pub rank-small : (n : ℕ) → n ≤ sh .loads → n * (sh .states + sh .stages) ≤ 64 * 16
-  rank-small n l = mul-le-mul {n₂ = 64} {m₂ = 16} (omega (arith, ok .loads)) (omega (arith, ok .states, ok .stages))
+  pub rank-small : (n : ℕ) → n ≤ sh .loads → n * (sh .states + sh .stages) ≤ maxLoads * 16
+  rank-small n l = mul-le-mul {n₂ = maxLoads} {m₂ = 16} (omega (arith, ok .loads)) (omega (arith, ok .states, ok .stages))
 
-  pub place-small : (n x : ℕ) → n ≤ sh .loads → x ≤ sh .states + sh .stages → (n * (sh .states + sh .stages) + x) * (sh .budget + 1) ≤ 1040 * 512
-  place-small n x l m = mul-le-mul {n₂ = 1040} {m₂ = 512} (omega (arith, rank-small n l, ok .states, ok .stages)) (omega (arith, ok .budget))
+  pub place-small : (n x : ℕ) → n ≤ sh .loads → x ≤ sh .states + sh .stages → (n * (sh .states + sh .stages) + x) * (sh .budget + 1) ≤ (maxLoads * 16 + 16) * 512
+  place-small n x l m = mul-le-mul {n₂ = maxLoads * 16 + 16} {m₂ = 512} (omega (arith, rank-small n l, ok .states, ok .stages)) (omega (arith, ok .budget))
 
-  pub cells-small : (m : ℕ) → sh .budget < m → cellsNeeded sh ≤ 1024 * m
-  cells-small m l = mul-le-mul {n₂ = 1024} {m₂ = m} (rank-small (sh .loads) (omega arith)) (omega arith)
+  pub cells-small : (m : ℕ) → sh .budget < m → cellsNeeded sh ≤ maxLoads * 16 * m
+  cells-small m l = mul-le-mul {n₂ = maxLoads * 16} {m₂ = m} (rank-small (sh .loads) (omega arith)) (omega arith)
 
 -- a stretch with all its allowances is within the work
 pub place-room : (sh : Shape) (k x : ℕ) → 0 < k → k ≤ sh .loads → x < sh .states + sh .stages → placeOf sh k x + (sh .budget + 1) ≤ cellsNeeded sh

@@ -8,7 +8,7 @@ use mathlib.Core.List.{List}
 use lib.Dec.{eqb}
 use lib.ListN.{length, getD}
 use Rattle.marks.specs.declared.LoadSet.{LoadSet}
-use Rattle.marks.specs.Sets.{markIn}
+use Rattle.marks.specs.Sets.{noLoads, markIn}
 use Rattle.tables.specs.declared.load.Load.{Load}
 use Rattle.tables.specs.declared.load.LoadList.{LoadList}
 use Rattle.tables.specs.declared.rule.TransitionList.{TransitionList}
@@ -24,7 +24,7 @@ use Rattle.cells.specs.declared.problem.StoredItem.{StoredItem}
 
 -- the problem of a plan: the tables as they are
 abbrev pub planProblem : StoredTables → Problem
-planProblem s = record { tables = s; fixed = false; set = record { 0 = 0 } }
+planProblem s = record { tables = s; fixed = false; set = noLoads }
 
 -- the problem of a checked set: no allowance, and no marks but its own
 abbrev pub checkProblem : StoredTables → LoadSet → Problem

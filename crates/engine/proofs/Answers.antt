@@ -10,7 +10,6 @@ use lib.Dec.{eqb}
 use lib.ListN.{length, getD, length-map}
 use Rattle.lists.specs.Arrays.{laid}
 use Rattle.lists.proofs.Arrays.{getD-laid}
-use Rattle.marks.specs.Bits.{hasMark, size}
 use Rattle.tables.specs.Tables.{Tables}
 use Rattle.tables.specs.Limits.{maxLoads}
 use Rattle.meaning.specs.Forest.{IsTree}
@@ -18,7 +17,7 @@ use Rattle.meaning.specs.Sets.{numberOn}
 use Rattle.meaning.specs.Choice.{Entry, noEntry, find, inOrder, plan, check, planEntries, checkEntries, shownSet}
 use Rattle.meaning.specs.Claims.{Numbered}
 use Rattle.meaning.proofs.Entries.{Listed, plan-listed, check-listed}
-use Rattle.marks.specs.Sets.{markIn}
+use Rattle.marks.specs.Sets.{hasLoad, sizeOf, markIn}
 use Rattle.engine.specs.Shown.{runOf}
 use Rattle.engine.proofs.Runs.{order-length, order-numbered, has-shown, shown-set, shown-within}
 use Rattle.engine.proofs.Sums.{size-on}
@@ -42,7 +41,7 @@ pub record ShownAt (es : List Entry) (i : ℕ) : Type 0 where
   pub state : getD (runOf es .states) i 0 ≡ getD es i noEntry .state
   pub loadRule : getD (runOf es .«load_rules») i 0 ≡ getD es i noEntry .loadRule
   pub rowRule : getD (runOf es .«row_rules») i 0 ≡ getD es i noEntry .rowRule
-  pub mark : hasMark (runOf es .set .0) (suc i) ≡ eqb (getD es i noEntry .mark) 1
+  pub mark : hasLoad (runOf es .set) (suc i) ≡ eqb (getD es i noEntry .mark) 1
 
 pub shown-at : (es : List Entry) → Numbered 1 es → length es ≤ maxLoads → (i : ℕ) → i < length es → ShownAt es i
 unfolding runOf
@@ -64,9 +63,9 @@ module _ (es : List Entry) (n : ℕ) (l : Listed es n) where
   order-set : n ≤ maxLoads → markIn (runOf (inOrder es 1 n) .set) ≡ shownSet (inOrder es 1 n)
   order-set few = shown-set (inOrder es 1 n) in-order (omega (arith, order-length es 1 n))
 
-  order-size : (t : Tables) → length (t .loads) ≡ n → n ≤ maxLoads → size maxLoads (runOf (inOrder es 1 n) .set .0) ≡ numberOn t (shownSet (inOrder es 1 n))
+  order-size : (t : Tables) → length (t .loads) ≡ n → n ≤ maxLoads → sizeOf (runOf (inOrder es 1 n) .set) ≡ numberOn t (shownSet (inOrder es 1 n))
   order-size t e few =
-      size-on t (runOf (inOrder es 1 n) .set) maxLoads (omega arith)
+      size-on t (runOf (inOrder es 1 n) .set) (omega arith)
       (λ k h. shown-within (inOrder es 1 n) in-order (omega (arith, order-length es 1 n)) k (omega (arith, order-length es 1 n)))
       ∙ ap (numberOn t) (order-set few)
 
@@ -85,6 +84,6 @@ module _ (t : Tables) (o : IsTree (t .loads)) where
   plan-set few = order-set (plan t) (length (t .loads)) (plan-listed t o) few
 
   -- "n by count of ones": its size is the number of loads on
-  pub plan-size : length (t .loads) ≤ maxLoads → size maxLoads (runOf (planEntries t) .set .0) ≡ numberOn t (shownSet (planEntries t))
+  pub plan-size : length (t .loads) ≤ maxLoads → sizeOf (runOf (planEntries t) .set) ≡ numberOn t (shownSet (planEntries t))
   unfolding planEntries
   plan-size few = order-size (plan t) (length (t .loads)) (plan-listed t o) t refl few

@@ -5,6 +5,7 @@ use mathlib.Core.List.{List}
 use native.Mathlib.Omega.{arith}
 use lib.ListN.{length}
 use Rattle.marks.specs.declared.LoadSet.{LoadSet}
+use Rattle.tables.specs.Limits.{maxLoads}
 use Rattle.tables.specs.declared.tables.StoredTables.{StoredTables}
 use Rattle.tables.specs.Stored.{bookOf, tablesOf}
 use Rattle.meaning.specs.Best.{bestPlan, bestCheck}
@@ -55,5 +56,5 @@ module _ (t : StoredTables) (p : Problem) (ok : Lawful p) where
         ∙ ap (λ (p : Problem). outcomeOf (bestFor p) (inOrder (entriesFor p) 1 (length (loadsFor p)))) e
 
     -- its cells: one allowance
-    pub check-cells : p ≡ checkProblem t σ → cellsNeeded (shapeOf p) ≤ 1024
+    pub check-cells : p ≡ checkProblem t σ → cellsNeeded (shapeOf p) ≤ maxLoads * 16
     check-cells e = cells-small (shapeOf p) (ok .sane) 1 (rw e (omega arith))

@@ -13,9 +13,8 @@ use Rattle.lists.specs.Argmax.{guard}
 use Rattle.lists.specs.Arrays.{laid}
 use Rattle.lists.proofs.Arrays.{laid-snoc}
 use Rattle.marks.specs.declared.LoadSet.{LoadSet}
-use Rattle.marks.specs.Bits.{within, hasMark}
-use Rattle.marks.specs.Sets.{joined, markIn}
-use Rattle.marks.proofs.Laws.{has-zero, has-over, has-with-same, has-with-other}
+use Rattle.marks.specs.Sets.{noLoads, joined, hasLoad, markIn}
+use Rattle.marks.proofs.Sets.{has-no-loads, has-joined-same, has-joined-other}
 use Rattle.tables.specs.Limits.{maxLoads}
 use Rattle.meaning.specs.Choice.{Entry, noEntry, find, inOrder, marksOf, shownSet}
 use Rattle.meaning.specs.Claims.{Numbered}
@@ -66,10 +65,10 @@ runFrom a b c s = record { states = a; «load_rules» = b; «row_rules» = c; se
 pub run-snoc : (es : List Entry) (e : Entry) → e .number ≡ suc (length es) → length es < maxLoads → withEntry (runOf es) e ≡ runOf (es ++ (e ∷ []))
 unfolding runOf withEntry
 run-snoc es e q h =
-    ap₂ (λ a b. runFrom a b (set (laid 0 maxLoads (map (λ e. e .rowRule) es)) (e .number - 1) (e .rowRule)) (marking (markAll (record { 0 = 0 }) es) e))
+    ap₂ (λ a b. runFrom a b (set (laid 0 maxLoads (map (λ e. e .rowRule) es)) (e .number - 1) (e .rowRule)) (marking (markAll noLoads es) e))
     (laid-more (λ e. e .state) es e (e .number) q h) (laid-more (λ e. e .loadRule) es e (e .number) q h)
     ∙ ap₂ (λ a s. runFrom (laid 0 maxLoads (map (λ e. e .state) (es ++ (e ∷ [])))) (laid 0 maxLoads (map (λ e. e .loadRule) (es ++ (e ∷ [])))) a s)
-    (laid-more (λ e. e .rowRule) es e (e .number) q h) (sym (mark-snoc (record { 0 = 0 }) es e))
+    (laid-more (λ e. e .rowRule) es e (e .number) q h) (sym (mark-snoc noLoads es e))
 
 -- ---- the set
 or-none : (a : Bool) → a || false ≡ a
@@ -83,23 +82,23 @@ find-before (e ∷ es) k n o h = rw (ne-eqb (e .number) n (λ q. absurd (omega (
 
 -- a load is in the set if it was, or if its entry is on
 has-marked : (s : LoadSet) (es : List Entry) (k n : ℕ) → Numbered (suc k) es → k + length es ≤ maxLoads
-    → hasMark (markAll s es .0) n ≡ eqb (find es n .mark) 1 || hasMark (s .0) n
+    → hasLoad (markAll s es) n ≡ eqb (find es n .mark) 1 || hasLoad s n
 unfolding markAll find
 has-marked s [] k n o h = refl
 has-marked s (e ∷ es) k n o h =
     has-marked (marking s e) es (suc k) n (o .1) (omega arith) ∙ go (eqb (e .number) n) refl
   where
-    here : e .number ≡ n → (t : Bool) → eqb (e .mark) 1 ≡ t → hasMark (pick t (joined s (e .number)) s .0) n ≡ t || hasMark (s .0) n
-    here q true m = subst (λ i. hasMark (joined s (e .number) .0) i ≡ true) q (has-with-same 64 (s .0) (e .number) (ap (within 64) (o .0) ∙ le-leb (suc k) 64 (omega arith)))
+    here : e .number ≡ n → (t : Bool) → eqb (e .mark) 1 ≡ t → hasLoad (pick t (joined s (e .number)) s) n ≡ t || hasLoad s n
+    here q true m = subst (λ i. hasLoad (joined s (e .number)) i ≡ true) q (has-joined-same s (e .number) (omega (arith, o .0)) (omega (arith, o .0)))
     here q false m = refl
 
-    there : (e .number ≡ n → ⊥) → (t : Bool) → hasMark (pick t (joined s (e .number)) s .0) n ≡ hasMark (s .0) n
-    there q true = has-with-other 64 (s .0) (e .number) n (λ x. q (sym x))
+    there : (e .number ≡ n → ⊥) → (t : Bool) → hasLoad (pick t (joined s (e .number)) s) n ≡ hasLoad s n
+    there q true = has-joined-other s (e .number) n (λ x. q (sym x))
     there q false = refl
 
-    go : (t : Bool) → eqb (e .number) n ≡ t → eqb (find es n .mark) 1 || hasMark (marking s e .0) n ≡ eqb (cond t e (find es n) .mark) 1 || hasMark (s .0) n
+    go : (t : Bool) → eqb (e .number) n ≡ t → eqb (find es n .mark) 1 || hasLoad (marking s e) n ≡ eqb (cond t e (find es n) .mark) 1 || hasLoad s n
     go true q =
-        ap (λ (x : Entry). eqb (x .mark) 1 || hasMark (marking s e .0) n) (find-before es (suc (suc k)) n (o .1) (omega (arith, o .0, eqb-true (e .number) n q)))
+        ap (λ (x : Entry). eqb (x .mark) 1 || hasLoad (marking s e) n) (find-before es (suc (suc k)) n (o .1) (omega (arith, o .0, eqb-true (e .number) n q)))
         ∙ here (eqb-true _ _ q) (eqb (e .mark) 1) refl
     go false q = ap (λ b. eqb (find es n .mark) 1 || b) (there (eqb-false _ _ q) (eqb (e .mark) 1))
 
@@ -108,21 +107,17 @@ unfolding find
 find-past [] k n o h = refl
 find-past (e ∷ es) k n o h = rw (ne-eqb (e .number) n (λ q. absurd (omega (arith, o .0)))) (find-past es (suc k) n (o .1) (omega arith))
 
-has-none : (n : ℕ) → hasMark 0 n ≡ false
-has-none zero = sym (has-zero 0 0 refl)
-has-none (suc n) = sym (has-over 0 0 (suc n) (omega arith) (omega arith))
-
 module _ (es : List Entry) (o : Numbered 1 es) (few : length es ≤ maxLoads) where
-  pub has-shown : (n : ℕ) → hasMark (runOf es .set .0) n ≡ eqb (marksOf es n) 1
+  pub has-shown : (n : ℕ) → hasLoad (runOf es .set) n ≡ eqb (marksOf es n) 1
   unfolding runOf
-  has-shown n = has-marked (record { 0 = 0 }) es 0 n o (omega arith) ∙ rw (has-none n) (or-none (eqb (marksOf es n) 1))
+  has-shown n = has-marked noLoads es 0 n o (omega arith) ∙ rw (has-no-loads n) (or-none (eqb (marksOf es n) 1))
 
   -- the run's set is the loads that are shown with mark 1
   pub shown-set : markIn (runOf es .set) ≡ shownSet es
   shown-set = fun-ext (λ n. ap (λ t. guard t 1) (has-shown n))
 
   -- none of them is past the last
-  pub shown-within : (n : ℕ) → length es < n → hasMark (runOf es .set .0) n ≡ false
+  pub shown-within : (n : ℕ) → length es < n → hasLoad (runOf es .set) n ≡ false
   shown-within n h = has-shown n ∙ ap (λ (e : Entry). eqb (e .mark) 1) (find-past es 1 n o (omega arith))
 
 -- ---- what a search answers

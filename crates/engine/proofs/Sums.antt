@@ -11,13 +11,14 @@ use lib.ListN.{length, getD, drop, drop-of-length-le}
 use lib.Seq.{drop-cons}
 use Rattle.lists.specs.Tests.{pick}
 use Rattle.lists.specs.Argmax.{guard}
-use Rattle.marks.specs.Bits.{hasMark, sizeTo, size}
+use Rattle.marks.specs.Bits.{sizeTo}
 use Rattle.marks.specs.declared.LoadSet.{LoadSet}
 use Rattle.tables.specs.declared.load.Load.{Load}
 use Rattle.tables.specs.Tables.{Tables, noLoad}
 use Rattle.meaning.specs.Forest.{sum}
 use Rattle.meaning.specs.Sets.{numberOn}
-use Rattle.marks.specs.Sets.{markIn}
+use Rattle.marks.specs.Sets.{setWidth, hasLoad, sizeOf, markIn}
+use Rattle.marks.proofs.Sets.{size-loads}
 
 -- ---- a loop that adds a figure of each load
 module _ (w : ℕ → Load → ℕ) (ls : List Load) where
@@ -57,20 +58,16 @@ module _ (p : ℕ → Bool) where
       let e : n + suc m ≡ suc (n + m) = omega arith in
       ap (sizeTo p) e ∙ omega (arith, ap {B = ℕ} (λ b. pick b 1 0) (h (suc (n + m)) (omega arith)), size-past n m h)
 
-size-is : (w x : ℕ) → size w x ≡ sizeTo (hasMark x) w
-unfolding size
-size-is w x = refl
-
 size-none : (p : ℕ → Bool) → sizeTo p 0 ≡ 0
 unfolding sizeTo
 size-none p = refl
 
 -- "n by count of ones": the size of a set with no load past the last is the number of loads on
-pub size-on : (t : Tables) (s : LoadSet) (w : ℕ) → length (t .loads) ≤ w → ((k : ℕ) → length (t .loads) < k → hasMark (s .0) k ≡ false)
-    → size w (s .0) ≡ numberOn t (markIn s)
-size-on t s w few past =
+pub size-on : (t : Tables) (s : LoadSet) → length (t .loads) ≤ setWidth → ((k : ℕ) → length (t .loads) < k → hasLoad s k ≡ false)
+    → sizeOf s ≡ numberOn t (markIn s)
+size-on t s few past =
     let n = length (t .loads) in
-    let p = hasMark (s .0) in
-    let e : w ≡ n + (w - n) = omega arith in
+    let p = hasLoad s in
+    let e : setWidth ≡ n + (setWidth - n) = omega arith in
     let f : 0 + n ≡ n = omega arith in
-    size-is w (s .0) ∙ omega (arith, ap (sizeTo p) e, size-past p n (w - n) past, ap (sizeTo p) f, size-sum p (t .loads) 0, size-none p)
+    size-loads s ∙ omega (arith, ap (sizeTo p) e, size-past p n (setWidth - n) past, ap (sizeTo p) f, size-sum p (t .loads) 0, size-none p)

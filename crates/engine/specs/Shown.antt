@@ -9,7 +9,7 @@ use lib.ListN.{set}
 use Rattle.lists.specs.Tests.{pick}
 use Rattle.lists.specs.Arrays.{laid}
 use Rattle.marks.specs.declared.LoadSet.{LoadSet}
-use Rattle.marks.specs.Sets.{joined}
+use Rattle.marks.specs.Sets.{noLoads, joined}
 use Rattle.tables.specs.Limits.{maxLoads}
 use Rattle.meaning.specs.Choice.{Entry}
 use Rattle.engine.specs.declared.run.Run.{Run}
@@ -35,7 +35,7 @@ runOf es = record {
   states = laid 0 maxLoads (map (λ e. e .state) es);
   «load_rules» = laid 0 maxLoads (map (λ e. e .loadRule) es);
   «row_rules» = laid 0 maxLoads (map (λ e. e .rowRule) es);
-  set = markAll (record { 0 = 0 }) es;
+  set = markAll noLoads es;
 }
 
 -- a run with one more entry

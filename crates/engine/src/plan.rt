@@ -8,6 +8,7 @@ use cells::problem::shape_of;
 use cells::work::cells_needed;
 use cells::work::clear;
 use marks::LoadSet;
+use tables::load::MAX_LOADS;
 use tables::tables::StoredTables;
 ghost use mathlib.Core.Path.{_≡_};
 ghost use mathlib.Core.Bool.{true};
@@ -21,8 +22,8 @@ ghost use Rattle.marks.specs.Sets.{markIn};
 ghost use Rattle.engine.specs.Shown.{outcomeOf};
 ghost use Rattle.meaning.specs.Cells.{cellsOf};
 
-// The cells of a check: 64 loads, 8 states and 8 stages, one allowance.
-const CHECK_CELLS: usize = 1024;
+// The cells of a check: every load with 8 states and 8 stages, one allowance.
+const CHECK_CELLS: usize = MAX_LOADS * 16;
 
 // The plan of the tables, worked out in the lent cells, which are 0 afterwards.
 pub fn plan(t: StoredTables, work: &mut [u32]) -> Outcome

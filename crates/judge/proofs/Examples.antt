@@ -11,7 +11,7 @@ use Rattle.meaning.specs.Cases.{fourLoads, bookF, bookK}
 use Rattle.judge.specs.Verdict.{isRun}
 
 on-four : Book → List ℕ → Bool
-on-four b ns = isRun (record { book = b; loads = fourLoads; budget = 0 }) ns
+on-four b ns = isRun (record { book = b; loads = fourLoads; budget = 0; places = 64 }) ns
 
 -- the run that the plan of the session shows
 session : on-four bookF (1 ∷ 2 ∷ 0 ∷ 1 ∷ 2 ∷ 1 ∷ 1 ∷ 2 ∷ 1 ∷ 1 ∷ 1 ∷ 1 ∷ []) ≡ true

@@ -1,6 +1,5 @@
 pub mod Answers
 pub mod Examples
-pub mod Kept
 pub mod Left
 pub mod Named
 pub mod Places

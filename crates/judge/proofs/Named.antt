@@ -25,7 +25,7 @@ use Rattle.judge.specs.declared.Verdict.the-variants.{Yes}
 use Rattle.judge.specs.Verdict.{proposed}
 use Rattle.judge.specs.Claims.{named, YesNames}
 use Rattle.judge.proofs.Answers.{answers-exactly}
-use Rattle.judge.proofs.Kept.{kept}
+use Rattle.tables.proofs.Kept.{kept}
 use Rattle.judge.proofs.Rules.{fit-at}
 
 -- a rule that begins somewhere is one of the list, and begins within its range

@@ -30,20 +30,20 @@ load-length l = simp length-append
 field-fits : (k n after : ℕ) → 1 ≤ k → n < 10 ^ k → length (field n after) ≤ k + 1
 field-fits k n after p h = omega (arith, field-length n after, decimal-length k n p h)
 
--- a load line has at most 13 bytes
-pub load-fits : (l : LoadLine) → Ranged l → length (loadLine l) ≤ 13
+-- a load line has at most 14 bytes
+pub load-fits : (l : LoadLine) → Ranged l → length (loadLine l) ≤ 14
 load-fits l r =
     omega (
       arith,
       load-length l,
-      field-fits 2 (l .number) comma (lit≤ tt) (omega (arith, r .numbered)),
+      field-fits 3 (l .number) comma (lit≤ tt) (omega (arith, r .numbered)),
       field-fits 1 (l .mark) comma (lit≤ tt) (omega (arith, r .marked)),
       field-fits 1 (l .state) comma (lit≤ tt) (omega (arith, r .inState)),
       field-fits 2 (l .loadRule) comma (lit≤ tt) (omega (arith, r .byLoadRule)),
       field-fits 2 (l .rowRule) lineFeed (lit≤ tt) (omega (arith, r .byRowRule)),
     )
 
-pub loads-fit : (ls : List LoadLine) → AllRanged ls → length (loadLines ls) ≤ 13 * length ls
+pub loads-fit : (ls : List LoadLine) → AllRanged ls → length (loadLines ls) ≤ 14 * length ls
 unfolding loadLines
 loads-fit [] r = omega arith
 loads-fit (l ∷ ls) r = omega (arith, length-append (loadLine l) (loadLines ls), load-fits l (r .0), loads-fit ls (r .1))
@@ -54,14 +54,14 @@ unfolding loadLines
 loads-more [] l = append-nil (loadLine l)
 loads-more (m ∷ ls) l = rw (loads-more ls l) (sym (append-assoc (loadLine m) (loadLines ls) (loadLine l)))
 
--- the first line of a plan has at most 18 bytes: worth is at most 64 loads' 1,000, power the budget's 500
-pub plan-line-fits : (v w n : ℕ) → v ≤ 64000 → w ≤ 500 → n ≤ 64 → length (planLine v w n) ≤ 18
+-- the first line of a plan has at most 20 bytes
+pub plan-line-fits : (v w n : ℕ) → v < 1000000 → w < 1000 → n < 1000 → length (planLine v w n) ≤ 20
 plan-line-fits v w n a b c =
-    omega (arith, plan-length v w n, field-fits 5 v comma (lit≤ tt) (omega arith), field-fits 3 w comma (lit≤ tt) (omega arith), field-fits 2 n lineFeed (lit≤ tt) (omega arith))
+    omega (arith, plan-length v w n, field-fits 6 v comma (lit≤ tt) (omega arith), field-fits 3 w comma (lit≤ tt) (omega arith), field-fits 3 n lineFeed (lit≤ tt) (omega arith))
 
 -- ---- every answer fits the bytes that must be free
-module _ (ls : List LoadLine) (r : AllRanged ls) (few : length ls ≤ 64) where
-  pub plan-fits : (v w n : ℕ) → v ≤ 64000 → w ≤ 500 → n ≤ 64 → length (planLine v w n ++ loadLines ls) ≤ freeBytes
+module _ (ls : List LoadLine) (r : AllRanged ls) (few : 14 * length ls + 20 ≤ freeBytes) where
+  pub plan-fits : (v w n : ℕ) → v < 1000000 → w < 1000 → n < 1000 → length (planLine v w n ++ loadLines ls) ≤ freeBytes
   plan-fits v w n a b c = omega (arith, length-append (planLine v w n) (loadLines ls), plan-line-fits v w n a b c, loads-fit ls r)
 
   pub check-fits : length (yes ++ loadLines ls) ≤ freeBytes

@@ -12,10 +12,9 @@ use lib.ListN.{length, getD, drop, drop-of-length-le}
 use lib.Seq.{drop-cons}
 use Rattle.lists.specs.Tests.{pick, every}
 use Rattle.lists.proofs.Bools.{and-false}
-use Rattle.marks.specs.Bits.{within, hasMark}
 use Rattle.marks.specs.declared.LoadSet.{LoadSet}
-use Rattle.marks.specs.Sets.{joined}
-use Rattle.marks.proofs.Laws.{bit-high, has-with-same, has-with-other}
+use Rattle.marks.specs.Sets.{setWidth, noLoads, joined, hasLoad}
+use Rattle.marks.proofs.Sets.{has-no-loads, has-joined-same, has-joined-other}
 use Rattle.lines.specs.declared.Command.{Command}
 use Rattle.lines.specs.declared.Command.the-variants.{Check, Broken}
 use Rattle.lines.specs.Text.{nought}
@@ -26,7 +25,7 @@ use Rattle.lines.specs.Reading.{bitsOf}
 pub bitsFrom : ℕ → LoadSet → List ℕ → Command
 bitsFrom n s f = pick (leb 1 (n + length f) && every isBit f) (Check (joinedFrom (n + 1) s f) (n + length f)) Broken
 
-pub bits-begin : (f : List ℕ) → bitsOf f ≡ bitsFrom 0 (record { 0 = 0 }) f
+pub bits-begin : (f : List ℕ) → bitsOf f ≡ bitsFrom 0 noLoads f
 unfolding bitsOf bitsFrom isBits
 bits-begin f = let e : 0 + length f ≡ length f = omega arith in rw e
 
@@ -58,36 +57,27 @@ module _ (l : List ℕ) (i n : ℕ) (s : LoadSet) where
   bits-bad h b = rw (drop-cons l i 0, b, and-false (leb 1 (n + suc (length (drop (suc i) l)))))
 
 -- ---- which loads the set holds
-has-none : (j : ℕ) → hasMark 0 j ≡ false
-unfolding hasMark
-has-none zero = refl
-has-none (suc k) = bit-high 0 0 k (omega arith) (omega arith)
-
-is-within : (k : ℕ) → 0 < k → k ≤ 64 → within 64 k ≡ true
-is-within zero p h = absurd (omega arith)
-is-within (suc k) p h = le-leb (suc k) 64 h
-
 step : ℕ → LoadSet → ℕ → LoadSet
 step k s b = pick (eqb b (nought + 1)) (joined s k) s
 
-step-other : (k : ℕ) (s : LoadSet) (b j : ℕ) → (j ≡ k → ⊥) → hasMark (step k s b .0) j ≡ hasMark (s .0) j
+step-other : (k : ℕ) (s : LoadSet) (b j : ℕ) → (j ≡ k → ⊥) → hasLoad (step k s b) j ≡ hasLoad s j
 unfolding step
 step-other k s b j h = go (eqb b (nought + 1))
   where
-    go : (t : Bool) → hasMark (pick t (joined s k) s .0) j ≡ hasMark (s .0) j
-    go true = has-with-other 64 (s .0) k j h
+    go : (t : Bool) → hasLoad (pick t (joined s k) s) j ≡ hasLoad s j
+    go true = has-joined-other s k j h
     go false = refl
 
-step-same : (k : ℕ) (s : LoadSet) (b : ℕ) → within 64 k ≡ true → hasMark (s .0) k ≡ false → hasMark (step k s b .0) k ≡ eqb b (nought + 1)
+step-same : (k : ℕ) (s : LoadSet) (b : ℕ) → 0 < k → k ≤ setWidth → hasLoad s k ≡ false → hasLoad (step k s b) k ≡ eqb b (nought + 1)
 unfolding step
-step-same k s b w h = go (eqb b (nought + 1))
+step-same k s b p l h = go (eqb b (nought + 1))
   where
-    go : (t : Bool) → hasMark (pick t (joined s k) s .0) k ≡ t
-    go true = has-with-same 64 (s .0) k w
+    go : (t : Bool) → hasLoad (pick t (joined s k) s) k ≡ t
+    go true = has-joined-same s k p l
     go false = h
 
 -- bits from load k on say nothing of other loads
-from-other : (k : ℕ) (s : LoadSet) (f : List ℕ) (j : ℕ) → (j < k) ⊎ (k + length f ≤ j) → hasMark (joinedFrom k s f .0) j ≡ hasMark (s .0) j
+from-other : (k : ℕ) (s : LoadSet) (f : List ℕ) (j : ℕ) → (j < k) ⊎ (k + length f ≤ j) → hasLoad (joinedFrom k s f) j ≡ hasLoad s j
 unfolding joinedFrom step
 from-other k s [] j h = refl
 from-other k s (b ∷ bs) j h =
@@ -95,24 +85,24 @@ from-other k s (b ∷ bs) j h =
     ∙ step-other k s b j (⊎-elim (λ (l : j < k) (e : j ≡ k). absurd (omega arith)) (λ (l : k + suc (length bs) ≤ j) (e : j ≡ k). absurd (omega arith)) h)
 
 -- and of load k + i that it is on exactly if bit i is 1
-from-bit : (k : ℕ) (s : LoadSet) (f : List ℕ) (i : ℕ) → 0 < k → k + i ≤ 64 → i < length f → ((j : ℕ) → k ≤ j → hasMark (s .0) j ≡ false)
-    → hasMark (joinedFrom k s f .0) (k + i) ≡ eqb (getD f i 0) (nought + 1)
+from-bit : (k : ℕ) (s : LoadSet) (f : List ℕ) (i : ℕ) → 0 < k → k + i ≤ setWidth → i < length f → ((j : ℕ) → k ≤ j → hasLoad s j ≡ false)
+    → hasLoad (joinedFrom k s f) (k + i) ≡ eqb (getD f i 0) (nought + 1)
 unfolding joinedFrom step
 from-bit k s [] i p l h none = absurd (omega arith)
 from-bit k s (b ∷ bs) zero p l h none =
     let e : k + 0 ≡ k = omega arith in
-    rw e (from-other (suc k) (step k s b) bs k (inl (omega arith)) ∙ step-same k s b (is-within k p (omega arith)) (none k (omega arith)))
+    rw e (from-other (suc k) (step k s b) bs k (inl (omega arith)) ∙ step-same k s b p (omega arith) (none k (omega arith)))
 from-bit k s (b ∷ bs) (suc i) p l h none =
     let e : k + suc i ≡ suc k + i = omega arith in
     rw e (from-bit (suc k) (step k s b) bs i (omega arith) (omega arith) (omega arith)
     (λ j g. step-other k s b j (λ q. absurd (omega arith)) ∙ none j (omega arith)))
 
 -- load k, of those that a set can hold, is in it exactly if byte k of the field is `1`
-pub loads-bit : (f : List ℕ) (k : ℕ) → 1 ≤ k → k ≤ 64 → k ≤ length f → hasMark (loadsOf f .0) k ≡ eqb (getD f (k - 1) 0) (nought + 1)
+pub loads-bit : (f : List ℕ) (k : ℕ) → 1 ≤ k → k ≤ setWidth → k ≤ length f → hasLoad (loadsOf f) k ≡ eqb (getD f (k - 1) 0) (nought + 1)
 loads-bit f k p l h =
     let e : 1 + (k - 1) ≡ k = omega arith in
-    rw e at (from-bit 1 (record { 0 = 0 }) f (k - 1) (omega arith) (omega arith) (omega arith) (λ j g. has-none j))
+    rw e at (from-bit 1 noLoads f (k - 1) (omega arith) (omega arith) (omega arith) (λ j g. has-no-loads j))
 
 -- no load past the count is in it
-pub loads-past : (f : List ℕ) (k : ℕ) → length f < k → hasMark (loadsOf f .0) k ≡ false
-loads-past f k h = from-other 1 (record { 0 = 0 }) f k (inr (omega arith)) ∙ has-none k
+pub loads-past : (f : List ℕ) (k : ℕ) → length f < k → hasLoad (loadsOf f) k ≡ false
+loads-past f k h = from-other 1 noLoads f k (inr (omega arith)) ∙ has-no-loads k

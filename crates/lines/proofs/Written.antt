@@ -10,7 +10,7 @@ use lib.ListN.{length}
 use Rattle.lists.specs.Tests.{pick, every}
 use Rattle.lists.proofs.Bools.{and-left, and-right}
 use Rattle.marks.specs.declared.LoadSet.{LoadSet}
-use Rattle.marks.specs.Bits.{hasMark}
+use Rattle.marks.specs.Sets.{hasLoad}
 use Rattle.lines.specs.declared.Command.{Command}
 use Rattle.lines.specs.declared.Command.the-variants.{Clear, Book, Start, End, Rule, Row, Load, Power, Worth, Budget, Plan, Check, Broken}
 use Rattle.lines.specs.Text.{bytes, comma, nought, same, decimal}
@@ -46,7 +46,7 @@ bit-plain false = refl
 bits-plain : (s : LoadSet) (n k : ℕ) → Without comma (bitsIn s k n)
 unfolding bitsIn
 bits-plain s zero k = none
-bits-plain s (suc n) k = byte (bit-plain (hasMark (s .0) k)) (bits-plain s n (suc k))
+bits-plain s (suc n) k = byte (bit-plain (hasLoad s k)) (bits-plain s n (suc k))
 
 is-bit : (t : Bool) → isBit (nought + pick t 1 0) ≡ true
 is-bit true = refl
@@ -55,7 +55,7 @@ is-bit false = refl
 bits-each : (s : LoadSet) (n k : ℕ) → every isBit (bitsIn s k n) ≡ true
 unfolding bitsIn every
 bits-each s zero k = refl
-bits-each s (suc n) k = rw (is-bit (hasMark (s .0) k)) (bits-each s n (suc k))
+bits-each s (suc n) k = rw (is-bit (hasLoad s k)) (bits-each s n (suc k))
 
 bits-count : (s : LoadSet) (n k : ℕ) → length (bitsIn s k n) ≡ n
 unfolding bitsIn

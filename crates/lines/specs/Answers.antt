@@ -1,5 +1,5 @@
 -- What is printed: paper 01, "An accepted change prints `ok`" and what follows. Assumes nothing.
-use Prim.Native.Nat.{ℕ, _+_, _≤_}
+use Prim.Native.Nat.{ℕ, _+_, _≤_, _<_}
 use mathlib.Core.Path.{_≡_}
 use mathlib.Core.List.{List, [], _∷_, _++_}
 use lib.ListN.{length}
@@ -44,9 +44,9 @@ load k m q i j = record { number = k; mark = m; state = q; loadRule = i; rowRule
 abbrev pub freeBytes : ℕ
 freeBytes = 1024
 
--- the figures of a line are in the ranges of "Loads and book": 64 loads, 8 states, 32 rules of each sort
+-- the figures of a line are in the ranges of "Loads and book": 8 states, 32 rules of each sort, and loads of at most three digits
 pub record Ranged (l : LoadLine) : Type 0 where
-  pub numbered : l .number ≤ 64
+  pub numbered : l .number < 1000
   pub marked : l .mark ≤ 1
   pub inState : l .state ≤ 8
   pub byLoadRule : l .loadRule ≤ 32

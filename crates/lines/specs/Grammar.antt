@@ -7,7 +7,7 @@ use lib.Dec.{eqb, leb}
 use lib.ListN.{length, getD}
 use Rattle.lists.specs.Tests.{pick, every}
 use Rattle.marks.specs.declared.LoadSet.{LoadSet}
-use Rattle.marks.specs.Sets.{joined}
+use Rattle.marks.specs.Sets.{noLoads, joined}
 use Rattle.lines.specs.declared.Command.{Command}
 use Rattle.lines.specs.declared.Command.the-variants.{Clear, Book, Start, End, Rule, Row, Load, Power, Worth, Budget, Plan, Check, Broken}
 use Rattle.lines.specs.Text.{bytes, comma, nought, same}
@@ -54,7 +54,7 @@ joinedFrom k s (b ∷ bs) = joinedFrom (suc k) (pick (eqb b (nought + 1)) (joine
 
 -- the loads whose bit is 1: bit 1 is the first byte
 abbrev pub loadsOf : List ℕ → LoadSet
-loadsOf f = joinedFrom 1 (record { 0 = 0 }) f
+loadsOf f = joinedFrom 1 noLoads f
 
 -- ---- the table: a line has a word and some fields, each a number, or one field of bits
 pub data Form : Type 0 where

@@ -5,7 +5,7 @@ use mathlib.Core.Path.{_≡_}
 use mathlib.Core.List.{List, [], _∷_, _++_, map}
 use Rattle.lists.specs.Tests.{pick}
 use Rattle.marks.specs.declared.LoadSet.{LoadSet}
-use Rattle.marks.specs.Bits.{hasMark}
+use Rattle.marks.specs.Sets.{hasLoad}
 use Rattle.lines.specs.declared.Command.{Command}
 use Rattle.lines.specs.declared.Command.the-variants.{Clear, Book, Start, End, Rule, Row, Load, Power, Worth, Budget, Plan, Check, Broken}
 use Rattle.lines.specs.Text.{bytes, comma, nought, decimal}
@@ -22,7 +22,7 @@ line w ns = parted (bytes w) (map decimal ns)
 -- one 0 or 1 for each of n loads from number k on
 unfoldable pub bitsIn : LoadSet → (k n : ℕ) → List ℕ
 bitsIn s k zero = []
-bitsIn s k (suc n) = (nought + pick (hasMark (s .0) k) 1 0) ∷ bitsIn s (suc k) n
+bitsIn s k (suc n) = (nought + pick (hasLoad s k) 1 0) ∷ bitsIn s (suc k) n
 
 -- a line that breaks its form is no one line: the empty one is among them
 unfoldable pub written : Command → List ℕ

@@ -91,6 +91,11 @@ unfolding hasMark
 has-over w x zero b h = refl
 has-over w x (suc k) b h = sym (bit-high w x k b (omega arith))
 
+-- nothing is in the empty set
+pub has-none : (n : ℕ) → hasMark 0 n ≡ false
+has-none zero = sym (has-zero 0 0 refl)
+has-none (suc n) = sym (has-over 0 0 (suc n) (omega arith) (omega arith))
+
 -- n is in the set with n
 pub has-with-same : (w x n : ℕ) → within w n ≡ true → hasMark (withMark w x n) n ≡ true
 unfolding hasMark withMark

@@ -1,7 +1,7 @@
 // Sets of small numbers, held as marks: number n is in the set where binary digit n - 1 is set.
 ghost use mathlib.Core.Path.{_≡_};
-ghost use Rattle.marks.specs.Bits.{hasMark, size};
-ghost use Rattle.marks.specs.Sets.{marked, joined};
+ghost use Rattle.marks.specs.Bits.{hasMark};
+ghost use Rattle.marks.specs.Sets.{marked, joined, hasLoad, sizeOf};
 
 // A set of states or of stages: numbers from 1 to 8.
 #[repr(C)]
@@ -58,7 +58,7 @@ impl LoadSet {
 
     // Is this load in the set?
     pub fn has(self, load: usize) -> bool
-        ensures { λ r. ⌜ r ≡ hasMark (self .0) load ⌝ }
+        ensures { λ r. ⌜ r ≡ hasLoad self load ⌝ }
     {
         if load == 0 {
             return false;
@@ -71,7 +71,7 @@ impl LoadSet {
 
     // How many loads are in the set.
     pub fn count(self) -> u32
-        ensures { λ r. ⌜ r ≡ size 64 (self .0) ⌝ }
+        ensures { λ r. ⌜ r ≡ sizeOf self ⌝ }
     {
         u64::count_ones(self.0)
     }

@@ -86,7 +86,7 @@ cases =
     ∷ []
 
 abbrev tablesFor : Case → Tables
-tablesFor x = record { book = x .book; loads = fourLoads; budget = x .budget }
+tablesFor x = record { book = x .book; loads = fourLoads; budget = x .budget; places = 64 }
 
 -- is the plan of the tables as expected?
 abbrev meets : Tables → Expected → Bool

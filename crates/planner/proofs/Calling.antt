@@ -15,6 +15,7 @@ use Rattle.lines.specs.Grammar.{parse}
 use Rattle.lines.specs.Answers.{freeBytes, Wrote}
 use Rattle.lines.proofs.Wrote.{free-back}
 use Rattle.tables.specs.declared.tables.StoredTables.{StoredTables}
+use Rattle.tables.specs.Limits.{maxLoads}
 use Rattle.tables.specs.Stored.{stored, tablesOf, keepsLimits, Holds}
 use Rattle.calls.specs.Causes.{_if_, lowest, causes, allCauses, refusal}
 use Rattle.calls.specs.Effects.{acted}
@@ -29,7 +30,7 @@ use Rattle.planner.specs.declared.search.Decided.{Decided}
 use Rattle.planner.specs.Answers.{numberOf, linesTo, textOf}
 use Rattle.planner.specs.Decided.{decidedBy, decidedLine}
 use Rattle.planner.specs.Calls.{doneOf, turnedAway}
-use Rattle.planner.proofs.Commands.{lawful, is-stored, load-count}
+use Rattle.planner.proofs.Commands.{lawful, is-stored, load-count, places}
 use Rattle.calls.proofs.Work.{unsearched}
 use Rattle.planner.proofs.Deciding.{answered-number, answered-text}
 
@@ -38,7 +39,7 @@ pub broken : (p : Planner) (c : Call) → keepsLimits (p .tables) ≡ false → 
 unfolding called
 broken p c e = ap (λ (b : Bool). calledIf b (p .tables) c) (sym e)
 
-module _ (s : StoredTables) (h : Holds s) (c : Call) where
+module _ (s : StoredTables) (h : Holds maxLoads s) (c : Call) where
   pub held : called s c ≡ handled (tablesOf s) c
   held = ap (λ (x : StoredTables). called x c) (is-stored s h) ∙ called-stored (tablesOf s) (lawful s h) c
 
@@ -86,7 +87,7 @@ module _ (s : StoredTables) (h : Holds s) (c : Call) where
     text-is =
         ap (λ (n : ℕ). textOf (d .answer) (linesTo (d .run) n)) (load-count s h)
         ∙ ap (λ (d : Decided). textOf (d .answer) (linesTo (d .run) (length (tablesOf s .loads)))) is
-        ∙ answered-text (tablesOf s) (lawful s h) (length (c .work)) lineNumber (parse (c .line)) no-cause
+        ∙ answered-text (tablesOf s) (lawful s h) (places s h) (length (c .work)) lineNumber (parse (c .line)) no-cause
         (λ e. absurd (omega (arith, e, past-one (tablesOf s) (length (c .work)) (c .line) (omega (arith, e)))))
 
     -- it fits the free bytes

@@ -48,16 +48,16 @@ rule-lowest rs r = go (leb maxRules (length rs)) (some (sameRule r) rs)
     go false true = refl
     go false false = refl
 
-pub load-lowest : (ls : List Load) → lowest ((6 if leb maxLoads (length ls)) ∷ []) ≡ loadNumber ls
+pub load-lowest : (n : ℕ) (ls : List Load) → lowest ((6 if leb n (length ls)) ∷ []) ≡ loadNumber n ls
 unfolding lowest loadNumber
-load-lowest ls = go (leb maxLoads (length ls))
+load-lowest n ls = go (leb n (length ls))
   where
     go : (a : Bool) → lowest ((6 if a) ∷ []) ≡ pick a 6 0
     go true = refl
     go false = refl
 
 -- ---- what a planner within the limits holds
-module _ (s : StoredTables) (h : Holds s) where
+module _ (s : StoredTables) (h : Holds maxLoads s) where
   same-tables : tablesOf s ≡ h .0
   same-tables = ap tablesOf (h .2) ∙ tables-stored (h .0) (h .1)
 
@@ -71,15 +71,18 @@ module _ (s : StoredTables) (h : Holds s) where
   unfolding stored
   load-count = ap (λ (x : StoredTables). x .loads .count) is-stored
 
+  pub places : tablesOf s .places ≡ maxLoads
+  places = ap (λ (t : Tables). t .places) same-tables ∙ h .3
+
   pub few : s .loads .count ≤ maxLoads
-  few = omega (arith, load-count, limits-parts (tablesOf s) lawful .few)
+  few = omega (arith, load-count, places, limits-parts (tablesOf s) lawful .few)
 
 acted-accepted : (t : Tables) (n : ℕ) (c : Command) → acted t n c ≡ accepted n (effect t c) t
 acted-accepted t zero c = refl
 acted-accepted t (suc n) c = refl
 
 -- ---- the ways out of a change whose first cause is "value out of its range"
-module _ (s : StoredTables) (h : Holds s) (c : Command) {r : Changed} (b : Bool) (cs : List Cause) (first : causes (tablesOf s) 0 c ≡ (5 if not b) ∷ cs) where
+module _ (s : StoredTables) (h : Holds maxLoads s) (c : Command) {r : Changed} (b : Bool) (cs : List Cause) (first : causes (tablesOf s) 0 c ≡ (5 if not b) ∷ cs) where
   -- out of range: 5, and the planner as it was
   pub out-of-range : b ≡ false → r ≡ settled 5 s → r ≡ changedBy (tablesOf s) c
   unfolding changedBy
@@ -92,13 +95,13 @@ module _ (s : StoredTables) (h : Holds s) (c : Command) {r : Changed} (b : Bool)
   operated e d given is = is ∙ rw (given, first, no-five b cs e, acted-accepted (tablesOf s) (lowest cs) c)
 
 -- in range, where that is the only cause: accepted
-pub accepts : (s : StoredTables) (h : Holds s) (c : Command) {r : Changed} (b : Bool) → causes (tablesOf s) 0 c ≡ (5 if not b) ∷ [] → b ≡ true
+pub accepts : (s : StoredTables) (h : Holds maxLoads s) (c : Command) {r : Changed} (b : Bool) → causes (tablesOf s) 0 c ≡ (5 if not b) ∷ [] → b ≡ true
     → (u : StoredTables) → u ≡ stored (effect (tablesOf s) c) → r ≡ settled 0 u → r ≡ changedBy (tablesOf s) c
 unfolding lowest
 accepts s h c b first e u given is = operated s h c b [] first e (record { number = 0; tables = u }) (λ i. record { number = 0; tables = given i }) is
 
 -- another power or worth of load k: c changes it where there is such a load and the figure fits
-module _ (s : StoredTables) (h : Holds s) (c : Command) (k : ℕ) (fits : Bool) (first : causes (tablesOf s) 0 c ≡ (5 if not (isLoad (tablesOf s) k && fits)) ∷ [])
+module _ (s : StoredTables) (h : Holds maxLoads s) (c : Command) (k : ℕ) (fits : Bool) (first : causes (tablesOf s) 0 c ≡ (5 if not (isLoad (tablesOf s) k && fits)) ∷ [])
     {there : Bool} (looked : there ≡ between 1 (s .loads .count) k) where
   tested : there && fits ≡ isLoad (tablesOf s) k && fits
   tested = ap (λ (b : Bool). b && fits) (looked ∙ ap (λ (n : ℕ). between 1 n k) (load-count s h))
@@ -136,7 +139,7 @@ unfolding namedLoad
 load-is k l is e = ap (λ (x : NamedLoad). x .load) is ∙ rw e
 
 -- a rule of either sort, in a book with the rules rs of that sort
-module _ (s : StoredTables) (h : Holds s) (c : Command) (m : RuleRange) (r : Transition) (rs : List Transition)
+module _ (s : StoredTables) (h : Holds maxLoads s) (c : Command) (m : RuleRange) (r : Transition) (rs : List Transition)
     (first : causes (tablesOf s) 0 c ≡ (5 if not (ruleIn m r)) ∷ (6 if leb maxRules (length rs)) ∷ (7 if some (sameRule r) rs) ∷ [])
     {x : NamedRule} (is : x ≡ namedRule m r) {d : Changed} where
   pub rule-refused : not (x .fits) ≡ true → d ≡ settled 5 s → d ≡ changedBy (tablesOf s) c

@@ -9,7 +9,7 @@ use Rattle.lines.specs.declared.Command.{Command}
 use Rattle.lines.specs.declared.Command.the-variants as line
 use Rattle.lines.specs.Answers.{yes, planLine, LoadLine, loadLines}
 use Rattle.tables.specs.Tables.{Tables}
-use Rattle.tables.specs.Limits.{Limits}
+use Rattle.tables.specs.Limits.{maxLoads, Limits}
 use Rattle.tables.specs.Stored.{stored}
 use Rattle.meaning.specs.Sets.{power, worth, numberOn}
 use Rattle.meaning.specs.Choice.{planEntries, shownSet}
@@ -46,7 +46,7 @@ pub answered-number : (t : Tables) (n : ℕ) (c : Command) → numberOf (answere
 answered-number t zero c = accepted-zero t c
 answered-number t (suc n) c = refl
 
-module _ (t : Tables) (h : Limits t) where
+module _ (t : Tables) (h : Limits t) (places : t .places ≡ maxLoads) where
   accepted-text : (cells : ℕ) (c : Command) → lowest (causes t cells c) ≡ 0
       → textOf (acceptedAs t c .answer) (linesTo (runOf (acceptedAs t c .entries)) (length (t .loads))) ≡ printed t c
   unfolding acceptedAs printed causes lowest planText checkText
@@ -62,8 +62,8 @@ module _ (t : Tables) (h : Limits t) where
   accepted-text n (line.Budget b) e = refl
   accepted-text n line.Plan e =
       let σ = shownSet (planEntries t) in
-      ap (λ (ls : List LoadLine). planLine (worth t σ) (power t σ) (numberOn t σ) ++ loadLines ls) (plan-lines t h)
-  accepted-text n (line.Check s k) e = ap (λ (ls : List LoadLine). yes ++ loadLines ls) (check-lines t h (markIn s))
+      ap (λ (ls : List LoadLine). planLine (worth t σ) (power t σ) (numberOn t σ) ++ loadLines ls) (plan-lines t h places)
+  accepted-text n (line.Check s k) e = ap (λ (ls : List LoadLine). yes ++ loadLines ls) (check-lines t h places (markIn s))
   accepted-text n line.Broken e = absurd (omega arith)
 
   -- 0 is given only where no cause applies, and 1 is not given here

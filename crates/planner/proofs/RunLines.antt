@@ -104,14 +104,14 @@ module _ (es : List Entry) (o : Numbered 1 es) (few : length es ≤ maxLoads) (r
   lines-shown = lines-to (length es) (le-refl (length es)) ∙ take-all (length es) (map lineOf es) (omega (arith, length-map es lineOf))
 
 -- ---- the runs of a plan and of a check
-module _ (t : Tables) (h : Limits t) where
+module _ (t : Tables) (h : Limits t) (places : t .places ≡ maxLoads) where
   pub plan-lines : linesTo (runOf (planEntries t)) (length (t .loads)) ≡ map lineOf (planEntries t)
   unfolding planEntries
   plan-lines =
       let tree = lawful t h .ordered in
       let n = listed-length (plan t) (length (t .loads)) (plan-listed t tree) in
       ap (linesTo (runOf (planEntries t))) (sym n)
-      ∙ lines-shown (planEntries t) (plan-numbered t tree) (omega (arith, n, limits-parts t h .few)) (plan-ranged t h)
+      ∙ lines-shown (planEntries t) (plan-numbered t tree) (omega (arith, n, places, limits-parts t h .few)) (plan-ranged t h)
 
   pub check-lines : (σ : ℕ → ℕ) → linesTo (runOf (checkEntries t σ)) (length (t .loads)) ≡ map lineOf (checkEntries t σ)
   unfolding checkEntries
@@ -119,4 +119,4 @@ module _ (t : Tables) (h : Limits t) where
       let tree = lawful t h .ordered in
       let n = listed-length (check t σ) (length (t .loads)) (check-listed t tree σ) in
       ap (linesTo (runOf (checkEntries t σ))) (sym n)
-      ∙ lines-shown (checkEntries t σ) (check-numbered t tree σ) (omega (arith, n, limits-parts t h .few)) (check-ranged t h σ)
+      ∙ lines-shown (checkEntries t σ) (check-numbered t tree σ) (omega (arith, n, places, limits-parts t h .few)) (check-ranged t h σ)

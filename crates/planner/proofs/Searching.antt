@@ -7,8 +7,7 @@ use native.Mathlib.Omega.{arith}
 use borrow.Author.Tests.{eq-eqb, ne-eqb, lt-ltb, le-ltb}
 use lib.ListN.{length}
 use Rattle.marks.specs.declared.LoadSet.{LoadSet}
-use Rattle.marks.specs.Bits.{size}
-use Rattle.marks.specs.Sets.{markIn}
+use Rattle.marks.specs.Sets.{sizeOf, markIn}
 use Rattle.lines.specs.declared.Command.{Command}
 use Rattle.lines.specs.declared.Command.the-variants.{Plan, Check}
 use Rattle.tables.specs.declared.tables.StoredTables.{StoredTables}
@@ -33,7 +32,7 @@ use Rattle.engine.proofs.Answers.{plan-set, plan-size}
 use Rattle.planner.specs.declared.answers.Answer.the-variants.{Planned, Allowed, Refused}
 use Rattle.planner.specs.declared.search.Decided.{Decided}
 use Rattle.planner.specs.Decided.{acceptedAs, unshown, decidedBy}
-use Rattle.planner.proofs.Commands.{lawful, is-stored, load-count}
+use Rattle.planner.proofs.Commands.{lawful, is-stored, load-count, places}
 
 -- ---- what a search found
 pub none-found : (v : ℕ) (es : List Entry) {o : Outcome} → o ≡ outcomeOf v es → o .found ≡ false → v ≡ 0
@@ -85,7 +84,7 @@ module _ (t : Tables) (σ : LoadSet) (n : ℕ) where
     check-accepted q e = rw (ne-eqb (length (t .loads)) 0 some, eq-eqb n (length (t .loads)) q, ne-eqb (bestCheck t (markIn σ)) 0 e)
 
 -- ---- on a planner that holds tables within the limits
-module _ (s : StoredTables) (h : Holds s) where
+module _ (s : StoredTables) (h : Holds maxLoads s) where
   pub kept : keepsLimits s ≡ true
   kept = ap keepsLimits (h .2) ∙ stored-keeps (h .0) (h .1)
 
@@ -100,17 +99,17 @@ module _ (s : StoredTables) (h : Holds s) where
 
   -- a plan was found
   pub plans : (n : ℕ) → n ≡ 0 → (r : Run) → r ≡ runOf (planEntries (tablesOf s)) → (v w k : ℕ)
-      → v ≡ worth (tablesOf s) (markIn (r .set)) → w ≡ power (tablesOf s) (markIn (r .set)) → k ≡ size maxLoads (r .set .0)
+      → v ≡ worth (tablesOf s) (markIn (r .set)) → w ≡ power (tablesOf s) (markIn (r .set)) → k ≡ sizeOf (r .set)
       → record { answer = Planned v w k; run = r; planner = record { tables = s } } ≡ decidedBy (tablesOf s) n Plan
   unfolding decidedBy acceptedAs effect
   plans n z r is v w k a b d =
       let t = tablesOf s in
       let tree = lawful-tree t (lawful s h) .ordered in
-      let most = limits-parts t (lawful s h) .few in
+      let most : length (t .loads) ≤ maxLoads = omega (arith, places s h, limits-parts t (lawful s h) .few) in
       let set : markIn (r .set) ≡ _ = ap (λ (x : Run). markIn (x .set)) is ∙ plan-set t tree most in
       let worths = a ∙ ap (worth t) set in
       let powers = b ∙ ap (power t) set in
-      let on = d ∙ ap (λ (x : Run). size maxLoads (x .set .0)) is ∙ plan-size t tree most in
+      let on = d ∙ ap (λ (x : Run). sizeOf (x .set)) is ∙ plan-size t tree most in
       rw z (λ i. record { answer = Planned (worths i) (powers i) (on i); run = is i; planner = record { tables = is-stored s h i } })
 
   -- a run of a checked set was found

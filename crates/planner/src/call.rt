@@ -10,6 +10,7 @@ use lines::reading::too_long;
 ghost use mathlib.Core.Path.{_≡_};
 ghost use lib.ListN.{length};
 ghost use Rattle.lines.specs.Grammar.{parse};
+ghost use Rattle.tables.specs.Limits.{maxLoads};
 ghost use Rattle.tables.specs.Stored.{tablesOf, Holds};
 ghost use Rattle.calls.specs.Printing.{workAfter};
 ghost use Rattle.calls.specs.Calls.{called};
@@ -43,7 +44,7 @@ fn changed(c: Changed) -> Decided
 impl Planner {
     // What a command answers.
     fn decide(self, c: Command, work: &mut [u32]) -> Decided
-        requires { ⌜ Holds (self .tables) ⌝ }
+        requires { ⌜ Holds maxLoads (self .tables) ⌝ }
         ensures answer { λ r. ⌜ r ≡ decided (tablesOf (self .tables)) (length (now (work .entry))) c ⌝ }
         ensures cells { λ r. ⌜ now (work .exit) ≡ workAfter (tablesOf (self .tables)) (numberOf (r .answer)) c (now (work .entry)) ⌝ }
     {
@@ -70,7 +71,7 @@ impl Planner {
 
     // What a line is answered, where there is room for the answer.
     fn decide_line(self, line: &[u8], work: &mut [u32]) -> Decided
-        requires { ⌜ Holds (self .tables) ⌝ }
+        requires { ⌜ Holds maxLoads (self .tables) ⌝ }
         ensures answer { λ r. ⌜ r ≡ decidedLine (tablesOf (self .tables)) (length (now (work .entry))) (now (line .entry)) ⌝ }
         ensures cells { λ r. ⌜ now (work .exit) ≡ workAfter (tablesOf (self .tables)) (numberOf (r .answer)) (parse (now (line .entry))) (now (work .entry)) ⌝ }
     {

@@ -103,14 +103,14 @@ fn settled(number: u8, tables: StoredTables) -> Changed
 
 impl Planner {
     pub(crate) fn clear(self) -> Changed
-        requires { ⌜ Holds (self .tables) ⌝ }
+        requires { ⌜ Holds maxLoads (self .tables) ⌝ }
         ensures { λ r. ⌜ r ≡ changedBy (tablesOf (self .tables)) line.Clear ⌝ }
     {
         settled(0, StoredTables::fresh())
     }
 
     pub(crate) fn book(self, states: u32, stages: u32) -> Changed
-        requires { ⌜ Holds (self .tables) ⌝ }
+        requires { ⌜ Holds maxLoads (self .tables) ⌝ }
         ensures { λ r. ⌜ r ≡ changedBy (tablesOf (self .tables)) (line.Book states stages) ⌝ }
     {
         let most = MAX_STATES as usize;
@@ -121,7 +121,7 @@ impl Planner {
     }
 
     pub(crate) fn start(self, state: u32) -> Changed
-        requires { ⌜ Holds (self .tables) ⌝ }
+        requires { ⌜ Holds maxLoads (self .tables) ⌝ }
         ensures { λ r. ⌜ r ≡ changedBy (tablesOf (self .tables)) (line.Start state) ⌝ }
     {
         if !between(1, self.tables.book.states as usize, state as usize) {
@@ -131,7 +131,7 @@ impl Planner {
     }
 
     pub(crate) fn end(self, stage: u32) -> Changed
-        requires { ⌜ Holds (self .tables) ⌝ }
+        requires { ⌜ Holds maxLoads (self .tables) ⌝ }
         ensures { λ r. ⌜ r ≡ changedBy (tablesOf (self .tables)) (line.End stage) ⌝ }
     {
         if !between(1, self.tables.book.stages as usize, stage as usize) {
@@ -141,7 +141,7 @@ impl Planner {
     }
 
     pub(crate) fn rule(self, state: u32, mark: u32, stage: u32) -> Changed
-        requires { ⌜ Holds (self .tables) ⌝ }
+        requires { ⌜ Holds maxLoads (self .tables) ⌝ }
         ensures { λ r. ⌜ r ≡ changedBy (tablesOf (self .tables)) (line.Rule state mark stage) ⌝ }
     {
         let range = RuleRange::of_load_rules(self.tables.book.states, self.tables.book.stages);
@@ -154,7 +154,7 @@ impl Planner {
     }
 
     pub(crate) fn row(self, stage: u32, state: u32, next: u32) -> Changed
-        requires { ⌜ Holds (self .tables) ⌝ }
+        requires { ⌜ Holds maxLoads (self .tables) ⌝ }
         ensures { λ r. ⌜ r ≡ changedBy (tablesOf (self .tables)) (line.Row stage state next) ⌝ }
     {
         let range = RuleRange::of_row_rules(self.tables.book.states, self.tables.book.stages);
@@ -167,7 +167,7 @@ impl Planner {
     }
 
     pub(crate) fn load(self, parent: u32, power: u32, worth: u32) -> Changed
-        requires { ⌜ Holds (self .tables) ⌝ }
+        requires { ⌜ Holds maxLoads (self .tables) ⌝ }
         ensures { λ r. ⌜ r ≡ changedBy (tablesOf (self .tables)) (line.Load parent power worth) ⌝ }
     {
         let named = named_load(self.tables.loads.count + 1, parent, power, worth);
@@ -179,7 +179,7 @@ impl Planner {
     }
 
     pub(crate) fn power(self, number: u32, watts: u32) -> Changed
-        requires { ⌜ Holds (self .tables) ⌝ }
+        requires { ⌜ Holds maxLoads (self .tables) ⌝ }
         ensures { λ r. ⌜ r ≡ changedBy (tablesOf (self .tables)) (line.Power number watts) ⌝ }
     {
         let there = between(1, self.tables.loads.count, number as usize);
@@ -190,7 +190,7 @@ impl Planner {
     }
 
     pub(crate) fn worth(self, number: u32, figure: u32) -> Changed
-        requires { ⌜ Holds (self .tables) ⌝ }
+        requires { ⌜ Holds maxLoads (self .tables) ⌝ }
         ensures { λ r. ⌜ r ≡ changedBy (tablesOf (self .tables)) (line.Worth number figure) ⌝ }
     {
         let there = between(1, self.tables.loads.count, number as usize);
@@ -201,7 +201,7 @@ impl Planner {
     }
 
     pub(crate) fn budget(self, watts: u32) -> Changed
-        requires { ⌜ Holds (self .tables) ⌝ }
+        requires { ⌜ Holds maxLoads (self .tables) ⌝ }
         ensures { λ r. ⌜ r ≡ changedBy (tablesOf (self .tables)) (line.Budget watts) ⌝ }
     {
         if (MAX_BUDGET as u32) < watts {

@@ -11,6 +11,7 @@ use tables::tables::StoredTables;
 ghost use mathlib.Core.Path.{_≡_};
 ghost use lib.ListN.{length};
 ghost use Rattle.lines.specs.declared.Command.the-variants as line;
+ghost use Rattle.tables.specs.Limits.{maxLoads};
 ghost use Rattle.tables.specs.Stored.{tablesOf, Holds};
 ghost use Rattle.meaning.specs.Cells.{cellsOf};
 ghost use Rattle.calls.specs.Printing.{workAfter};
@@ -48,7 +49,7 @@ pub(crate) fn unshown(answer: Answer, planner: Planner) -> Decided
 
 // How many cells a plan needs.
 fn cells_of(tables: StoredTables) -> usize
-    requires { ⌜ Holds tables ⌝ }
+    requires { ⌜ Holds maxLoads tables ⌝ }
     ensures { λ r. ⌜ r ≡ cellsOf (tablesOf tables) ⌝ }
 {
     cells_needed(shape_of(plan_problem(tables)))
@@ -62,7 +63,7 @@ impl Planner {
     }
 
     pub(crate) fn plan(self, work: &mut [u32]) -> Decided
-        requires { ⌜ Holds (self .tables) ⌝ }
+        requires { ⌜ Holds maxLoads (self .tables) ⌝ }
         ensures answer { λ r. ⌜ r ≡ decided (tablesOf (self .tables)) (length (now (work .entry))) line.Plan ⌝ }
         ensures cells { λ r. ⌜ now (work .exit) ≡ workAfter (tablesOf (self .tables)) (numberOf (r .answer)) line.Plan (now (work .entry)) ⌝ }
     {
@@ -93,7 +94,7 @@ impl Planner {
     }
 
     pub(crate) fn check(self, set: LoadSet, count: usize) -> Decided
-        requires { ⌜ Holds (self .tables) ⌝ }
+        requires { ⌜ Holds maxLoads (self .tables) ⌝ }
         ensures { λ r. ⌜ r ≡ decided (tablesOf (self .tables)) 0 (line.Check set count) ⌝ }
     {
         let tables = self.tables;

@@ -6,7 +6,7 @@ use mathlib.Core.List.{List, [], _∷_, _++_}
 use native.Mathlib.Omega.{arith}
 use lib.ListN.{length, getD, set, length-set}
 use Rattle.lists.specs.Arrays.{laid}
-use Rattle.lists.proofs.Arrays.{take-laid, laid-snoc, laid-set, getD-laid, length-snoc}
+use Rattle.lists.proofs.Arrays.{length-laid, take-laid, laid-snoc, laid-set, getD-laid, length-snoc}
 use Rattle.marks.specs.Bits.{within}
 use Rattle.marks.proofs.Laws.{within-true}
 use Rattle.tables.specs.declared.rule.Appended.{Appended}
@@ -14,8 +14,8 @@ use Rattle.tables.specs.declared.load.LoadList.{LoadList}
 use Rattle.tables.specs.declared.load.LoadsAppended.{LoadsAppended}
 use Rattle.tables.specs.declared.tables.Changed.{Changed}
 use Rattle.tables.specs.Tables.{Transition, Load, Tables, noRule, noLoad}
-use Rattle.tables.specs.Limits.{maxRules, maxLoads, Limits}
-use Rattle.tables.specs.Stored.{storedRules, storedLoads, storedBook, stored}
+use Rattle.tables.specs.Limits.{maxRules, Limits}
+use Rattle.tables.specs.Stored.{storedRules, storedLoads, placesOf, storedBook, stored}
 use Rattle.tables.specs.Changes.{withBook, withLoads, withLoadRules, withRowRules, newBook, markStart, markEnd, addLoadRule, addRowRule, addLoad, withPower, withWorth, onLoad, setPower, setWorth, setBudget}
 use Rattle.tables.specs.Operations.{ruleNumber, loadNumber, accepted, appended, loadAppended, loadAt, loadReplaced, powerSet, worthSet, putLoads, bookBegun, startMarked, endMarked, loadRuleAdded, rowRuleAdded, loadAdded, powerChanged, worthChanged, budgetChanged}
 use Rattle.tables.proofs.Parts.{limits-parts}
@@ -34,47 +34,49 @@ appended-stored rs r h = rw (take-laid noRule maxRules rs h) (go (ruleNumber rs 
     go zero e = rw (laid-snoc noRule maxRules rs r (rule-new rs r .0 e .0), length-snoc)
     go (suc n) e = refl
 
-pub load-appended-stored : (ls : List Load) (l : Load) → length ls ≤ maxLoads
-    → loadAppended (storedLoads ls) l ≡ record { number = loadNumber ls; list = storedLoads (accepted (loadNumber ls) (ls ++ (l ∷ [])) ls) }
+pub load-appended-stored : (m : ℕ) (ls : List Load) (l : Load) → length ls ≤ m
+    → loadAppended (storedLoads m ls) l ≡ record { number = loadNumber m ls; list = storedLoads m (accepted (loadNumber m ls) (ls ++ (l ∷ [])) ls) }
 unfolding loadAppended
-load-appended-stored ls l h = rw (take-laid noLoad maxLoads ls h) (go (loadNumber ls) refl)
+load-appended-stored m ls l h = rw (take-laid noLoad m ls h, length-laid noLoad m ls) (go (loadNumber m ls) refl)
   where
-    go : (n : ℕ) → loadNumber ls ≡ n → _≡_ {A = LoadsAppended}
-        (record { number = n; list = accepted n (record { items = set (laid noLoad maxLoads ls) (length ls) l; count = length ls + 1 }) (storedLoads ls) })
-        (record { number = n; list = storedLoads (accepted n (ls ++ (l ∷ [])) ls) })
-    go zero e = rw (laid-snoc noLoad maxLoads ls l (load-new ls .0 e), length-snoc)
+    go : (n : ℕ) → loadNumber m ls ≡ n → _≡_ {A = LoadsAppended}
+        (record { number = n; list = accepted n (record { items = set (laid noLoad m ls) (length ls) l; count = length ls + 1 }) (storedLoads m ls) })
+        (record { number = n; list = storedLoads m (accepted n (ls ++ (l ∷ [])) ls) })
+    go zero e = rw (laid-snoc noLoad m ls l (load-new m ls .0 e), length-snoc)
     go (suc n) e = refl
 
 -- ---- the load of a number: the ways out of the code, and on paper
-module _ (l : LoadList) (k : ℕ) (p : k ≡ 0 → ⊥) (h : k ≤ maxLoads) where
-  pub load-in : getD (l .items) (k - 1) noLoad ≡ loadAt l k
-  unfolding loadAt
-  load-in = rw (within-true maxLoads k p h)
+module _ (n : ℕ) (l : LoadList) (k : ℕ) (full : placesOf l ≡ n) where
+  module _ (p : k ≡ 0 → ⊥) (h : k ≤ n) where
+    pub load-in : getD (l .items) (k - 1) noLoad ≡ loadAt l k
+    unfolding loadAt
+    load-in = rw (full, within-true n k p h)
 
-  pub replaced-in : (x : Load) → record { items = set (l .items) (k - 1) x; count = l .count } ≡ loadReplaced l k x
-  unfolding loadReplaced
-  replaced-in x = rw (within-true maxLoads k p h)
+    pub replaced-in : (x : Load) → record { items = set (l .items) (k - 1) x; count = l .count } ≡ loadReplaced l k x
+    unfolding loadReplaced
+    replaced-in x = rw (full, within-true n k p h)
 
-module _ (l : LoadList) (k : ℕ) (h : within maxLoads k ≡ false) where
-  pub load-out : noLoad ≡ loadAt l k
-  unfolding loadAt
-  load-out = rw h
+  module _ (h : within n k ≡ false) where
+    pub load-out : noLoad ≡ loadAt l k
+    unfolding loadAt
+    load-out = rw (full, h)
 
-  pub replaced-out : (x : Load) → l ≡ loadReplaced l k x
-  unfolding loadReplaced
-  replaced-out x = rw h
+    pub replaced-out : (x : Load) → l ≡ loadReplaced l k x
+    unfolding loadReplaced
+    replaced-out x = rw (full, h)
 
-figure-stored : (f : Load → Load) (ls : List Load) (k : ℕ) → 1 ≤ k → k ≤ length ls → length ls ≤ maxLoads
-    → loadReplaced (storedLoads ls) k (f (loadAt (storedLoads ls) k)) ≡ storedLoads (onLoad f k ls)
-figure-stored f ls k one most few =
+figure-stored : (f : Load → Load) (n : ℕ) (ls : List Load) (k : ℕ) → 1 ≤ k → k ≤ length ls → length ls ≤ n
+    → loadReplaced (storedLoads n ls) k (f (loadAt (storedLoads n ls) k)) ≡ storedLoads n (onLoad f k ls)
+figure-stored f n ls k one most few =
     let some-load : k ≡ 0 → ⊥ = λ e. omega arith in
     let at : k - 1 < length ls = omega arith in
-    let s = storedLoads ls in
+    let s = storedLoads n ls in
+    let full = length-laid noLoad n ls in
     rw (
-      ← load-in s k some-load (omega arith),
-      ← replaced-in s k some-load (omega arith),
-      getD-laid noLoad maxLoads ls (k - 1) at few,
-      laid-set noLoad maxLoads ls (k - 1) _ at few,
+      ← load-in n s k full some-load (omega arith),
+      ← replaced-in n s k full some-load (omega arith),
+      getD-laid noLoad n ls (k - 1) at few,
+      laid-set noLoad n ls (k - 1) _ at few,
       length-set,
     )
 
@@ -105,11 +107,11 @@ module _ (t : Tables) where
 module _ (t : Tables) (h : Limits t) where
   pub power-changed : (k w : ℕ) → 1 ≤ k → k ≤ length (t .loads) → powerChanged (stored t) k w ≡ stored (setPower t k w)
   unfolding powerChanged powerSet stored
-  power-changed k w one most = ap (putLoads (stored t)) (figure-stored (λ l. withPower l w) (t .loads) k one most (limits-parts t h .few))
+  power-changed k w one most = ap (putLoads (stored t)) (figure-stored (λ l. withPower l w) (t .places) (t .loads) k one most (limits-parts t h .few))
 
   pub worth-changed : (k v : ℕ) → 1 ≤ k → k ≤ length (t .loads) → worthChanged (stored t) k v ≡ stored (setWorth t k v)
   unfolding worthChanged worthSet stored
-  worth-changed k v one most = ap (putLoads (stored t)) (figure-stored (λ l. withWorth l v) (t .loads) k one most (limits-parts t h .few))
+  worth-changed k v one most = ap (putLoads (stored t)) (figure-stored (λ l. withWorth l v) (t .places) (t .loads) k one most (limits-parts t h .few))
 
   -- ---- those that give one
   pub load-rule-added : (r : Transition) → let n = ruleNumber (t .book .loadRules) r in
@@ -128,9 +130,9 @@ module _ (t : Tables) (h : Limits t) where
       rw (appended-stored rs r (rules-few _ rs (limits-parts t h .book .rowRules)))
       (both-ways (λ (l : List Transition). withBook t (withRowRules (t .book) l)) (ruleNumber rs r) (rs ++ (r ∷ [])) rs)
 
-  pub load-added : (l : Load) → let n = loadNumber (t .loads) in
+  pub load-added : (l : Load) → let n = loadNumber (t .places) (t .loads) in
       loadAdded (stored t) l ≡ record { number = n; tables = stored (accepted n (addLoad t l) t) }
   unfolding loadAdded stored
   load-added l =
-      rw (load-appended-stored (t .loads) l (limits-parts t h .few))
-      (both-ways (withLoads t) (loadNumber (t .loads)) (t .loads ++ (l ∷ [])) (t .loads))
+      rw (load-appended-stored (t .places) (t .loads) l (limits-parts t h .few))
+      (both-ways (withLoads t) (loadNumber (t .places) (t .loads)) (t .loads ++ (l ∷ [])) (t .loads))

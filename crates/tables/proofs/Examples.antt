@@ -25,6 +25,7 @@ tables s g a e rs ws ls b = record {
   book = record { states = s; stages = g; starts = record { 0 = a }; ends = record { 0 = e }; loadRules = rs; rowRules = ws };
   loads = ls;
   budget = b;
+  places = 64;
 }
 
 lawful : Tables
@@ -50,7 +51,7 @@ broken =
     ∷ tables 0 0 0 0 [] [] [] 501
     ∷ []
 
-lawful-kept : map limits (fresh ∷ lawful ∷ []) ≡ true ∷ true ∷ []
+lawful-kept : map limits (fresh 64 ∷ lawful ∷ []) ≡ true ∷ true ∷ []
 unfolding limits bookIn limited every distinct some everyFrom ruleIn sameRule loadIn loadsIn fresh lawful tables rule load
 lawful-kept = refl
 

@@ -19,7 +19,7 @@ use Rattle.marks.specs.Sets.{marked}
 use Rattle.marks.specs.declared.Marks.{Marks}
 use Rattle.tables.specs.declared.rule.RuleRange.{RuleRange}
 use Rattle.tables.specs.Tables.{Transition, Load, Book, Tables, noLoad, emptyBook, fresh}
-use Rattle.tables.specs.Limits.{between, bookSize, marksIn, ruleIn, loadRuleRange, rowRuleRange, sameRule, maxRules, rulesIn, parentIn, powerIn, worthIn, budgetIn, loadIn, maxLoads, Limits}
+use Rattle.tables.specs.Limits.{between, bookSize, marksIn, ruleIn, loadRuleRange, rowRuleRange, sameRule, maxRules, rulesIn, parentIn, powerIn, worthIn, budgetIn, loadIn, mostPlaces, Limits}
 use Rattle.tables.specs.Changes.{withBook, withLoads, newBook, markStart, markEnd, addLoadRule, addRowRule, addLoad, withPower, withWorth, onLoad, setPower, setWorth, setBudget}
 use Rattle.tables.proofs.Parts.{BookParts, Parts, limits-parts, limits-whole}
 
@@ -72,9 +72,9 @@ empty-parts s g h = record {
   rowRules = limited-none (ruleIn (rowRuleRange s g)) sameRule maxRules;
 }
 
-pub fresh-limits : Limits fresh
+pub fresh-limits : (n : ℕ) → n ≤ mostPlaces → Limits (fresh n)
 unfolding fresh everyFrom
-fresh-limits = limits-whole fresh (record { book = empty-parts 0 0 refl; few = omega arith; loads = refl; budget = refl })
+fresh-limits n h = limits-whole (fresh n) (record { book = empty-parts 0 0 refl; few = omega arith; loads = refl; budget = refl; places = h })
 
 -- ---- each change
 module _ (t : Tables) (h : Limits t) where
@@ -82,10 +82,10 @@ module _ (t : Tables) (h : Limits t) where
   p = limits-parts t h
 
   book-keeps : (b : Book) → BookParts b → Limits (withBook t b)
-  book-keeps b q = limits-whole (withBook t b) (record { book = q; few = p .few; loads = p .loads; budget = p .budget })
+  book-keeps b q = limits-whole (withBook t b) (record { book = q; few = p .few; loads = p .loads; budget = p .budget; places = p .places })
 
-  loads-keep : (ls : List Load) → length ls ≤ maxLoads → everyFrom loadIn 1 ls ≡ true → Limits (withLoads t ls)
-  loads-keep ls few q = limits-whole (withLoads t ls) (record { book = p .book; few = few; loads = q; budget = p .budget })
+  loads-keep : (ls : List Load) → length ls ≤ t .places → everyFrom loadIn 1 ls ≡ true → Limits (withLoads t ls)
+  loads-keep ls few q = limits-whole (withLoads t ls) (record { book = p .book; few = few; loads = q; budget = p .budget; places = p .places })
 
   figure-keeps : (f : Load → Load) → ((k : ℕ) (l : Load) → loadIn k l ≡ true → loadIn k (f l) ≡ true)
       → (k : ℕ) → Limits (withLoads t (onLoad f k (t .loads)))
@@ -132,7 +132,7 @@ module _ (t : Tables) (h : Limits t) where
     rowRules = rules-snoc (rowRuleRange (t .book .states) (t .book .stages)) (t .book .rowRules) r (p .book .rowRules) fit few new;
   })
 
-  pub add-load-keeps : (l : Load) → loadIn (suc (length (t .loads))) l ≡ true → length (t .loads) < maxLoads → Limits (addLoad t l)
+  pub add-load-keeps : (l : Load) → loadIn (suc (length (t .loads))) l ≡ true → length (t .loads) < t .places → Limits (addLoad t l)
   add-load-keeps l fit few =
       let n : suc (length (t .loads)) ≡ length (t .loads) + 1 = omega arith in
       loads-keep _ (rw length-snoc (omega arith)) (from-snoc loadIn 1 (t .loads) l (p .loads) (rw n at fit))
@@ -144,4 +144,4 @@ module _ (t : Tables) (h : Limits t) where
   set-worth-keeps k v e = figure-keeps (λ l. withWorth l v) (worth-in v e) k
 
   pub set-budget-keeps : (w : ℕ) → budgetIn w ≡ true → Limits (setBudget t w)
-  set-budget-keeps w e = limits-whole (setBudget t w) (record { book = p .book; few = p .few; loads = p .loads; budget = e })
+  set-budget-keeps w e = limits-whole (setBudget t w) (record { book = p .book; few = p .few; loads = p .loads; budget = e; places = p .places })

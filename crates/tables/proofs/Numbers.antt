@@ -10,7 +10,7 @@ use lib.Dec.{leb}
 use lib.ListN.{length}
 use Rattle.lists.specs.Tests.{pick, some}
 use Rattle.tables.specs.Tables.{Transition, Load}
-use Rattle.tables.specs.Limits.{maxRules, maxLoads, sameRule}
+use Rattle.tables.specs.Limits.{maxRules, sameRule}
 use Rattle.tables.specs.Operations.{ruleNumber, loadNumber}
 
 module _ (rs : List Transition) (r : Transition) where
@@ -49,19 +49,19 @@ module _ (rs : List Transition) (r : Transition) where
       only false true e = absurd (omega arith)
       only false false e = (refl, refl)
 
-module _ (ls : List Load) where
+module _ (places : ℕ) (ls : List Load) where
   -- "64 loads .. already"
-  pub load-full : (loadNumber ls ≡ 6) ↔ (maxLoads ≤ length ls)
+  pub load-full : (loadNumber places ls ≡ 6) ↔ (places ≤ length ls)
   unfolding loadNumber
-  load-full = (λ e. leb-true maxLoads (length ls) (only (leb maxLoads (length ls)) e), λ h. rw (le-leb maxLoads (length ls) h))
+  load-full = (λ e. leb-true places (length ls) (only (leb places (length ls)) e), λ h. rw (le-leb places (length ls) h))
     where
       only : (a : Bool) → pick {A = ℕ} a 6 0 ≡ 6 → a ≡ true
       only true e = refl
       only false e = absurd (omega arith)
 
-  pub load-new : (loadNumber ls ≡ 0) ↔ (length ls < maxLoads)
+  pub load-new : (loadNumber places ls ≡ 0) ↔ (length ls < places)
   unfolding loadNumber
-  load-new = (λ e. leb-false maxLoads (length ls) (only (leb maxLoads (length ls)) e), λ h. rw (lt-leb maxLoads (length ls) h))
+  load-new = (λ e. leb-false places (length ls) (only (leb places (length ls)) e), λ h. rw (lt-leb places (length ls) h))
     where
       only : (a : Bool) → pick {A = ℕ} a 6 0 ≡ 0 → a ≡ false
       only true e = absurd (omega arith)

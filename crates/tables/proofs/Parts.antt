@@ -8,7 +8,7 @@ use lib.ListN.{length}
 use Rattle.lists.specs.Tests.{everyFrom}
 use Rattle.lists.proofs.Bools.{and-left, and-right}
 use Rattle.tables.specs.Tables.{Book, Tables}
-use Rattle.tables.specs.Limits.{sizeIn, marksIn, loadRuleRange, rowRuleRange, rulesIn, bookIn, budgetIn, loadIn, maxLoads, loadsIn, limits, Limits}
+use Rattle.tables.specs.Limits.{sizeIn, marksIn, loadRuleRange, rowRuleRange, rulesIn, bookIn, budgetIn, loadIn, mostPlaces, loadsIn, limits, Limits}
 
 pub record BookParts (b : Book) : Type 0 where
   pub size : sizeIn (b .states) (b .stages) ≡ true
@@ -19,9 +19,10 @@ pub record BookParts (b : Book) : Type 0 where
 
 pub record Parts (t : Tables) : Type 0 where
   pub book : BookParts (t .book)
-  pub few : length (t .loads) ≤ maxLoads
+  pub few : length (t .loads) ≤ t .places
   pub loads : everyFrom loadIn 1 (t .loads) ≡ true
   pub budget : budgetIn (t .budget) ≡ true
+  pub places : t .places ≤ mostPlaces
 
 -- five tests that hold together hold each
 five : (a b d e f : Bool) → a && b && d && e && f ≡ true → (a ≡ true) × (b ≡ true) × (d ≡ true) × (e ≡ true) × (f ≡ true)
@@ -46,17 +47,20 @@ book-whole b p = rw (p .size, p .starts, p .ends, p .loadRules) (p .rowRules)
 pub limits-parts : (t : Tables) → Limits t → Parts t
 unfolding limits loadsIn
 limits-parts t h =
-    let few = leb (length (t .loads)) maxLoads in
+    let few = leb (length (t .loads)) (t .places) in
     let inside = everyFrom loadIn 1 (t .loads) in
-    let a = and-left (bookIn (t .book) && (few && inside)) (budgetIn (t .budget)) h in
+    let placed = leb (t .places) mostPlaces in
+    let b = and-left (bookIn (t .book) && (few && inside) && budgetIn (t .budget)) placed h in
+    let a = and-left (bookIn (t .book) && (few && inside)) (budgetIn (t .budget)) b in
     let l = and-right (bookIn (t .book)) (few && inside) a in
     record {
       book = book-parts (t .book) (and-left (bookIn (t .book)) (few && inside) a);
-      few = leb-true (length (t .loads)) maxLoads (and-left few inside l);
+      few = leb-true (length (t .loads)) (t .places) (and-left few inside l);
       loads = and-right few inside l;
-      budget = and-right (bookIn (t .book) && (few && inside)) (budgetIn (t .budget)) h;
+      budget = and-right (bookIn (t .book) && (few && inside)) (budgetIn (t .budget)) b;
+      places = leb-true (t .places) mostPlaces (and-right (bookIn (t .book) && (few && inside) && budgetIn (t .budget)) placed h);
     }
 
 pub limits-whole : (t : Tables) → Parts t → Limits t
 unfolding limits loadsIn
-limits-whole t p = rw (book-whole (t .book) (p .book), le-leb (length (t .loads)) maxLoads (p .few), p .loads) (p .budget)
+limits-whole t p = rw (book-whole (t .book) (p .book), le-leb (length (t .loads)) (t .places) (p .few), p .loads, p .budget) (le-leb (t .places) mostPlaces (p .places))

@@ -19,8 +19,8 @@ use Rattle.tables.specs.declared.load.LoadList.{LoadList}
 use Rattle.tables.specs.declared.tables.StoredBook.{StoredBook}
 use Rattle.tables.specs.declared.tables.StoredTables.{StoredTables}
 use Rattle.tables.specs.Tables.{Load, noRule, noLoad}
-use Rattle.tables.specs.Limits.{sizeIn, marksIn, ruleIn, sameRule, loadRuleRange, rowRuleRange, rulesIn, maxRules, bookIn, parentIn, loadIn, maxLoads, loadsIn, budgetIn, limits}
-use Rattle.tables.specs.Stored.{rulesOf, loadsOf, bookOf, tablesOf, zeroRule, zeroLoad, keepsLimits}
+use Rattle.tables.specs.Limits.{sizeIn, marksIn, ruleIn, sameRule, loadRuleRange, rowRuleRange, rulesIn, maxRules, bookIn, parentIn, loadIn, mostPlaces, loadsIn, budgetIn, limits}
+use Rattle.tables.specs.Stored.{rulesOf, loadsOf, placesOf, bookOf, tablesOf, zeroRule, zeroLoad, keepsLimits}
 use Rattle.tables.specs.Places.{rulePlace, loadPlace, rulesHeld, loadsHeld, bookHeld}
 
 -- ---- marks: none stands past n where the number shifted by n is 0, and none past 8 in a byte
@@ -56,9 +56,9 @@ pub rules-placed : (m : RuleRange) (l : TransitionList) → length (l .items) �
 unfolding rulePlace rulesHeld
 rules-placed m l e = places-limited noRule zeroRule maxRules (l .count) (l .items) e (ruleIn m) sameRule
 
-pub loads-placed : (l : LoadList) → length (l .items) ≡ maxLoads → allBelow (loadPlace l) maxLoads && leb (l .count) maxLoads ≡ loadsHeld l
+pub loads-placed : (l : LoadList) → allBelow (loadPlace l) (placesOf l) && leb (l .count) (placesOf l) ≡ loadsHeld l
 unfolding loadPlace loadsHeld loadsIn
-loads-placed l e = places-numbered noLoad zeroLoad maxLoads (l .count) (l .items) e loadIn
+loads-placed l = places-numbered noLoad zeroLoad (placesOf l) (l .count) (l .items) refl loadIn
 
 -- ---- the book, and the tables
 book-order : (a b d r x s y : Bool) → a && b && d && (r && x) && (s && y) ≡ r && s && (a && b && d && x && y)
@@ -84,16 +84,19 @@ book-placed b =
     (restFree zeroRule maxRules (b .«row_rules» .count) (b .«row_rules» .items))
     (rulesIn (rowRuleRange (b .states) (b .stages)) (rulesOf (b .«row_rules»)))
 
-tables-order : (r b q l d : Bool) → (r && b) && (q && l) && d ≡ r && q && (b && l && d)
+tables-order : (r b q l d : Bool) → (r && b) && (q && l) && d ≡ r && q && (b && l && d && true)
 tables-order false b q l d = refl
 tables-order true false q l d = sym (and-false q)
 tables-order true true false l d = refl
-tables-order true true true l d = refl
+tables-order true true true false d = refl
+tables-order true true true true false = refl
+tables-order true true true true true = refl
 
-pub tables-placed : (s : StoredTables) → bookHeld (s .book) && loadsHeld (s .loads) && budgetIn (s .budget) ≡ keepsLimits s
+pub tables-placed : (s : StoredTables) → placesOf (s .loads) ≤ mostPlaces → bookHeld (s .book) && loadsHeld (s .loads) && budgetIn (s .budget) ≡ keepsLimits s
 unfolding bookHeld loadsHeld keepsLimits limits tablesOf
-tables-placed s =
+tables-placed s h =
     let load-free = restFree zeroRule maxRules (s .book .«load_rules» .count) (s .book .«load_rules» .items) in
     let row-free = restFree zeroRule maxRules (s .book .«row_rules» .count) (s .book .«row_rules» .items) in
-    let free = restFree zeroLoad maxLoads (s .loads .count) (s .loads .items) in
-    tables-order (load-free && row-free) (bookIn (bookOf (s .book))) free (loadsIn (loadsOf (s .loads))) (budgetIn (s .budget))
+    let free = restFree zeroLoad (placesOf (s .loads)) (s .loads .count) (s .loads .items) in
+    rw (le-leb (placesOf (s .loads)) mostPlaces h)
+    (tables-order (load-free && row-free) (bookIn (bookOf (s .book))) free (loadsIn (placesOf (s .loads)) (loadsOf (s .loads))) (budgetIn (s .budget)))

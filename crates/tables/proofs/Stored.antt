@@ -11,15 +11,15 @@ use lib.ListN.{length}
 use Rattle.lists.specs.Arrays.{laid}
 use Rattle.lists.specs.Places.{restFree}
 use Rattle.lists.proofs.Bools.{and-left, and-right}
-use Rattle.lists.proofs.Arrays.{take-laid}
+use Rattle.lists.proofs.Arrays.{length-laid, take-laid}
 use Rattle.lists.proofs.Places.{limited-parts, laid-free, free-laid, free-few, taken-length}
 use Rattle.tables.specs.declared.rule.RuleRange.{RuleRange}
 use Rattle.tables.specs.declared.rule.TransitionList.{TransitionList}
 use Rattle.tables.specs.declared.load.LoadList.{LoadList}
 use Rattle.tables.specs.declared.tables.StoredTables.{StoredTables}
 use Rattle.tables.specs.Tables.{Transition, Load, Tables, noRule, noLoad}
-use Rattle.tables.specs.Limits.{maxRules, maxLoads, ruleIn, sameRule, rulesIn, limits, Limits}
-use Rattle.tables.specs.Stored.{storedRules, storedLoads, storedBook, stored, rulesOf, loadsOf, bookOf, tablesOf, zeroRule, zeroLoad, keepsLimits, Lengths, Holds}
+use Rattle.tables.specs.Limits.{maxRules, ruleIn, sameRule, rulesIn, limits, Limits}
+use Rattle.tables.specs.Stored.{storedRules, storedLoads, storedBook, stored, rulesOf, loadsOf, placesOf, bookOf, tablesOf, zeroRule, zeroLoad, keepsLimits, Lengths, Holds}
 use Rattle.tables.proofs.Parts.{limits-parts}
 
 -- the three numbers of a place that holds 0
@@ -47,9 +47,9 @@ rules-free : (rs : List Transition) → length rs ≤ maxRules → restFree zero
 unfolding zeroRule
 rules-free rs h = laid-free noRule zeroRule refl rule-zero maxRules rs h
 
-loads-free : (ls : List Load) → length ls ≤ maxLoads → restFree zeroLoad maxLoads (length ls) (laid noLoad maxLoads ls) ≡ true
+loads-free : (n : ℕ) (ls : List Load) → length ls ≤ n → restFree zeroLoad n (length ls) (laid noLoad n ls) ≡ true
 unfolding zeroLoad
-loads-free ls h = laid-free noLoad zeroLoad refl load-zero maxLoads ls h
+loads-free n ls h = laid-free noLoad zeroLoad refl load-zero n ls h
 
 rules-laid : (l : TransitionList) → length (l .items) ≡ maxRules → restFree zeroRule maxRules (l .count) (l .items) ≡ true → l ≡ storedRules (rulesOf l)
 unfolding zeroRule
@@ -57,11 +57,12 @@ rules-laid l e h =
     let count = taken-length noRule zeroRule maxRules (l .count) (l .items) e (free-few noRule zeroRule maxRules (l .count) (l .items) e h) in
     λ i. record { items = free-laid noRule zeroRule refl rule-zero maxRules (l .count) (l .items) e h i; count = sym count i }
 
-loads-laid : (l : LoadList) → length (l .items) ≡ maxLoads → restFree zeroLoad maxLoads (l .count) (l .items) ≡ true → l ≡ storedLoads (loadsOf l)
+loads-laid : (l : LoadList) → restFree zeroLoad (placesOf l) (l .count) (l .items) ≡ true → l ≡ storedLoads (placesOf l) (loadsOf l)
 unfolding zeroLoad
-loads-laid l e h =
-    let count = taken-length noLoad zeroLoad maxLoads (l .count) (l .items) e (free-few noLoad zeroLoad maxLoads (l .count) (l .items) e h) in
-    λ i. record { items = free-laid noLoad zeroLoad refl load-zero maxLoads (l .count) (l .items) e h i; count = sym count i }
+loads-laid l h =
+    let n = placesOf l in
+    let count = taken-length noLoad zeroLoad n (l .count) (l .items) refl (free-few noLoad zeroLoad n (l .count) (l .items) refl h) in
+    λ i. record { items = free-laid noLoad zeroLoad refl load-zero n (l .count) (l .items) refl h i; count = sym count i }
 
 -- ---- tables that keep the limits
 module _ (t : Tables) (h : Limits t) where
@@ -82,8 +83,9 @@ module _ (t : Tables) (h : Limits t) where
       loadRules = take-laid noRule maxRules (t .book .loadRules) load-rules-few i;
       rowRules = take-laid noRule maxRules (t .book .rowRules) row-rules-few i;
     };
-    loads = take-laid noLoad maxLoads (t .loads) (limits-parts t h .few) i;
+    loads = take-laid noLoad (t .places) (t .loads) (limits-parts t h .few) i;
     budget = t .budget;
+    places = length-laid noLoad (t .places) (t .loads) i;
   }
 
   pub stored-keeps : keepsLimits (stored t) ≡ true
@@ -92,7 +94,8 @@ module _ (t : Tables) (h : Limits t) where
       rw (
         rules-free (t .book .loadRules) load-rules-few,
         rules-free (t .book .rowRules) row-rules-few,
-        loads-free (t .loads) (limits-parts t h .few),
+        length-laid noLoad (t .places) (t .loads),
+        loads-free (t .places) (t .loads) (limits-parts t h .few),
         tables-stored,
       )
       h
@@ -104,12 +107,12 @@ module _ (s : StoredTables) (len : Lengths s) where
   keeps-stored h =
       let load-free = restFree zeroRule maxRules (s .book .«load_rules» .count) (s .book .«load_rules» .items) in
       let row-free = restFree zeroRule maxRules (s .book .«row_rules» .count) (s .book .«row_rules» .items) in
-      let free = restFree zeroLoad maxLoads (s .loads .count) (s .loads .items) in
+      let free = restFree zeroLoad (placesOf (s .loads)) (s .loads .count) (s .loads .items) in
       let h3 = and-left (load-free && row-free && free) (limits (tablesOf s)) h in
       let h2 = and-left (load-free && row-free) free h3 in
       let load-rules = rules-laid (s .book .«load_rules») (len .loadRules) (and-left load-free row-free h2) in
       let row-rules = rules-laid (s .book .«row_rules») (len .rowRules) (and-right load-free row-free h2) in
-      let loads = loads-laid (s .loads) (len .loads) (and-right (load-free && row-free) free h3) in (
+      let loads = loads-laid (s .loads) (and-right (load-free && row-free) free h3) in (
         λ i. record {
           book = record {
             states = s .book .states;
@@ -126,8 +129,9 @@ module _ (s : StoredTables) (len : Lengths s) where
       )
 
   -- the test is true exactly if they are `stored t` for tables t that keep the limits
-  pub keeps-exactly : (keepsLimits s ≡ true) ↔ Holds s
-  keeps-exactly = (
-    λ h. let p = keeps-stored h in (tablesOf s, p .1, p .0),
-    λ (t, h, e). ap keepsLimits e ∙ stored-keeps t h,
+  pub keeps-exactly : (n : ℕ) → placesOf (s .loads) ≡ n → (keepsLimits s ≡ true) ↔ Holds n s
+  unfolding tablesOf
+  keeps-exactly n full = (
+    λ h. let p = keeps-stored h in (tablesOf s, p .1, p .0, full),
+    λ (t, h, e, m). ap keepsLimits e ∙ stored-keeps t h,
   )

@@ -11,10 +11,10 @@ use Rattle.tables.specs.Tables.{Book, Tables, noLoad, emptyBook}
 
 -- tables with a part anew
 abbrev pub withBook : Tables → Book → Tables
-withBook t b = record { book = b; loads = t .loads; budget = t .budget }
+withBook t b = record { book = b; loads = t .loads; budget = t .budget; places = t .places }
 
 abbrev pub withLoads : Tables → List Load → Tables
-withLoads t ls = record { book = t .book; loads = ls; budget = t .budget }
+withLoads t ls = record { book = t .book; loads = ls; budget = t .budget; places = t .places }
 
 abbrev pub withStarts : Book → Marks → Book
 withStarts b m = record { states = b .states; stages = b .stages; starts = m; ends = b .ends; loadRules = b .loadRules; rowRules = b .rowRules }
@@ -68,4 +68,4 @@ setWorth t k v = withLoads t (onLoad (λ l. withWorth l v) k (t .loads))
 
 -- "budget,b: sets the budget"
 abbrev pub setBudget : Tables → ℕ → Tables
-setBudget t w = record { book = t .book; loads = t .loads; budget = w }
+setBudget t w = record { book = t .book; loads = t .loads; budget = w; places = t .places }

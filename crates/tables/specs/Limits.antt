@@ -9,6 +9,7 @@ use lib.ListN.{length}
 use Rattle.lists.specs.Tests.{everyFrom}
 use Rattle.lists.specs.Places.{limited}
 use Rattle.marks.specs.declared.Marks.{Marks}
+use Rattle.marks.specs.Sets.{setWidth}
 use Rattle.tables.specs.declared.rule.RuleRange.{RuleRange}
 use Rattle.tables.specs.declared.rule.Transition.{Transition}
 use Rattle.tables.specs.declared.load.Load.{Load}
@@ -91,16 +92,19 @@ budgetIn b = leb b maxBudget
 unfoldable pub loadIn : (number : ℕ) → Load → Bool
 loadIn k l = parentIn k (l .parent) && powerIn (l .power) && worthIn (l .worth)
 
--- "numbered 1 to 64"
+-- "numbered 1 to 64": the code's limit. What is shown of tables holds for every limit up to the numbers that a set of loads can hold.
 abbrev pub maxLoads : ℕ
 maxLoads = 64
 
-unfoldable pub loadsIn : List Load → Bool
-loadsIn ls = leb (length ls) maxLoads && everyFrom loadIn 1 ls
+abbrev pub mostPlaces : ℕ
+mostPlaces = setWidth
+
+unfoldable pub loadsIn : (places : ℕ) → List Load → Bool
+loadsIn n ls = leb (length ls) n && everyFrom loadIn 1 ls
 
 -- the tables keep the limits
 unfoldable pub limits : Tables → Bool
-limits t = bookIn (t .book) && loadsIn (t .loads) && budgetIn (t .budget)
+limits t = bookIn (t .book) && loadsIn (t .places) (t .loads) && budgetIn (t .budget) && leb (t .places) mostPlaces
 
 abbrev pub Limits : Tables → Type 0
 Limits t = limits t ≡ true

@@ -17,16 +17,16 @@ use Rattle.tables.specs.declared.tables.StoredBook.{StoredBook}
 use Rattle.tables.specs.declared.tables.StoredTables.{StoredTables}
 use Rattle.tables.specs.declared.tables.Changed.{Changed}
 use Rattle.tables.specs.Tables.{Transition, Load, noLoad, emptyBook}
-use Rattle.tables.specs.Limits.{maxRules, maxLoads, sameRule}
-use Rattle.tables.specs.Stored.{rulesOf, loadsOf, storedBook}
+use Rattle.tables.specs.Limits.{maxRules, sameRule}
+use Rattle.tables.specs.Stored.{rulesOf, loadsOf, placesOf, storedBook}
 use Rattle.tables.specs.Changes.{withPower, withWorth}
 
 -- "64 loads or 32 rules of that sort already": 6; "the same rule already in the book": 7; else 0
 unfoldable pub ruleNumber : List Transition → Transition → ℕ
 ruleNumber rs r = pick (leb maxRules (length rs)) 6 (pick (some (sameRule r) rs) 7 0)
 
-unfoldable pub loadNumber : List Load → ℕ
-loadNumber ls = pick (leb maxLoads (length ls)) 6 0
+unfoldable pub loadNumber : (places : ℕ) → List Load → ℕ
+loadNumber n ls = pick (leb n (length ls)) 6 0
 
 -- what is new where the number is 0, else what was
 abbrev pub accepted : {A : Type 0} → ℕ → A → A → A
@@ -41,15 +41,15 @@ appended l r =
 
 unfoldable pub loadAppended : LoadList → Load → LoadsAppended
 loadAppended l x =
-    let n = loadNumber (loadsOf l) in
+    let n = loadNumber (placesOf l) (loadsOf l) in
     record { number = n; list = accepted n (record { items = set (l .items) (l .count) x; count = l .count + 1 }) l }
 
 -- load k is at place k - 1; a number outside 1 to 64 reads an unused place, and changes nothing
 unfoldable pub loadAt : LoadList → (number : ℕ) → Load
-loadAt l k = pick (within maxLoads k) (getD (l .items) (k - 1) noLoad) noLoad
+loadAt l k = pick (within (placesOf l) k) (getD (l .items) (k - 1) noLoad) noLoad
 
 unfoldable pub loadReplaced : LoadList → (number : ℕ) → Load → LoadList
-loadReplaced l k x = pick (within maxLoads k) (record { items = set (l .items) (k - 1) x; count = l .count }) l
+loadReplaced l k x = pick (within (placesOf l) k) (record { items = set (l .items) (k - 1) x; count = l .count }) l
 
 unfoldable pub powerSet : LoadList → (number watts : ℕ) → LoadList
 powerSet l k w = loadReplaced l k (withPower (loadAt l k) w)

@@ -9,8 +9,8 @@ use Rattle.tables.specs.declared.rule.TransitionList.{TransitionList}
 use Rattle.tables.specs.declared.load.LoadList.{LoadList}
 use Rattle.tables.specs.declared.tables.StoredBook.{StoredBook}
 use Rattle.tables.specs.Tables.{noRule, noLoad}
-use Rattle.tables.specs.Limits.{maxRules, maxLoads, ruleIn, sameRule, rulesIn, bookIn, loadIn, loadsIn}
-use Rattle.tables.specs.Stored.{rulesOf, loadsOf, bookOf, zeroRule, zeroLoad}
+use Rattle.tables.specs.Limits.{maxRules, ruleIn, sameRule, rulesIn, bookIn, loadIn, loadsIn}
+use Rattle.tables.specs.Stored.{rulesOf, loadsOf, placesOf, bookOf, zeroRule, zeroLoad}
 
 -- place i holds a rule in range that is not there again further on, or is unused and holds 0
 unfoldable pub rulePlace : RuleRange → TransitionList → ℕ → Bool
@@ -25,7 +25,7 @@ unfoldable pub rulesHeld : RuleRange → TransitionList → Bool
 rulesHeld m l = restFree zeroRule maxRules (l .count) (l .items) && rulesIn m (rulesOf l)
 
 unfoldable pub loadsHeld : LoadList → Bool
-loadsHeld l = restFree zeroLoad maxLoads (l .count) (l .items) && loadsIn (loadsOf l)
+loadsHeld l = restFree zeroLoad (placesOf l) (l .count) (l .items) && loadsIn (placesOf l) (loadsOf l)
 
 unfoldable pub bookHeld : StoredBook → Bool
 bookHeld b =

@@ -1,5 +1,6 @@
 -- The tables as a planner holds them, in arrays, and the test of tables that are handed in.
 -- It stands for "A planner handed in keeps these limits when .." of paper 01, with "unused places hold 0". Assumes nothing.
+use Prim.Native.Nat.{ℕ}
 use mathlib.Core.Path.{_≡_}
 use mathlib.Core.Bool.{Bool, _&&_}
 use mathlib.Core.List.{List}
@@ -14,14 +15,14 @@ use Rattle.tables.specs.declared.tables.StoredTables.{StoredTables}
 use Rattle.tables.specs.declared.rule.Transition.{Transition}
 use Rattle.tables.specs.declared.load.Load.{Load}
 use Rattle.tables.specs.Tables.{Book, Tables, noRule, noLoad}
-use Rattle.tables.specs.Limits.{maxRules, maxLoads, limits, Limits}
+use Rattle.tables.specs.Limits.{maxRules, limits, Limits}
 
 -- where the tables lie; "unused places hold 0"
 abbrev pub storedRules : List Transition → TransitionList
 storedRules rs = record { items = laid noRule maxRules rs; count = length rs }
 
-abbrev pub storedLoads : List Load → LoadList
-storedLoads ls = record { items = laid noLoad maxLoads ls; count = length ls }
+abbrev pub storedLoads : (places : ℕ) → List Load → LoadList
+storedLoads n ls = record { items = laid noLoad n ls; count = length ls }
 
 unfoldable pub storedBook : Book → StoredBook
 storedBook b = record {
@@ -34,7 +35,7 @@ storedBook b = record {
 }
 
 unfoldable pub stored : Tables → StoredTables
-stored t = record { book = storedBook (t .book); loads = storedLoads (t .loads); budget = t .budget }
+stored t = record { book = storedBook (t .book); loads = storedLoads (t .places) (t .loads); budget = t .budget }
 
 -- the tables that lie there
 abbrev pub rulesOf : TransitionList → List Transition
@@ -42,6 +43,10 @@ rulesOf l = take (l .count) (l .items)
 
 abbrev pub loadsOf : LoadList → List Load
 loadsOf l = take (l .count) (l .items)
+
+-- the limit of loads is the number of places that the array has: 64 in the code, by its type
+abbrev pub placesOf : LoadList → ℕ
+placesOf l = length (l .items)
 
 unfoldable pub bookOf : StoredBook → Book
 bookOf b = record {
@@ -54,13 +59,12 @@ bookOf b = record {
 }
 
 unfoldable pub tablesOf : StoredTables → Tables
-tablesOf s = record { book = bookOf (s .book); loads = loadsOf (s .loads); budget = s .budget }
+tablesOf s = record { book = bookOf (s .book); loads = loadsOf (s .loads); budget = s .budget; places = placesOf (s .loads) }
 
--- the arrays have the lengths that their types give them
+-- the arrays of rules have the lengths that their types give them
 pub record Lengths (s : StoredTables) : Type 0 where
   pub loadRules : length (s .book .«load_rules» .items) ≡ maxRules
   pub rowRules : length (s .book .«row_rules» .items) ≡ maxRules
-  pub loads : length (s .loads .items) ≡ maxLoads
 
 -- "unused places hold 0"
 unfoldable pub zeroRule : Transition → Bool
@@ -74,9 +78,9 @@ unfoldable pub keepsLimits : StoredTables → Bool
 keepsLimits s =
     restFree zeroRule maxRules (s .book .«load_rules» .count) (s .book .«load_rules» .items)
     && restFree zeroRule maxRules (s .book .«row_rules» .count) (s .book .«row_rules» .items)
-    && restFree zeroLoad maxLoads (s .loads .count) (s .loads .items)
+    && restFree zeroLoad (placesOf (s .loads)) (s .loads .count) (s .loads .items)
     && limits (tablesOf s)
 
--- they hold tables that keep the limits
-abbrev pub Holds : StoredTables → Type 0
-Holds s = (t : Tables) × Limits t × (s ≡ stored t)
+-- they hold tables that keep the limits, with so many places for loads
+abbrev pub Holds : (places : ℕ) → StoredTables → Type 0
+Holds n s = (t : Tables) × Limits t × (s ≡ stored t) × (t .places ≡ n)

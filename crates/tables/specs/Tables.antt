@@ -17,11 +17,12 @@ pub record Book : Type 0 where
   pub loadRules : List Transition
   pub rowRules : List Transition
 
--- the loads are "numbered 1 to 64 in order of entry"
+-- the loads are "numbered 1 to 64 in order of entry": 64 is `places`, the limit of loads, which no line changes
 pub record Tables : Type 0 where
   pub book : Book
   pub loads : List Load
   pub budget : ℕ
+  pub places : ℕ
 
 -- what an unused place holds
 abbrev pub noRule : Transition
@@ -35,5 +36,5 @@ abbrev pub emptyBook : (states stages : ℕ) → Book
 emptyBook s g = record { states = s; stages = g; starts = record { 0 = 0 }; ends = record { 0 = 0 }; loadRules = []; rowRules = [] }
 
 -- "A fresh planner has 0 states and stages, no rules, no loads and budget 0."
-unfoldable pub fresh : Tables
-fresh = record { book = emptyBook 0 0; loads = []; budget = 0 }
+unfoldable pub fresh : (places : ℕ) → Tables
+fresh n = record { book = emptyBook 0 0; loads = []; budget = 0; places = n }

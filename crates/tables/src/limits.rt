@@ -103,7 +103,7 @@ impl StoredTables {
     // Exactly if these are tables that keep the limits, laid out, with 0 at every unused place.
     pub fn keeps_limits(self) -> bool
         ensures equation { λ r. ⌜ r ≡ keepsLimits self ⌝ }
-        ensures exactly { λ r. ⌜ (r ≡ true) ↔ Holds self ⌝ }
+        ensures exactly { λ r. ⌜ (r ≡ true) ↔ Holds maxLoads self ⌝ }
     {
         self.book.keeps_limits() & self.loads.keeps_limits() & (self.budget <= MAX_BUDGET)
     }

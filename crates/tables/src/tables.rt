@@ -1,6 +1,7 @@
 // The tables as the planner holds them, and the changes that the commands make.
 ghost use mathlib.Core.Path.{_≡_};
 ghost use Rattle.tables.specs.Tables.{fresh, emptyBook};
+ghost use Rattle.tables.specs.Limits.{maxLoads};
 ghost use Rattle.tables.specs.Stored.{storedBook, stored};
 ghost use Rattle.tables.specs.Operations.{putBook, putLoads, bookBegun, startMarked, endMarked, loadRuleAdded, rowRuleAdded, loadAdded, powerChanged, worthChanged, budgetChanged};
 use crate::load::Load;
@@ -53,7 +54,7 @@ impl StoredBook {
 impl StoredTables {
     // The tables of a fresh planner.
     pub fn fresh() -> StoredTables
-        ensures { λ r. ⌜ r ≡ stored fresh ⌝ }
+        ensures { λ r. ⌜ r ≡ stored (fresh maxLoads) ⌝ }
     {
         StoredTables {
             book: StoredBook::empty(0, 0),

@@ -7,10 +7,11 @@ use borrow.Author.Tests.{not-true, not-false}
 use lib.ListN.{length}
 use Rattle.lists.specs.Tests.{pick}
 use Rattle.lists.proofs.Arrays.{of-map}
+use Rattle.tables.specs.Limits.{maxLoads}
 use Rattle.tables.specs.Stored.{tablesOf, keepsLimits}
 use Rattle.judge.specs.declared.Verdict.the-variants.{Yes, No}
 use Rattle.judge.specs.Verdict.{judged}
-use Rattle.judge.proofs.Kept.{kept, loads-counted}
+use Rattle.tables.proofs.Kept.{kept, loads-counted, few-loads}
 use Rattle.judge.proofs.Answers.{limit-broken, no-loads, not-three, says}
 use Rattle.judge.proofs.judge.Statement.{statement}
 use Rattle.judge.proofs.judge.Tie as tie
@@ -20,7 +21,7 @@ keeps : (c : tie.Else1) → keepsLimits (c .before .before .before .args .t) ≡
 keeps c = sym (c .before .keeps-limits .ensures .0) ∙ not-false (c .before .keeps-limits .result) (c .if1 .left)
 
 counted : (c : tie.Else1) → length (tablesOf (c .before .before .before .args .t) .loads) ≡ c .before .before .before .args .t .loads .count
-counted c = let t = c .before .before .before .args .t in loads-counted t (search (needs, of-map)) (kept t (keeps c))
+counted c = let t = c .before .before .before .args .t in loads-counted t (kept t (keeps c))
 
 returns : tie.Need-returns
 returns c =
@@ -33,7 +34,7 @@ returns-2 c =
     no-loads (a .t) (a .run .now) (keeps (c .before)) (counted (c .before) ∙ c .if2 .taken)
 
 mul-if3 : tie.Need-mul-if3
-mul-if3 c = let t = c .before .before .before .before .args .t in omega (arith, kept t (keeps (c .before)) .loads)
+mul-if3 c = let t = c .before .before .before .before .args .t in omega (arith, few-loads maxLoads t (search (needs, of-map)) (kept t (keeps (c .before))))
 
 returns-3 : tie.Need-returns-3
 returns-3 c =

@@ -6,17 +6,18 @@ use borrow.Author.Needs.{needs}
 use borrow.Author.Tests.{not-true, not-false}
 use lib.ListN.{length, getD}
 use Rattle.lists.proofs.Arrays.{of-map}
+use Rattle.tables.specs.Limits.{maxLoads}
 use Rattle.tables.specs.Stored.{bookOf, tablesOf}
+use Rattle.tables.proofs.Kept.{kept, loads-counted, few-loads}
 use Rattle.meaning.specs.Judge.{starts}
 use Rattle.judge.specs.Verdict.{proposed}
-use Rattle.judge.proofs.Kept.{kept, loads-counted}
 use Rattle.judge.proofs.Root.{root-no-start, root-row-rule, root-runs}
 use Rattle.judge.proofs.tree_runs.Statement.{statement}
 use Rattle.judge.proofs.tree_runs.Tie as tie
 
 -- there is a load
 some-load : (s : tie.Start) → 0 < length (tablesOf (s .args .t) .loads)
-some-load s = omega (arith, loads-counted (s .args .t) (search (needs, of-map)) (kept (s .args .t) (s .pre .0)))
+some-load s = omega (arith, loads-counted (s .args .t) (kept (s .args .t) (s .pre .0)))
 
 -- what the first test looks at
 start-at : (c : tie.After-is-start) → (let a = c .before .before .before .args in starts (tablesOf (a .t) .book) (getD (a .run .now) 0 0)) ≡ c .is-start .result
@@ -39,7 +40,7 @@ returns-2 c =
 branch-runs-requires : tie.Need-branch-runs-requires
 branch-runs-requires c κs =
     let s = c .before .before .before .before .before .before .before .before .before .before .before .before in
-    (omega arith, s .pre .1, kept (s .args .t) (s .pre .0) .loads)
+    (omega arith, s .pre .1, few-loads maxLoads (s .args .t) (search (needs, of-map)) (kept (s .args .t) (s .pre .0)))
 
 returns-3 : tie.Need-returns-3
 returns-3 c =

@@ -14,7 +14,7 @@ use Rattle.load_planner.proofs.answer.Statement.{statement}
 use Rattle.load_planner.proofs.answer.Tie as tie
 
 lengths : (c : tie.Start) → Lengths (c .args .s .planner .tables)
-lengths c = record { loadRules = search (needs, of-map); rowRules = search (needs, of-map); loads = search (needs, of-map) }
+lengths c = record { loadRules = search (needs, of-map); rowRules = search (needs, of-map) }
 
 -- no answer is longer than the output
 show-requires : tie.Need-show-requires

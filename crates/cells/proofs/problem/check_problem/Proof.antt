@@ -5,6 +5,7 @@ use mathlib.Core.Bool.{true}
 use borrow.Author.Needs.{needs}
 use lib.ListN.{length}
 use Rattle.lists.proofs.Arrays.{of-map}
+use Rattle.tables.specs.Limits.{maxLoads}
 use Rattle.cells.proofs.Lawful.{lawful}
 use Rattle.cells.proofs.problem.check_problem.Statement.{statement}
 use Rattle.cells.proofs.problem.check_problem.Tie as tie
@@ -15,7 +16,7 @@ rules-long c = search (needs, of-map)
 rows-long : (c : tie.Start) → length (c .args .tables .book .«row_rules» .items) ≡ 32
 rows-long c = search (needs, of-map)
 
-loads-long : (c : tie.Start) → length (c .args .tables .loads .items) ≡ 64
+loads-long : (c : tie.Start) → length (c .args .tables .loads .items) ≡ maxLoads
 loads-long c = search (needs, of-map)
 
 returns : tie.Need-returns

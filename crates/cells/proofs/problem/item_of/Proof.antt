@@ -6,7 +6,7 @@ use native.Mathlib.Omega.{arith}
 use borrow.Author.Needs.{needs}
 use lib.Dec.{eqb}
 use Rattle.lists.specs.Argmax.{guard}
-use Rattle.marks.specs.Bits.{hasMark}
+use Rattle.marks.specs.Sets.{hasLoad}
 use Rattle.tables.specs.declared.load.Load.{Load}
 use Rattle.tables.specs.declared.load.LoadList.{LoadList}
 use Rattle.tables.specs.Stored.{loadsOf}
@@ -24,7 +24,7 @@ abbrev only : ℕ → Item
 only m = record { power = 0; worth = 0; serves = λ t. eqb (t .label) m }
 
 module _ (p : Problem) (k : ℕ) (l : Load) where
-  fixed : p .fixed ≡ true → (b : Bool) → b ≡ hasMark (p .set .0) k → (t : Bool) → b ≡ t → only (guard t 1) ≡ itemsFor p k l
+  fixed : p .fixed ≡ true → (b : Bool) → b ≡ hasLoad (p .set) k → (t : Bool) → b ≡ t → only (guard t 1) ≡ itemsFor p k l
   fixed f b h t e = ap (λ (x : Bool). only (guard x 1)) (sym e ∙ h) ∙ ap (λ (x : Bool). itemsIf x (p .set) k l) (sym f)
 
   free : p .fixed ≡ false → planned k l ≡ itemsFor p k l

@@ -5,6 +5,8 @@ use native.Mathlib.Nat.{le-refl}
 use borrow.Author.Needs.{needs}
 use lib.ListN.{length}
 use Rattle.lists.proofs.Arrays.{of-map}
+use Rattle.marks.specs.Sets.{noLoads}
+use Rattle.tables.specs.Limits.{maxLoads}
 use Rattle.cells.proofs.Lawful.{lawful}
 use Rattle.cells.proofs.problem.plan_problem.Statement.{statement}
 use Rattle.cells.proofs.problem.plan_problem.Tie as tie
@@ -15,11 +17,11 @@ rules-long c = search (needs, of-map)
 rows-long : (c : tie.Start) → length (c .args .tables .book .«row_rules» .items) ≡ 32
 rows-long c = search (needs, of-map)
 
-loads-long : (c : tie.Start) → length (c .args .tables .loads .items) ≡ 64
+loads-long : (c : tie.Start) → length (c .args .tables .loads .items) ≡ maxLoads
 loads-long c = search (needs, of-map)
 
 returns : tie.Need-returns
-returns c = let s = c .args in (refl, lawful (s .tables) (c .pre) (rules-long c) (rows-long c) (loads-long c) (s .tables .budget) (le-refl _) false (record { 0 = 0 }))
+returns c = let s = c .args in (refl, lawful (s .tables) (c .pre) (rules-long c) (rows-long c) (loads-long c) (s .tables .budget) (le-refl _) false noLoads)
 
 pub plan-problem-spec : {M : Type 1} → statement M
 plan-problem-spec = tie.close (tie.spec returns)

@@ -8,7 +8,8 @@ use lib.ListN.{length, getD}
 use lib.Seq.{getD-take, length-take-le}
 use Rattle.lists.specs.Argmax.{guard}
 use Rattle.lists.proofs.Arrays.{of-map}
-use Rattle.marks.specs.Bits.{hasMark}
+use Rattle.marks.specs.Sets.{hasLoad}
+use Rattle.tables.specs.Limits.{maxLoads}
 use Rattle.tables.specs.declared.load.Load.{Load}
 use Rattle.tables.specs.Tables.{noLoad}
 use Rattle.tables.specs.Stored.{loadsOf}
@@ -35,10 +36,10 @@ loop-again c =
     let s = c .before .before .before .before .before .before in
     let l = c .before .before .before .before .before .loop in
     let ls = s .args .t1 in
-    let full : length (ls .items) ≡ 64 = search (needs, of-map) in
+    let full : length (ls .items) ≡ maxLoads = search (needs, of-map) in
     let n : length (loadsOf ls) ≡ ls .count = length-take-le (ls .count) (ls .items) (omega arith) in
     let on : guard (c .before .before .has .result) 1 ≡ markIn (s .args .set) (suc (l .i)) =
-    ap (λ t. guard t 1) (c .before .before .has .ensures) ∙ ap (λ k. guard (hasMark (s .args .set .0) k) 1) (add-one (l .i)) in
+    ap (λ t. guard t 1) (c .before .before .has .ensures) ∙ ap (λ k. guard (hasLoad (s .args .set) k) 1) (add-one (l .i)) in
     let e : getD (ls .items) (l .i) noLoad ≡ getD (loadsOf ls) (l .i) noLoad = sym (getD-take (ls .count) (ls .items) (l .i) noLoad (omega arith)) in (
       omega arith,
       omega (arith, c .before .counted-if .ensures .1),
@@ -52,7 +53,7 @@ returns c =
     let s = c .before .before in
     let l = c .before .loop in
     let ls = s .args .t1 in
-    let full : length (ls .items) ≡ 64 = search (needs, of-map) in
+    let full : length (ls .items) ≡ maxLoads = search (needs, of-map) in
     let n : length (loadsOf ls) ≡ ls .count = length-take-le (ls .count) (ls .items) (omega arith) in
     ap₂ (λ p w. record { power = p; worth = w })
     (added-all (powerIn (markIn (s .args .set))) (loadsOf ls) (l .power) (l .i) (omega arith) (l .inv .3))

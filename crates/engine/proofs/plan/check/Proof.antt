@@ -1,8 +1,9 @@
 -- `check` meets its contract: the cells of the checked set are filled and read back. Assumes nothing.
-use Prim.Native.Nat.{_≤_}
+use Prim.Native.Nat.{_*_, _≤_}
 use mathlib.Core.Path.{_≡_, ap, _∙_}
 use native.Mathlib.Omega.{arith}
 use borrow.Author.Needs.{needs}
+use Rattle.tables.specs.Limits.{maxLoads}
 use Rattle.cells.specs.Problem.{shapeOf}
 use Rattle.cells.specs.Work.{cellsNeeded}
 use Rattle.engine.proofs.Planning.{complete, check-is, check-cells}
@@ -13,7 +14,7 @@ cells-needed-requires : tie.Need-cells-needed-requires
 cells-needed-requires c κs = rw (c .shape-of .ensures) (c .before .check-problem .ensures .1 .sane)
 
 -- one allowance needs few cells
-room : (c : tie.After-check-problem) → cellsNeeded (shapeOf (c .check-problem .result)) ≤ 1024
+room : (c : tie.After-check-problem) → cellsNeeded (shapeOf (c .check-problem .result)) ≤ maxLoads * 16
 room c = check-cells (c .before .args .t) (c .check-problem .result) (c .check-problem .ensures .1) (c .before .args .set) (c .check-problem .ensures .0)
 
 count : (c : tie.After-cells-needed) → c .cells-needed .result ≡ cellsNeeded (shapeOf (c .before .before .check-problem .result))

@@ -15,7 +15,7 @@ use Rattle.tables.specs.Stored.{rulesOf, bookOf, tablesOf}
 use Rattle.judge.specs.declared.figures.Step.{Step}
 use Rattle.judge.specs.Verdict.{proposed}
 use Rattle.judge.specs.Figures.{stepOf}
-use Rattle.judge.proofs.Kept.{kept, loads-counted}
+use Rattle.tables.proofs.Kept.{kept, loads-counted, few-loads}
 use Rattle.judge.proofs.Places.{Filled, fill-none, fill-next}
 use Rattle.judge.proofs.figures.look_up.Statement.{statement}
 use Rattle.judge.proofs.figures.look_up.Tie as tie
@@ -44,7 +44,7 @@ loop-holds : tie.Need-loop-holds Inv-loop μ-loop
 loop-holds c =
     let s = c .before .before .before .before in (
       omega arith,
-      kept (s .args .t) (s .pre .0) .loads,
+      few-loads maxLoads (s .args .t) (search (needs, of-map)) (kept (s .args .t) (s .pre .0)),
       s .pre .1,
       fill-none maxLoads _ _ refl,
       fill-none maxLoads _ _ refl,
@@ -80,7 +80,7 @@ returns c =
     let loads = s .args .t .loads in
     let k = kept (s .args .t) (s .pre .0) in
     let inv = c .before .loop .inv in
-    let counted = loads-counted (s .args .t) (search (needs, of-map)) k in
+    let counted = loads-counted (s .args .t) k in
     record {
       lawful = k .lawful;
       count = counted;

@@ -4,6 +4,7 @@ use native.Mathlib.Omega.{arith}
 use borrow.Author.Needs.{needs}
 use borrow.Author.Tests.{not-true, not-false}
 use Rattle.lines.proofs.Wrote.{free-length}
+use Rattle.tables.specs.Limits.{maxLoads}
 use Rattle.tables.specs.Stored.{Holds}
 use Rattle.calls.specs.Calls.{Call}
 use Rattle.planner.specs.declared.call.Called.{Called}
@@ -18,7 +19,7 @@ made : tie.Start → Call
 made e = callOf (e .args .line .now) (e .args .out .now) (e .args .place) (e .args .work .now)
 
 -- past the test of limits
-held : (c : tie.Else1) → Holds (c .before .before .before .before .before .args .self .tables)
+held : (c : tie.Else1) → Holds maxLoads (c .before .before .before .before .before .args .self .tables)
 held c = c .before .keeps-limits .ensures .1 .0 (not-false _ (c .if1 .left))
 
 returns : tie.Need-returns

@@ -11,7 +11,7 @@ use lib.ListN.{length}
 use Rattle.lines.specs.declared.Command.the-variants as line
 use Rattle.tables.specs.declared.load.Load.{Load}
 use Rattle.tables.specs.declared.tables.StoredTables.{StoredTables}
-use Rattle.tables.specs.Limits.{loadIn, maxLoads}
+use Rattle.tables.specs.Limits.{loadIn}
 use Rattle.tables.specs.Stored.{tablesOf}
 use Rattle.tables.specs.Operations.{loadAdded}
 use Rattle.tables.proofs.Changes.{load-added}
@@ -57,8 +57,8 @@ returns-2 c =
     let s = e .args .self .tables in
     let ls = tablesOf s .loads in
     let fits = sym (load-fits (number e) (line-load e) (named k)) ∙ not-false _ (c .before .before .if1 .left) in
-    operated s (e .pre) (line.Load (e .args .parent) (e .args .power) (e .args .worth)) (loadIn (number e) (line-load e)) ((6 if leb maxLoads (length ls)) ∷ []) refl fits
-    _ (c .before .add-load .ensures ∙ ap (loadAdded s) (load-is (number e) (line-load e) (named k) fits) ∙ ap (λ (x : StoredTables). loadAdded x (line-load e)) (is-stored s (e .pre)) ∙ rw (load-lowest ls) (load-added (tablesOf s) (lawful s (e .pre)) (line-load e)))
+    operated s (e .pre) (line.Load (e .args .parent) (e .args .power) (e .args .worth)) (loadIn (number e) (line-load e)) ((6 if leb (tablesOf s .places) (length ls)) ∷ []) refl fits
+    _ (c .before .add-load .ensures ∙ ap (loadAdded s) (load-is (number e) (line-load e) (named k) fits) ∙ ap (λ (x : StoredTables). loadAdded x (line-load e)) (is-stored s (e .pre)) ∙ rw (load-lowest (tablesOf s .places) ls) (load-added (tablesOf s) (lawful s (e .pre)) (line-load e)))
     (c .settled2 .ensures)
 
 pub load-spec : {M : Type 1} → statement M

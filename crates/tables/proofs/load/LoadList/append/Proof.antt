@@ -5,7 +5,7 @@ use borrow.Author.Needs.{needs}
 use lib.ListN.{length, length-take}
 use Rattle.lists.proofs.Arrays.{of-map}
 use Rattle.tables.specs.Limits.{maxLoads}
-use Rattle.tables.specs.Stored.{loadsOf}
+use Rattle.tables.specs.Stored.{loadsOf, placesOf}
 use Rattle.tables.specs.Operations.{loadAppended}
 use Rattle.tables.proofs.Numbers.{load-full, load-new}
 use Rattle.tables.proofs.load.LoadList.append.Statement.{statement}
@@ -18,13 +18,13 @@ returns : tie.Need-returns
 unfolding loadAppended
 returns c =
     let l = c .before .args .self in
-    rw (load-full (loadsOf l) .1 (omega (arith, c .if1 .taken, len (c .before), length-take (l .count) (l .items))))
+    rw (load-full (placesOf l) (loadsOf l) .1 (omega (arith, c .if1 .taken, len (c .before), length-take (l .count) (l .items))))
 
 returns-2 : tie.Need-returns-2
 unfolding loadAppended
 returns-2 c =
     let l = c .before .args .self in
-    rw (load-new (loadsOf l) .1 (omega (arith, c .if1 .left, len (c .before), length-take (l .count) (l .items))))
+    rw (load-new (placesOf l) (loadsOf l) .1 (omega (arith, c .if1 .left, len (c .before), length-take (l .count) (l .items))))
 
 pub append-spec : {M : Type 1} → statement M
 append-spec = tie.close (tie.spec returns (λ c. search needs) (λ c. search needs) (λ c. search needs) returns-2)

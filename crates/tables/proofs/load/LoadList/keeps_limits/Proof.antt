@@ -32,7 +32,7 @@ returns : tie.Need-returns Inv-loop μ-loop
 returns c =
     let a = c .before .before in
     let e : a .loop .i ≡ maxLoads = omega arith in
-    rw (a .loop .inv .1, e) (loads-placed (a .before .args .self) (len (a .before)))
+    rw (a .loop .inv .1, e, ← len (a .before)) (loads-placed (a .before .args .self))
 
 pub keeps-limits-spec : {M : Type 1} → statement M
 keeps-limits-spec =
