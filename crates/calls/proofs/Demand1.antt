@@ -9,38 +9,35 @@ use borrow.Author.Tests.{eqb-true, eqb-false, ltb-false}
 use lib.Dec.{eqb, lit≤}
 use lib.ListN.{length, take, drop, length-take, length-append}
 use lib.Seq.{sets, sets-eq, take-at, drop-at}
-use Rattle.lines.specs.declared.Command.{Command}
-use Rattle.lines.specs.Grammar.{parse}
-use Rattle.lines.specs.Answers.{refused, freeBytes}
-use Rattle.tables.specs.declared.tables.StoredTables.{StoredTables}
-use Rattle.tables.specs.Tables.{Tables}
-use Rattle.tables.specs.Limits.{Limits}
-use Rattle.tables.specs.Stored.{stored, placesOf, tablesOf, keepsLimits, Lengths}
-use Rattle.tables.proofs.Stored.{tables-stored, stored-keeps, keeps-exactly}
-use Rattle.calls.specs.Causes.{Cause, _if_, lowest, allCauses, refusal}
+use Rattle.lines.specs.Answers.{refused}
+use Rattle.calls.specs.State.{State, StoredState, storedState, stateOf, keeps, Within, Sized}
+use Rattle.calls.specs.Rows.{Cause, _if_, Row, bytesOf}
+use Rattle.calls.specs.Causes.{lowest, allCauses, refusal}
 use Rattle.calls.specs.Printing.{text}
-use Rattle.calls.specs.Calls.{Call, Reply, numberOf, reply, answer, turnedAway, handled, calledIf, called}
+use Rattle.calls.specs.Calls.{Call, Reply, rowFor, numberOf, reply, answer, turnedAway, handled, calledIf, called}
 use Rattle.calls.specs.Demand1.{Demand1}
-use Rattle.calls.proofs.Numbers.{causes-lowest, refusal-most, refused-keeps}
+use Rattle.calls.proofs.State.{state-stored, keeps-stored, keeps-kept, kept-within, kept-stored}
+use Rattle.calls.proofs.Rows.{Right, line-right}
+use Rattle.calls.proofs.Refusals.{causes-lowest, refusal-most, refused-keeps}
 use Rattle.calls.proofs.Answers.{called-stored, answer-at}
-use Rattle.calls.proofs.Work.{clash, unchanged, unsearched, plan-zeroed}
-use Rattle.calls.proofs.Fits.{answer-fits}
+use Rattle.calls.proofs.Work.{clash, unsearched, row-zeroed}
+use Rattle.calls.proofs.Keeps.{answer-fits}
 use Rattle.calls.proofs.Printed.{written-is}
 
 -- ---- a planner that breaks a limit
-broken : (s : StoredTables) (c : Call) → keepsLimits s ≡ false → Demand1 s c (record { tables = s; reply = turnedAway c })
+broken : (p : StoredState) (c : Call) → keeps p ≡ false → Demand1 p c (record { state = p; reply = turnedAway c })
 unfolding lowest
-broken s c e =
+broken p c e =
     record {
-      number = rw e (causes-lowest (tablesOf s) (length (c .work)) true (c .line) (length (c .output)) (c .place));
+      number = rw e (causes-lowest (line-right (stateOf p) (length (c .work)) (c .line)) true (length (c .output)) (c .place));
       most = lit≤ tt;
       state = λ _. refl;
       one = λ _. refl;
       prints = λ h. absurd (omega (arith, h));
-      fits = lit≤ tt;
+      fits = omega arith;
       before = refl;
       behind = refl;
-      cleared = λ _ e. absurd (clash (sym e));
+      cleared = λ e. absurd (clash (sym e));
       unchanged = λ _. refl;
     }
 
@@ -63,27 +60,33 @@ unfolding lowest
 not-one true cs d = absurd (d refl)
 not-one false cs d = refl
 
-refusal-text : (t : Tables) (n : ℕ) (k : Command) → 2 ≤ n → text t n k ≡ refused n
+refusal-text : (n : ℕ) (r : Row) → 2 ≤ n → text n r ≡ refused n
 unfolding text
-refusal-text t zero k h = absurd (omega arith)
-refusal-text t (suc zero) k h = absurd (omega arith)
-refusal-text t (suc (suc n)) k h = refl
+refusal-text zero r h = absurd (omega arith)
+refusal-text (suc zero) r h = absurd (omega arith)
+refusal-text (suc (suc n)) r h = refl
 
-module _ (t : Tables) (h : Limits t) (c : Call) where
+module _ (s : State) (h : Within s) (c : Call) where
+  abbrev r : Row
+  r = rowFor s c
+
   abbrev n : ℕ
-  n = numberOf t c
+  n = numberOf s c
 
   abbrev bs : List ℕ
-  bs = text t n (parse (c .line))
+  bs = text n r
 
-  one : n ≡ 1 → answer t c ≡ turnedAway c
+  x : Right s (length (c .work)) r
+  x = line-right s (length (c .work)) (c .line)
+
+  one : n ≡ 1 → answer s c ≡ turnedAway c
   unfolding text
-  one e = answer-at t c 1 (parse (c .line)) e refl ∙ ap (reply c 1 []) (unsearched t 1 (parse (c .line)) (c .work) refl)
+  one e = answer-at s c 1 r e refl ∙ ap (reply c 1 []) (unsearched 1 r (c .work) refl)
 
   -- a call that is not turned away has room for its answer
   room : (n ≡ 1 → ⊥) → c .place + length bs ≤ length (c .output)
   unfolding refusal allCauses answer
-  room d = omega (arith, ltb-false (length (c .output)) (c .place + freeBytes) (not-one _ _ d), answer-fits t h c)
+  room d = omega (arith, ltb-false (length (c .output)) (c .place + bytesOf r) (not-one _ _ d), answer-fits s h c)
 
   one-or-room : (n ≡ 1) ⊎ (c .place + length bs ≤ length (c .output))
   one-or-room = go (eqb n 1) refl
@@ -92,30 +95,31 @@ module _ (t : Tables) (h : Limits t) (c : Call) where
       go true e = inl (eqb-true n 1 e)
       go false e = inr (room (eqb-false n 1 e))
 
-  held : Demand1 (stored t) c (handled t c)
+  held : Demand1 (storedState s) c (handled s c)
   unfolding answer refusal lowest
   held =
       record {
-        number = rw (stored-keeps t h, tables-stored t h) (causes-lowest t (length (c .work)) false (c .line) (length (c .output)) (c .place));
-        most = refusal-most t (length (c .work)) (c .line) (length (c .output)) (c .place);
-        state = λ l. ap stored (refused-keeps t c l);
+        number = rw (keeps-stored s h, state-stored s h) (causes-lowest x false (length (c .output)) (c .place));
+        most = refusal-most x (length (c .output)) (c .place);
+        state = λ l. ap storedState (refused-keeps s c l);
         one = one;
-        prints = λ l. written-is (c .output) bs (c .place) (room (λ e. absurd (omega (arith, l, e)))) ∙ refusal-text t n (parse (c .line)) l;
-        fits = answer-fits t h c;
+        prints = λ l. written-is (c .output) bs (c .place) (room (λ e. absurd (omega (arith, l, e)))) ∙ refusal-text n r l;
+        fits = rw (state-stored s h) (answer-fits s h c);
         before = ⊎-elim (λ e. ap (λ (r : Reply). take (c .place) (r .output)) (one e)) (stored-before (c .output) bs (c .place)) one-or-room;
         behind = ⊎-elim
             (λ e. subst (λ (r : Reply). drop (c .place + r .count) (r .output) ≡ drop (c .place + r .count) (c .output)) (sym (one e)) refl)
             (stored-behind (c .output) bs (c .place)) one-or-room;
-        cleared = λ p e. rw (tables-stored t h) (plan-zeroed t n (parse (c .line)) (c .work) p e);
-        unchanged = unchanged t n (parse (c .line)) (c .work);
+        cleared = λ e. rw (state-stored s h) (row-zeroed n r (c .work) e);
+        unchanged = unsearched n r (c .work);
       }
 
-pub demand1 : (s : StoredTables) → Lengths s → (c : Call) → Demand1 s c (called s c)
+pub demand1 : {n : ℕ} (p : StoredState) → Sized n p → (c : Call) → Demand1 p c (called p c)
 unfolding called
-demand1 s len c = go (keepsLimits s) refl
+demand1 p len c = go (keeps p) refl
   where
-    go : (b : Bool) → keepsLimits s ≡ b → Demand1 s c (called s c)
-    go false e = subst (λ (b : Bool). Demand1 s c (calledIf b s c)) (sym e) (broken s c e)
+    go : (b : Bool) → keeps p ≡ b → Demand1 p c (called p c)
+    go false e = subst (λ (b : Bool). Demand1 p c (calledIf b p c)) (sym e) (broken p c e)
     go true e =
-        let h = keeps-exactly s len (placesOf (s .loads)) refl .0 e in
-        subst (λ (x : StoredTables). Demand1 x c (called x c)) (sym (h .2)) (subst (Demand1 (stored (h .0)) c) (sym (called-stored (h .0) (h .1) c)) (held (h .0) (h .1) c))
+        let h = keeps-kept p len e in
+        let s = stateOf p in
+        subst (λ (x : StoredState). Demand1 x c (called x c)) (sym (kept-stored p h)) (subst (Demand1 (storedState s) c) (sym (called-stored s (kept-within p h) c)) (held s (kept-within p h) c))

@@ -1,22 +1,18 @@
 -- Every answer fits the bytes that must be free. Assumes nothing.
 use Prim.Native.Nat.{ℕ, zero, suc, _+_, _*_, _≤_, _<_, zero-le}
-use mathlib.Core.Path.{_≡_, refl}
+use mathlib.Core.Path.{_≡_}
 use mathlib.Core.Bool.{Bool, true, false, _&&_}
 use mathlib.Core.List.{List, [], _∷_, map}
 use native.Mathlib.Nat.{mul-suc}
 use native.Mathlib.Omega.{arith}
 use borrow.Author.Tests.{leb-true, eqb-false}
-use lib.Dec.{lit≤, eqb, ltb}
+use lib.Dec.{lit≤, eqb}
 use lib.ListN.{length, length-map}
 use Rattle.lists.specs.Tests.{everyFrom}
 use Rattle.lists.specs.Argmax.{guard}
 use Rattle.lists.proofs.Bools.{and-left, and-right}
-use Rattle.marks.specs.Sets.{markIn}
-use Rattle.lines.specs.declared.Command.{Command}
-use Rattle.lines.specs.declared.Command.the-variants as line
-use Rattle.lines.specs.Grammar.{parse}
 use Rattle.lines.specs.Answers.{freeBytes, AllRanged}
-use Rattle.lines.proofs.Answers.{plan-fits, check-fits, refused-fits}
+use Rattle.lines.proofs.Answers.{plan-fits, check-fits}
 use Rattle.tables.specs.declared.load.Load.{Load}
 use Rattle.tables.specs.Tables.{Tables}
 use Rattle.tables.specs.Limits.{powerIn, worthIn, parentIn, loadIn, mostPlaces, Limits}
@@ -30,11 +26,7 @@ use Rattle.meaning.proofs.Entries.{Listed, plan-listed, check-listed}
 use Rattle.meaning.proofs.InOrder.{listed-length}
 use Rattle.meaning.proofs.Limits.{lawful, narrow}
 use Rattle.meaning.proofs.Claims.{claims}
-use Rattle.meaning.specs.Cells.{cellsOf}
-use Rattle.calls.specs.Causes.{lowest, noneFits, causes, allCauses, refusal}
-use Rattle.calls.specs.Printing.{lineOf, planText, checkText, printed, text}
-use Rattle.calls.specs.Calls.{Call, answer}
-use Rattle.calls.proofs.Numbers.{passed, refusal-most}
+use Rattle.calls.specs.Rows.{noneFits, lineOf, planned, allowed, shownText}
 use Rattle.calls.proofs.Answers.{positive}
 
 -- ---- load lines
@@ -104,41 +96,13 @@ module _ (t : Tables) (h : Limits t) where
   unfolding checkEntries
   check-few σ = omega (arith, few, length-map (checkEntries t σ) lineOf, listed-length (check t σ) (length (t .loads)) (check-listed t (lawful t h .ordered) σ))
 
-  pub planned-fits : noneFits t ≡ false → length (planText t (planEntries t)) ≤ freeBytes
-  unfolding planText noneFits
+  pub planned-fits : noneFits t ≡ false → length (shownText (planned t (planEntries t))) ≤ freeBytes
+  unfolding noneFits
   planned-fits e =
       let σ = shownSet (planEntries t) in
       let fits = claims t h .planned (positive (eqb-false (bestPlan t) 0 e)) .optimum .fits in
       plan-fits (map lineOf (planEntries t)) plan-ranged plan-few (worth t σ) (power t σ) (numberOn t σ)
       (all-worth t h σ) (omega (arith, fits, leb-true (t .budget) 500 (limits-parts t h .budget))) (all-on t h σ)
 
-  printed-fits : (cells : ℕ) (c : Command) → lowest (causes t cells c) ≡ 0 → length (printed t c) ≤ freeBytes
-  unfolding printed causes checkText
-  printed-fits n line.Clear e = lit≤ tt
-  printed-fits n (line.Book s g) e = lit≤ tt
-  printed-fits n (line.Start q) e = lit≤ tt
-  printed-fits n (line.End g) e = lit≤ tt
-  printed-fits n (line.Rule q m g) e = lit≤ tt
-  printed-fits n (line.Row g q k) e = lit≤ tt
-  printed-fits n (line.Load p w v) e = lit≤ tt
-  printed-fits n (line.Power k w) e = lit≤ tt
-  printed-fits n (line.Worth k v) e = lit≤ tt
-  printed-fits n (line.Budget b) e = lit≤ tt
-  printed-fits n line.Plan e =
-      planned-fits (passed 8 (noneFits t) [] (passed 7 (ltb n (cellsOf t)) _ (passed 3 (eqb (length (t .loads)) 0) _ e .1) .1) .0)
-  printed-fits n (line.Check s k) e = check-fits (map lineOf (checkEntries t (markIn s))) (check-ranged (markIn s)) (check-few (markIn s))
-  printed-fits n line.Broken e = lit≤ tt
-
-  -- of a number of the table, and 0 only where no cause applies
-  pub text-fits : (cells n : ℕ) (c : Command) → n ≤ 10 → (n ≡ 0 → lowest (causes t cells c) ≡ 0) → length (text t n c) ≤ freeBytes
-  unfolding text
-  text-fits cells zero c m e = printed-fits cells c (e refl)
-  text-fits cells (suc zero) c m e = lit≤ tt
-  text-fits cells (suc (suc n)) c m e = refused-fits (suc (suc n)) (omega arith)
-
-  -- every answer fits
-  pub answer-fits : (c : Call) → answer t c .count ≤ freeBytes
-  unfolding answer refusal allCauses
-  answer-fits c =
-      text-fits (length (c .work)) _ (parse (c .line)) (refusal-most t (length (c .work)) (c .line) (length (c .output)) (c .place))
-      (λ e. passed 1 _ _ (passed 0 _ _ e .1) .1)
+  pub checked-fits : (σ : ℕ → ℕ) → length (shownText (allowed (checkEntries t σ))) ≤ freeBytes
+  checked-fits σ = check-fits (map lineOf (checkEntries t σ)) (check-ranged σ) (check-few σ)

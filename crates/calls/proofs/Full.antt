@@ -1,6 +1,6 @@
 -- With n places for loads, load lines in range meet refusal 6 exactly at line n + 1. Assumes nothing.
 use Prim.Native.Nat.{ℕ, zero, suc, _+_, _≤_, _<_}
-use mathlib.Core.Path.{_≡_, refl, sym, ap, subst, _∙_}
+use mathlib.Core.Path.{_≡_, refl, ap, _∙_}
 use mathlib.Core.Bool.{Bool, true, false}
 use mathlib.Core.List.{List, [], _∷_}
 use native.Mathlib.Omega.{arith}
@@ -10,53 +10,60 @@ use lib.ListN.{length}
 use Rattle.lists.specs.Tests.{pick}
 use Rattle.lists.proofs.Arrays.{length-snoc}
 use Rattle.lines.specs.declared.Command.the-variants as line
-use Rattle.lines.specs.Grammar.{parse}
-use Rattle.tables.specs.Tables.{Tables, fresh}
+use Rattle.lines.specs.declared.Change.the-variants as to
+use Rattle.tables.specs.Tables as on-paper
+use Rattle.tables.specs.Tables.{Tables}
 use Rattle.tables.specs.Limits.{mostPlaces}
-use Rattle.tables.specs.Stored.{stored}
 use Rattle.tables.specs.Changes.{addLoad}
-use Rattle.calls.specs.Causes.{_if_, lowest, load, causes}
-use Rattle.calls.specs.Effects.{effect, acted}
-use Rattle.calls.specs.Calls.{Call, Reply, after, numberOf, answer}
+use Rattle.calls.specs.State.{State, fresh, storedState}
+use Rattle.calls.specs.Rows.{_if_, Row, load, changing, row}
+use Rattle.calls.specs.Causes.{lowest, refusal}
+use Rattle.calls.specs.Calls.{Call, Reply, rowFor, after, numberOf, answer}
 use Rattle.calls.specs.Demand3.{Exchange, History, Right}
 use Rattle.calls.specs.Full.{LoadCall, LoadCalls, numberAt, FullAfter}
-use Rattle.calls.proofs.Numbers.{after-number}
-use Rattle.calls.proofs.Answers.{past-two}
+use Rattle.calls.proofs.Refusals.{after-number}
+use Rattle.calls.proofs.Answers.{roomy, row-is}
 use Rattle.calls.proofs.Demand3.{demand3}
 
 -- the number of such a line on tables with k loads, and the tables after one that is accepted
-module _ (n k : ℕ) (t : Tables) (places : t .places ≡ n) (loads : length (t .loads) ≡ k) (c : Call) (l : LoadCall n (suc k) c) where
-  load-number : numberOf t c ≡ pick (leb n k) 6 0
-  unfolding causes lowest
+module _ (n k : ℕ) (s : State) (places : s .tables .places ≡ n) (loads : length (s .tables .loads) ≡ k) (c : Call) (l : LoadCall (suc k) c) where
+  abbrev r : Row
+  r = row s (line.Change (to.Load (l .parent) (l .power) (l .worth)))
+
+  load-row : rowFor s c ≡ r
+  load-row = row-is s c (line.Change (to.Load (l .parent) (l .power) (l .worth))) (l .line) (l .short)
+
+  load-number : numberOf s c ≡ pick (leb n k) 6 0
+  unfolding row changing lowest
   load-number =
-      past-two t c (line.Load (l .parent) (l .power) (l .worth)) (l .line) (l .short) (l .free)
+      ap (refusal (length (c .work)) (length (c .output)) (c .place)) load-row ∙ roomy (length (c .work)) (length (c .output)) (c .place) r (l .free)
       ∙ rw (loads, places, l .fits) (go (leb n k))
     where
       go : (b : Bool) → lowest ((6 if b) ∷ []) ≡ pick b 6 0
       go true = refl
       go false = refl
 
-  load-after : k < n → after t c ≡ addLoad t (load (l .parent) (l .power) (l .worth))
-  unfolding effect
-  load-after h = after-number t c ∙ rw (load-number, lt-leb n k h, l .line)
+  load-after : k < n → after s c .tables ≡ addLoad (s .tables) (load (l .parent) (l .power) (l .worth))
+  unfolding row changing
+  load-after h = ap (λ (x : State). x .tables) (after-number s c) ∙ rw (load-number, lt-leb n k h, load-row)
 
-numbers : (n k : ℕ) (t : Tables) → t .places ≡ n → length (t .loads) ≡ k → (xs : List Exchange) → Right t xs → LoadCalls n (suc k) xs
+numbers : (n k : ℕ) (s : State) → s .tables .places ≡ n → length (s .tables .loads) ≡ k → (xs : List Exchange) → Right s xs → LoadCalls (suc k) xs
     → (j : ℕ) → k + j ≤ n → j < length xs → numberAt xs j ≡ pick (leb n (k + j)) 6 0
 unfolding answer
-numbers n k t p q [] r ls j most h = absurd (omega (arith, h))
-numbers n k t p q (x ∷ xs) r ls zero most h =
+numbers n k s p q [] r ls j most h = absurd (omega (arith, h))
+numbers n k s p q (x ∷ xs) r ls zero most h =
     let e : k + 0 ≡ k = omega arith in
-    ap (λ (r : Reply). r .number) (r .0) ∙ load-number n k t p q (x .call) (ls .0) ∙ rw e
-numbers n k t p q (x ∷ xs) r ls (suc j) most h =
+    ap (λ (r : Reply). r .number) (r .0) ∙ load-number n k s p q (x .call) (ls .0) ∙ rw e
+numbers n k s p q (x ∷ xs) r ls (suc j) most h =
     let e : k + suc j ≡ suc k + j = omega arith in
-    let a = load-after n k t p q (x .call) (ls .0) (omega arith) in
-    let more : length (after t (x .call) .loads) ≡ suc k = ap (λ (u : Tables). length (u .loads)) a ∙ omega (arith, length-snoc (t .loads) (load (ls .0 .parent) (ls .0 .power) (ls .0 .worth))) in
-    numbers n (suc k) (after t (x .call)) (ap (λ (u : Tables). u .places) a ∙ p) more xs (r .2) (ls .1) j (omega arith) (omega (arith, h))
+    let a = load-after n k s p q (x .call) (ls .0) (omega arith) in
+    let more : length (after s (x .call) .tables .loads) ≡ suc k = ap (λ (u : Tables). length (u .loads)) a ∙ omega (arith, length-snoc (s .tables .loads) (load (ls .0 .parent) (ls .0 .power) (ls .0 .worth))) in
+    numbers n (suc k) (after s (x .call)) (ap (λ (u : Tables). u .places) a ∙ p) more xs (r .2) (ls .1) j (omega arith) (omega (arith, h))
     ∙ rw e
 
 -- for every limit n up to `mostPlaces`
-pub full-after : (n : ℕ) → n ≤ mostPlaces → (xs : List Exchange) → History (stored (fresh n)) xs → LoadCalls n 1 xs → FullAfter n xs
-unfolding fresh
+pub full-after : (n : ℕ) → n ≤ mostPlaces → (xs : List Exchange) → History (storedState (fresh n)) xs → LoadCalls 1 xs → FullAfter n xs
+unfolding on-paper.fresh
 full-after n few xs y ls =
     let at = numbers n 0 (fresh n) refl refl xs (demand3 n few xs y .plans) ls in
     record {

@@ -1,58 +1,44 @@
--- Every accepted line keeps the limits. Assumes nothing.
-use Prim.Native.Nat.{ℕ, zero, suc}
+-- Every accepted line keeps the limits, and every answer fits. Assumes nothing.
+use Prim.Native.Nat.{ℕ, zero, suc, _≤_}
 use mathlib.Core.Path.{_≡_, refl}
-use mathlib.Core.Bool.{_&&_}
-use mathlib.Core.List.{List, []}
-use borrow.Author.Tests.{leb-false}
-use lib.Dec.{leb}
+use native.Mathlib.Omega.{arith}
 use lib.ListN.{length}
-use Rattle.lists.specs.Tests.{some}
-use Rattle.lists.proofs.Bools.{and-right}
-use Rattle.lines.specs.declared.Command.{Command}
-use Rattle.lines.specs.declared.Command.the-variants as line
-use Rattle.lines.specs.Grammar.{parse}
-use Rattle.tables.specs.Tables.{Tables}
-use Rattle.tables.specs.Limits.{between, bookSize, ruleIn, loadRuleRange, rowRuleRange, sameRule, maxRules, loadIn, powerIn, worthIn, budgetIn, Limits}
-use Rattle.tables.proofs.Parts.{limits-parts}
-use Rattle.tables.proofs.Keeps.{fresh-limits, new-book-keeps, mark-start-keeps, mark-end-keeps, add-load-rule-keeps, add-row-rule-keeps, add-load-keeps, set-power-keeps, set-worth-keeps, set-budget-keeps}
-use Rattle.calls.specs.Causes.{lowest, rule, load, isLoad, causes, allCauses, refusal}
-use Rattle.calls.specs.Effects.{effect, acted, changed}
-use Rattle.calls.proofs.Numbers.{passed, passed-not}
+use Rattle.lines.proofs.Answers.{refused-fits}
+use Rattle.tables.specs.Limits.{Limits}
+use Rattle.calls.specs.State.{State, Within}
+use Rattle.calls.specs.Rows.{Row, bytesOf, causesOf}
+use Rattle.calls.specs.Causes.{lowest, allCauses, refusal}
+use Rattle.calls.specs.Effects.{acted, changed}
+use Rattle.calls.specs.Printing.{text}
+use Rattle.calls.specs.Calls.{Call, rowFor, after, answer}
+use Rattle.calls.proofs.Numbers.{passed}
+use Rattle.calls.proofs.Rows.{Right, line-right}
+use Rattle.calls.proofs.Refusals.{refusal-most}
 
-module _ (t : Tables) (h : Limits t) where
-  pub effect-keeps : (n : ℕ) (c : Command) → lowest (causes t n c) ≡ 0 → Limits (effect t c)
-  unfolding effect causes
-  effect-keeps n line.Clear e = fresh-limits (t .places) (limits-parts t h .places)
-  effect-keeps n (line.Book s g) e = new-book-keeps t h s g (passed-not 4 (bookSize s g) [] e .0)
-  effect-keeps n (line.Start q) e = mark-start-keeps t h q (passed-not 4 (between 1 (t .book .states) q) [] e .0)
-  effect-keeps n (line.End g) e = mark-end-keeps t h g (passed-not 4 (between 1 (t .book .stages) g) [] e .0)
-  effect-keeps n (line.Rule q m g) e =
-      let rs = t .book .loadRules in
-      let a = passed-not 4 (ruleIn (loadRuleRange (t .book .states) (t .book .stages)) (rule q m g)) _ e in
-      let b = passed 5 (leb maxRules (length rs)) _ (a .1) in
-      let d = passed 6 (some (sameRule (rule q m g)) rs) [] (b .1) in
-      add-load-rule-keeps t h (rule q m g) (a .0) (leb-false maxRules (length rs) (b .0)) (d .0)
-  effect-keeps n (line.Row g q k) e =
-      let rs = t .book .rowRules in
-      let a = passed-not 4 (ruleIn (rowRuleRange (t .book .states) (t .book .stages)) (rule g q k)) _ e in
-      let b = passed 5 (leb maxRules (length rs)) _ (a .1) in
-      let d = passed 6 (some (sameRule (rule g q k)) rs) [] (b .1) in
-      add-row-rule-keeps t h (rule g q k) (a .0) (leb-false maxRules (length rs) (b .0)) (d .0)
-  effect-keeps n (line.Load p w v) e =
-      let a = passed-not 4 (loadIn (suc (length (t .loads))) (load p w v)) _ e in
-      let b = passed 5 (leb (t .places) (length (t .loads))) [] (a .1) in
-      add-load-keeps t h (load p w v) (a .0) (leb-false (t .places) (length (t .loads)) (b .0))
-  effect-keeps n (line.Power k w) e = set-power-keeps t h k w (and-right (isLoad t k) (powerIn w) (passed-not 4 (isLoad t k && powerIn w) [] e .0))
-  effect-keeps n (line.Worth k v) e = set-worth-keeps t h k v (and-right (isLoad t k) (worthIn v) (passed-not 4 (isLoad t k && worthIn v) [] e .0))
-  effect-keeps n (line.Budget w) e = set-budget-keeps t h w (passed-not 4 (budgetIn w) [] e .0)
-  effect-keeps n line.Plan e = h
-  effect-keeps n (line.Check s k) e = h
-  effect-keeps n line.Broken e = h
+-- no cause at all: none of the row
+pub none-of-row : (n room place : ℕ) (r : Row) → refusal n room place r ≡ 0 → lowest (causesOf n r) ≡ 0
+unfolding refusal allCauses
+none-of-row n room place r e = passed 0 _ _ e .1
 
-  pub changed-keeps : (s : List ℕ) (room place : ℕ) → Limits (changed t s room place)
-  unfolding changed refusal allCauses
-  changed-keeps s room place = go (refusal t 0 s room place) (λ e. passed 1 _ _ (passed 0 _ _ e .1) .1)
+module _ (s : State) (h : Within s) where
+  pub after-within : (c : Call) → Within (after s c)
+  unfolding changed
+  after-within c = record { tables = go (refusal 0 (length (c .output)) (c .place) (rowFor s c)) (none-of-row 0 (length (c .output)) (c .place) (rowFor s c)) }
     where
-      go : (n : ℕ) → (n ≡ 0 → lowest (causes t 0 (parse s)) ≡ 0) → Limits (acted t n (parse s))
-      go zero e = effect-keeps 0 (parse s) (e refl)
-      go (suc n) e = h
+      go : (n : ℕ) → (n ≡ 0 → lowest (causesOf 0 (rowFor s c)) ≡ 0) → Limits (acted (s .tables) n (rowFor s c))
+      go zero e = line-right s 0 (c .line) .keeps h (e refl)
+      go (suc n) e = h .tables
+
+  -- of a number of the table, and 0 only where no cause applies
+  pub text-fits : (cells n : ℕ) {r : Row} → Right s cells r → n ≤ 10 → (n ≡ 0 → lowest (causesOf cells r) ≡ 0) → length (text n r) ≤ bytesOf r
+  unfolding text
+  text-fits cells zero x m e = x .shown h (e refl) .fits
+  text-fits cells (suc zero) x m e = omega arith
+  text-fits cells (suc (suc n)) x m e = omega (arith, refused-fits (suc (suc n)) (omega arith), x .room)
+
+  -- every answer fits
+  pub answer-fits : (c : Call) → answer s c .count ≤ bytesOf (rowFor s c)
+  unfolding answer
+  answer-fits c =
+      let x = line-right s (length (c .work)) (c .line) in
+      text-fits (length (c .work)) _ x (refusal-most x (length (c .output)) (c .place)) (none-of-row (length (c .work)) (length (c .output)) (c .place) (rowFor s c))

@@ -1,9 +1,12 @@
 -- The theorems on calls, from the ground up: Demand1, Demand2 and Demand3 have the last ones.
+pub mod State
 pub mod Numbers
-pub mod Keeps
 pub mod Answers
 pub mod Work
 pub mod Fits
+pub mod Rows
+pub mod Refusals
+pub mod Keeps
 pub mod Printed
 pub mod Demand1
 pub mod Demand2

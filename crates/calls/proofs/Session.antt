@@ -19,13 +19,14 @@ use Rattle.meaning.specs.Cell.{cell, _⊕_}
 use Rattle.meaning.specs.Best.{best, bestTree, bestPlan, bestCheck}
 use Rattle.meaning.specs.Choice.{choose, chooseTree, plan, check, find, inOrder, planEntries, checkEntries}
 use Rattle.meaning.specs.Cells.{cellsOf}
-use Rattle.calls.specs.Causes.{lowest, noneFits, notAllowed, causes, allCauses, refusal}
-use Rattle.calls.specs.Effects.{effect, changed}
-use Rattle.calls.specs.Printing.{planText, checkText, printed, text, zeroed, workAfter}
+use Rattle.calls.specs.Rows.{noneFits, notAllowed, changing, row as rowOf, lineRow}
+use Rattle.calls.specs.Causes.{lowest, allCauses, refusal}
+use Rattle.calls.specs.Effects.{changed}
+use Rattle.calls.specs.Printing.{text, zeroed, workAfter}
 use Rattle.calls.specs.Calls.{answer, called}
 use Rattle.calls.specs.Program.{exchanges, printedBy, sessionWith}
 use Rattle.calls.specs.Session.{sessionRight}
 
 pub session-right : sessionRight ≡ true
-unfolding some every everyFrom distinct laid limited argmax hasMark withMark joined hasLoad same decimalTo decimal field fields isNumber valueFrom isBits joinedFrom parse findForm refused planLine loadLine loadLines lines fresh ruleIn sameRule bookIn loadIn loadsIn limits storedBook stored bookOf tablesOf zeroRule zeroLoad keepsLimits row tree sum cell _⊕_ best bestTree bestPlan bestCheck choose chooseTree plan check find inOrder planEntries checkEntries lowest cellsOf noneFits notAllowed causes allCauses refusal effect changed planText checkText printed text zeroed workAfter answer called exchanges printedBy sessionWith sessionRight
+unfolding some every everyFrom distinct laid limited argmax hasMark withMark joined hasLoad same decimalTo decimal field fields isNumber valueFrom isBits joinedFrom parse findForm refused planLine loadLine loadLines lines fresh ruleIn sameRule bookIn loadIn loadsIn limits storedBook stored bookOf tablesOf zeroRule zeroLoad keepsLimits row tree sum cell _⊕_ best bestTree bestPlan bestCheck choose chooseTree plan check find inOrder planEntries checkEntries lowest cellsOf noneFits notAllowed changing rowOf lineRow allCauses refusal changed text zeroed workAfter answer called exchanges printedBy sessionWith sessionRight
 session-right = refl

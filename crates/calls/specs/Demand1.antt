@@ -5,38 +5,35 @@
 -- of every function. The judge's part stands in the crate judge.) Assumes nothing.
 use Prim.Native.Nat.{_+_, _≤_, _<_}
 use mathlib.Core.Path.{_≡_}
-use mathlib.Core.Bool.{true, not}
+use mathlib.Core.Bool.{true, false, not}
 use mathlib.Core.List.{List, _∷_}
 use lib.ListN.{length, take, drop}
-use Rattle.lines.specs.declared.Command.the-variants.{Plan}
-use Rattle.lines.specs.Grammar.{parse}
-use Rattle.lines.specs.Answers.{refused, freeBytes}
-use Rattle.tables.specs.declared.tables.StoredTables.{StoredTables}
-use Rattle.tables.specs.Stored.{tablesOf, keepsLimits}
-use Rattle.meaning.specs.Cells.{cellsOf}
-use Rattle.calls.specs.Causes.{Cause, _if_, allCauses, Lowest}
+use Rattle.lines.specs.Answers.{refused}
+use Rattle.calls.specs.State.{StoredState, stateOf, keeps}
+use Rattle.calls.specs.Rows.{Cause, _if_, bytesOf, cellsFor}
+use Rattle.calls.specs.Causes.{allCauses, Lowest}
 use Rattle.calls.specs.Printing.{zeroed, searched}
-use Rattle.calls.specs.Calls.{Call, Done, written, turnedAway}
+use Rattle.calls.specs.Calls.{Call, rowFor, Done, written, turnedAway}
 
--- every cause of the table, in its order: "a planner handed in that breaks a limit", then those of its tables
-abbrev pub causesOf : StoredTables → Call → List Cause
-causesOf s c = (1 if not (keepsLimits s)) ∷ allCauses (tablesOf s) (length (c .work)) (c .line) (length (c .output)) (c .place)
+-- every cause of the table, in its order: "a planner handed in that breaks a limit", then those of its state
+abbrev pub causesOf : StoredState → Call → List Cause
+causesOf p c = (1 if not (keeps p)) ∷ allCauses (length (c .work)) (length (c .output)) (c .place) (rowFor (stateOf p) c)
 
-pub record Demand1 (s : StoredTables) (c : Call) (d : Done) : Type 0 where
+pub record Demand1 (p : StoredState) (c : Call) (d : Done) : Type 0 where
   -- its answer, or exactly in the paper's case one numbered refusal
-  pub number : Lowest (causesOf s c) (d .reply .number)
+  pub number : Lowest (causesOf p c) (d .reply .number)
   pub most : d .reply .number ≤ 10
-  -- a refusal changes no table
-  pub state : 0 < d .reply .number → d .tables ≡ s
+  -- a refusal changes nothing that the planner keeps
+  pub state : 0 < d .reply .number → d .state ≡ p
   -- 1: "number, 0 bytes", and "everything" is left as it was
   pub one : d .reply .number ≡ 1 → d .reply ≡ turnedAway c
   -- from 2 on: "number, `no,N`"
   pub prints : 2 ≤ d .reply .number → written c (d .reply) ≡ refused (d .reply .number)
-  -- "1,024 bytes must be free from there": no answer is longer
-  pub fits : d .reply .count ≤ freeBytes
+  -- "1,024 bytes must be free from there": no answer is longer than the bytes that its line needs
+  pub fits : d .reply .count ≤ bytesOf (rowFor (stateOf p) c)
   -- "Bytes before the place and after the answer keep their values."
   pub before : take (c .place) (d .reply .output) ≡ take (c .place) (c .output)
   pub behind : drop (c .place + d .reply .count) (d .reply .output) ≡ drop (c .place + d .reply .count) (c .output)
   -- "After a plan or refusal 9 those cells are 0; all other cells, and all cells after any other call, are unchanged."
-  pub cleared : parse (c .line) ≡ Plan → searched (d .reply .number) ≡ true → d .reply .work ≡ zeroed (cellsOf (tablesOf s)) (c .work)
-  pub unchanged : (parse (c .line) ≡ Plan → searched (d .reply .number) ≡ true → ⊥) → d .reply .work ≡ c .work
+  pub cleared : searched (d .reply .number) ≡ true → d .reply .work ≡ zeroed (cellsFor (rowFor (stateOf p) c)) (c .work)
+  pub unchanged : searched (d .reply .number) ≡ false → d .reply .work ≡ c .work

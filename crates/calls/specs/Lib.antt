@@ -1,5 +1,7 @@
--- What every call answers: the causes of a refusal, the effect of a line, what is printed, a call, and lists of calls.
+-- What every call answers: the state, the rows of the table, the causes of a refusal, the effect of a line, what is printed, a call, and lists of calls.
 -- In the order of paper 01; Demand1, Demand2 and Demand3 have what is proved of them, and Program what the line program prints.
+pub mod State
+pub mod Rows
 pub mod Causes
 pub mod Effects
 pub mod Printing

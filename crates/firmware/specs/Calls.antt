@@ -4,7 +4,8 @@ use Prim.Native.Nat.{ℕ}
 use mathlib.Core.List.{List}
 use Rattle.calls.specs.Calls.{Done}
 use Rattle.planner.specs.declared.Planner.{Planner}
+use Rattle.planner.specs.Planner.{held}
 use Rattle.firmware.specs.declared.Reply.{Reply}
 
 abbrev pub doneOf : Planner → Reply → (output work : List ℕ) → Done
-doneOf p r o w = record { tables = p .tables; reply = record { number = r .number; count = r .count; output = o; work = w } }
+doneOf p r o w = record { state = held p; reply = record { number = r .number; count = r .count; output = o; work = w } }

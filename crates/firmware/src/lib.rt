@@ -7,7 +7,7 @@ use planner::Planner;
 ghost use mathlib.Core.Path.{_≡_};
 ghost use Rattle.judge.specs.Verdict.{judged};
 ghost use Rattle.calls.specs.Calls.{called};
-ghost use Rattle.planner.specs.Planner.{fresh};
+ghost use Rattle.planner.specs.Planner.{held, fresh};
 ghost use Rattle.planner.specs.Calls.{callOf};
 ghost use Rattle.firmware.specs.Calls.{doneOf};
 ghost use Rattle.firmware.specs.Verdict.{verdictNumber};
@@ -30,7 +30,7 @@ struct Handled {
 }
 
 fn handle(planner: Planner, line: &[u8], out: &mut [u8], place: usize, work: &mut [u32]) -> Handled
-    ensures { λ r. ⌜ doneOf (r .planner) (r .reply) (now (out .exit)) (now (work .exit)) ≡ called (planner .tables) (callOf (now (line .entry)) (now (out .entry)) place (now (work .entry))) ⌝ }
+    ensures { λ r. ⌜ doneOf (r .planner) (r .reply) (now (out .exit)) (now (work .exit)) ≡ called (held planner) (callOf (now (line .entry)) (now (out .entry)) place (now (work .entry))) ⌝ }
 {
     let called = planner.call(line, out, place, work);
     let next = called.planner;
@@ -84,7 +84,7 @@ pub extern "C" fn hulmeide_call(
     place: usize,
     work: &mut [u32],
 ) -> Reply
-    ensures { λ r. ⌜ doneOf (now (planner .exit)) r (now (out .exit)) (now (work .exit)) ≡ called (now (planner .entry) .tables) (callOf (now (line .entry)) (now (out .entry)) place (now (work .entry))) ⌝ }
+    ensures { λ r. ⌜ doneOf (now (planner .exit)) r (now (out .exit)) (now (work .exit)) ≡ called (held (now (planner .entry))) (callOf (now (line .entry)) (now (out .entry)) place (now (work .entry))) ⌝ }
 {
     let handled = handle(*planner, line, out, place, work);
     *planner = handled.planner;

@@ -9,7 +9,8 @@ use Rattle.lists.specs.Tests.{every, some}
 use Rattle.marks.specs.Bits.{withMark}
 use Rattle.marks.specs.Sets.{joined}
 use Rattle.lines.specs.declared.Command.{Command}
-use Rattle.lines.specs.declared.Command.the-variants.{Clear, Book, Start, End, Rule, Row, Load, Power, Worth, Budget, Plan, Check, Broken}
+use Rattle.lines.specs.declared.Command.the-variants.{Change, Plan, Check, Broken}
+use Rattle.lines.specs.declared.Change.the-variants.{Clear, Book, Start, End, Rule, Row, Load, Power, Worth, Budget}
 use Rattle.lines.specs.Text.{bytes, same, decimalTo, decimal, field}
 use Rattle.lines.specs.Length.{tooLong}
 use Rattle.lines.specs.Grammar.{fields, isNumber, valueFrom, isBits, joinedFrom, find, parse}
@@ -21,11 +22,11 @@ abbrev reads : String → Command
 reads s = parse (bytes s)
 
 session : map reads ("book,2,2" ∷ "start,1" ∷ "end,2" ∷ "rule,1,0,2" ∷ "row,2,2,2" ∷ "load,0,10,0" ∷ "budget,30" ∷ "plan" ∷ "check,0100" ∷ "budget,501" ∷ [])
-    ≡ Book 2 2 ∷ Start 1 ∷ End 2 ∷ Rule 1 0 2 ∷ Row 2 2 2 ∷ Load 0 10 0 ∷ Budget 30 ∷ Plan ∷ Check (record { 0 = 2 }) 4 ∷ Budget 501 ∷ []
+    ≡ Change (Book 2 2) ∷ Change (Start 1) ∷ Change (End 2) ∷ Change (Rule 1 0 2) ∷ Change (Row 2 2 2) ∷ Change (Load 0 10 0) ∷ Change (Budget 30) ∷ Plan ∷ Check (record { 0 = 2 }) 4 ∷ Change (Budget 501) ∷ []
 unfolding same fields isNumber valueFrom isBits joinedFrom find parse every withMark joined
 session = refl
 
-others : map reads ("clear" ∷ "power,64,99999" ∷ "worth,0,1000" ∷ "check,1" ∷ []) ≡ Clear ∷ Power 64 99999 ∷ Worth 0 1000 ∷ Check (record { 0 = 1 }) 1 ∷ []
+others : map reads ("clear" ∷ "power,64,99999" ∷ "worth,0,1000" ∷ "check,1" ∷ []) ≡ Change Clear ∷ Change (Power 64 99999) ∷ Change (Worth 0 1000) ∷ Check (record { 0 = 1 }) 1 ∷ []
 unfolding same fields isNumber valueFrom isBits joinedFrom find parse every withMark joined
 others = refl
 

@@ -12,7 +12,8 @@ use Rattle.lists.proofs.Bools.{and-left, and-right}
 use Rattle.marks.specs.declared.LoadSet.{LoadSet}
 use Rattle.marks.specs.Sets.{hasLoad}
 use Rattle.lines.specs.declared.Command.{Command}
-use Rattle.lines.specs.declared.Command.the-variants.{Clear, Book, Start, End, Rule, Row, Load, Power, Worth, Budget, Plan, Check, Broken}
+use Rattle.lines.specs.declared.Command.the-variants.{Change, Plan, Check, Broken}
+use Rattle.lines.specs.declared.Change.the-variants.{Clear, Book, Start, End, Rule, Row, Load, Power, Worth, Budget}
 use Rattle.lines.specs.Text.{bytes, comma, nought, same, decimal}
 use Rattle.lines.specs.Grammar.{fields, isBit, isBits, table, find, parse}
 use Rattle.lines.specs.Written.{parted, bitsIn, written, Writable}
@@ -76,16 +77,16 @@ broken = refl
 
 pub written-parses : (c : Command) → Writable c → parse (written c) ≡ c
 unfolding written find same every
-written-parses Clear h = line-parse [] (word (bytes "clear") refl)
-written-parses (Book s g) h = line-parse (s ∷ g ∷ []) (word (bytes "book") refl) ∙ rw (decimal-form s (h .0), decimal-form g (h .1), decimal-value s, decimal-value g)
-written-parses (Start q) h = line-parse (q ∷ []) (word (bytes "start") refl) ∙ rw (decimal-form q h, decimal-value q)
-written-parses (End g) h = line-parse (g ∷ []) (word (bytes "end") refl) ∙ rw (decimal-form g h, decimal-value g)
-written-parses (Rule q m g) h = line-parse (q ∷ m ∷ g ∷ []) (word (bytes "rule") refl) ∙ rw (decimal-form q (h .0), decimal-form m (h .1), decimal-form g (h .2), decimal-value q, decimal-value m, decimal-value g)
-written-parses (Row g q k) h = line-parse (g ∷ q ∷ k ∷ []) (word (bytes "row") refl) ∙ rw (decimal-form g (h .0), decimal-form q (h .1), decimal-form k (h .2), decimal-value g, decimal-value q, decimal-value k)
-written-parses (Load p w v) h = line-parse (p ∷ w ∷ v ∷ []) (word (bytes "load") refl) ∙ rw (decimal-form p (h .0), decimal-form w (h .1), decimal-form v (h .2), decimal-value p, decimal-value w, decimal-value v)
-written-parses (Power k w) h = line-parse (k ∷ w ∷ []) (word (bytes "power") refl) ∙ rw (decimal-form k (h .0), decimal-form w (h .1), decimal-value k, decimal-value w)
-written-parses (Worth k v) h = line-parse (k ∷ v ∷ []) (word (bytes "worth") refl) ∙ rw (decimal-form k (h .0), decimal-form v (h .1), decimal-value k, decimal-value v)
-written-parses (Budget w) h = line-parse (w ∷ []) (word (bytes "budget") refl) ∙ rw (decimal-form w h, decimal-value w)
+written-parses (Change Clear) h = line-parse [] (word (bytes "clear") refl)
+written-parses (Change (Book s g)) h = line-parse (s ∷ g ∷ []) (word (bytes "book") refl) ∙ rw (decimal-form s (h .0), decimal-form g (h .1), decimal-value s, decimal-value g)
+written-parses (Change (Start q)) h = line-parse (q ∷ []) (word (bytes "start") refl) ∙ rw (decimal-form q h, decimal-value q)
+written-parses (Change (End g)) h = line-parse (g ∷ []) (word (bytes "end") refl) ∙ rw (decimal-form g h, decimal-value g)
+written-parses (Change (Rule q m g)) h = line-parse (q ∷ m ∷ g ∷ []) (word (bytes "rule") refl) ∙ rw (decimal-form q (h .0), decimal-form m (h .1), decimal-form g (h .2), decimal-value q, decimal-value m, decimal-value g)
+written-parses (Change (Row g q k)) h = line-parse (g ∷ q ∷ k ∷ []) (word (bytes "row") refl) ∙ rw (decimal-form g (h .0), decimal-form q (h .1), decimal-form k (h .2), decimal-value g, decimal-value q, decimal-value k)
+written-parses (Change (Load p w v)) h = line-parse (p ∷ w ∷ v ∷ []) (word (bytes "load") refl) ∙ rw (decimal-form p (h .0), decimal-form w (h .1), decimal-form v (h .2), decimal-value p, decimal-value w, decimal-value v)
+written-parses (Change (Power k w)) h = line-parse (k ∷ w ∷ []) (word (bytes "power") refl) ∙ rw (decimal-form k (h .0), decimal-form w (h .1), decimal-value k, decimal-value w)
+written-parses (Change (Worth k v)) h = line-parse (k ∷ v ∷ []) (word (bytes "worth") refl) ∙ rw (decimal-form k (h .0), decimal-form v (h .1), decimal-value k, decimal-value v)
+written-parses (Change (Budget w)) h = line-parse (w ∷ []) (word (bytes "budget") refl) ∙ rw (decimal-form w h, decimal-value w)
 written-parses Plan h = line-parse [] (word (bytes "plan") refl)
 written-parses (Check s n) h = check-parse s n ∙ rw (bits-form s n (h .0), ← (h .1), bits-count s n 1)
 written-parses Broken h = broken

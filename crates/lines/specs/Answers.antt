@@ -1,9 +1,11 @@
 -- What is printed: paper 01, "An accepted change prints `ok`" and what follows. Assumes nothing.
-use Prim.Native.Nat.{ℕ, _+_, _≤_, _<_}
+use Prim.Native.Nat.{ℕ, zero, suc, _+_, _≤_, _<_}
 use mathlib.Core.Path.{_≡_}
 use mathlib.Core.List.{List, [], _∷_, _++_}
 use lib.ListN.{length}
 use lib.Seq.{sets}
+use Rattle.lines.specs.declared.answer.Answer.{Answer}
+use Rattle.lines.specs.declared.answer.Answer.the-variants.{Accepted, Planned, Allowed, Refused}
 use Rattle.lines.specs.Text.{bytes, comma, lineFeed, field}
 
 -- "An accepted change prints `ok`."
@@ -39,6 +41,25 @@ loadLines (l ∷ ls) = loadLine l ++ loadLines ls
 
 abbrev pub load : (number mark state loadRule rowRule : ℕ) → LoadLine
 load k m q i j = record { number = k; mark = m; state = q; loadRule = i; rowRule = j }
+
+-- ---- an answer: for each of its cases the paper's number and text. "A call on a line returns its number, 0 if accepted"
+abbrev pub numberOf : Answer → ℕ
+numberOf Accepted = 0
+numberOf (Planned v w n) = 0
+numberOf Allowed = 0
+numberOf (Refused n) = n
+
+-- its text, with the lines of the run beside it
+abbrev pub textOf : Answer → List LoadLine → List ℕ
+textOf Accepted ls = ok
+textOf (Planned v w n) ls = planLine v w n ++ loadLines ls
+textOf Allowed ls = yes ++ loadLines ls
+textOf (Refused n) ls = refused n
+
+-- the answer of a change with this number
+abbrev pub answerOf : ℕ → Answer
+answerOf zero = Accepted
+answerOf (suc n) = Refused (suc n)
 
 -- "1,024 bytes must be free from there."
 abbrev pub freeBytes : ℕ

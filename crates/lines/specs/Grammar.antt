@@ -9,7 +9,8 @@ use Rattle.lists.specs.Tests.{pick, every}
 use Rattle.marks.specs.declared.LoadSet.{LoadSet}
 use Rattle.marks.specs.Sets.{noLoads, joined}
 use Rattle.lines.specs.declared.Command.{Command}
-use Rattle.lines.specs.declared.Command.the-variants.{Clear, Book, Start, End, Rule, Row, Load, Power, Worth, Budget, Plan, Check, Broken}
+use Rattle.lines.specs.declared.Command.the-variants.{Change, Plan, Check, Broken}
+use Rattle.lines.specs.declared.Change.the-variants.{Clear, Book, Start, End, Rule, Row, Load, Power, Worth, Budget}
 use Rattle.lines.specs.Text.{bytes, comma, nought, same}
 
 -- ---- "Fields stand in a fixed order, parted by commas, with no quoting and no blanks."
@@ -63,16 +64,16 @@ pub data Form : Type 0 where
 
 abbrev pub table : List Form
 table =
-    numbers (bytes "clear") 0 (λ n. Clear)
-    ∷ numbers (bytes "book") 2 (λ n. Book (n 1) (n 2))
-    ∷ numbers (bytes "start") 1 (λ n. Start (n 1))
-    ∷ numbers (bytes "end") 1 (λ n. End (n 1))
-    ∷ numbers (bytes "rule") 3 (λ n. Rule (n 1) (n 2) (n 3))
-    ∷ numbers (bytes "row") 3 (λ n. Row (n 1) (n 2) (n 3))
-    ∷ numbers (bytes "load") 3 (λ n. Load (n 1) (n 2) (n 3))
-    ∷ numbers (bytes "power") 2 (λ n. Power (n 1) (n 2))
-    ∷ numbers (bytes "worth") 2 (λ n. Worth (n 1) (n 2))
-    ∷ numbers (bytes "budget") 1 (λ n. Budget (n 1))
+    numbers (bytes "clear") 0 (λ n. Change Clear)
+    ∷ numbers (bytes "book") 2 (λ n. Change (Book (n 1) (n 2)))
+    ∷ numbers (bytes "start") 1 (λ n. Change (Start (n 1)))
+    ∷ numbers (bytes "end") 1 (λ n. Change (End (n 1)))
+    ∷ numbers (bytes "rule") 3 (λ n. Change (Rule (n 1) (n 2) (n 3)))
+    ∷ numbers (bytes "row") 3 (λ n. Change (Row (n 1) (n 2) (n 3)))
+    ∷ numbers (bytes "load") 3 (λ n. Change (Load (n 1) (n 2) (n 3)))
+    ∷ numbers (bytes "power") 2 (λ n. Change (Power (n 1) (n 2)))
+    ∷ numbers (bytes "worth") 2 (λ n. Change (Worth (n 1) (n 2)))
+    ∷ numbers (bytes "budget") 1 (λ n. Change (Budget (n 1)))
     ∷ numbers (bytes "plan") 0 (λ n. Plan)
     ∷ bits (bytes "check") (λ s n. Check s n)
     ∷ []

@@ -7,7 +7,8 @@ use Rattle.lists.specs.Tests.{pick}
 use Rattle.marks.specs.declared.LoadSet.{LoadSet}
 use Rattle.marks.specs.Sets.{hasLoad}
 use Rattle.lines.specs.declared.Command.{Command}
-use Rattle.lines.specs.declared.Command.the-variants.{Clear, Book, Start, End, Rule, Row, Load, Power, Worth, Budget, Plan, Check, Broken}
+use Rattle.lines.specs.declared.Command.the-variants.{Change, Plan, Check, Broken}
+use Rattle.lines.specs.declared.Change.the-variants.{Clear, Book, Start, End, Rule, Row, Load, Power, Worth, Budget}
 use Rattle.lines.specs.Text.{bytes, comma, nought, decimal}
 use Rattle.lines.specs.Grammar.{mostDigits, loadsOf}
 
@@ -26,16 +27,16 @@ bitsIn s k (suc n) = (nought + pick (hasLoad s k) 1 0) ∷ bitsIn s (suc k) n
 
 -- a line that breaks its form is no one line: the empty one is among them
 unfoldable pub written : Command → List ℕ
-written Clear = line "clear" []
-written (Book s g) = line "book" (s ∷ g ∷ [])
-written (Start q) = line "start" (q ∷ [])
-written (End g) = line "end" (g ∷ [])
-written (Rule q m g) = line "rule" (q ∷ m ∷ g ∷ [])
-written (Row g q h) = line "row" (g ∷ q ∷ h ∷ [])
-written (Load p w v) = line "load" (p ∷ w ∷ v ∷ [])
-written (Power k w) = line "power" (k ∷ w ∷ [])
-written (Worth k v) = line "worth" (k ∷ v ∷ [])
-written (Budget w) = line "budget" (w ∷ [])
+written (Change Clear) = line "clear" []
+written (Change (Book s g)) = line "book" (s ∷ g ∷ [])
+written (Change (Start q)) = line "start" (q ∷ [])
+written (Change (End g)) = line "end" (g ∷ [])
+written (Change (Rule q m g)) = line "rule" (q ∷ m ∷ g ∷ [])
+written (Change (Row g q h)) = line "row" (g ∷ q ∷ h ∷ [])
+written (Change (Load p w v)) = line "load" (p ∷ w ∷ v ∷ [])
+written (Change (Power k w)) = line "power" (k ∷ w ∷ [])
+written (Change (Worth k v)) = line "worth" (k ∷ v ∷ [])
+written (Change (Budget w)) = line "budget" (w ∷ [])
 written Plan = line "plan" []
 written (Check s n) = parted (bytes "check") (bitsIn s 1 n ∷ [])
 written Broken = []
@@ -45,16 +46,16 @@ abbrev Number : ℕ → Type 0
 Number n = n < 10 ^ mostDigits
 
 abbrev pub Writable : Command → Type 0
-Writable Clear = Unit {0}
-Writable (Book s g) = Number s × Number g
-Writable (Start q) = Number q
-Writable (End g) = Number g
-Writable (Rule q m g) = Number q × Number m × Number g
-Writable (Row g q h) = Number g × Number q × Number h
-Writable (Load p w v) = Number p × Number w × Number v
-Writable (Power k w) = Number k × Number w
-Writable (Worth k v) = Number k × Number v
-Writable (Budget w) = Number w
+Writable (Change Clear) = Unit {0}
+Writable (Change (Book s g)) = Number s × Number g
+Writable (Change (Start q)) = Number q
+Writable (Change (End g)) = Number g
+Writable (Change (Rule q m g)) = Number q × Number m × Number g
+Writable (Change (Row g q h)) = Number g × Number q × Number h
+Writable (Change (Load p w v)) = Number p × Number w × Number v
+Writable (Change (Power k w)) = Number k × Number w
+Writable (Change (Worth k v)) = Number k × Number v
+Writable (Change (Budget w)) = Number w
 Writable Plan = Unit {0}
 Writable (Check s n) = (0 < n) × (s ≡ loadsOf (bitsIn s 1 n))
 Writable Broken = Unit {0}

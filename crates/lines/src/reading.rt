@@ -1,5 +1,6 @@
 // Reading a line, left to right: its word, then its numbers or its bits. Reading stops at the first byte that breaks the form.
 use crate::COMMA;
+use crate::Change;
 use crate::Command;
 use crate::MOST_BYTES;
 use crate::NOUGHT;
@@ -194,7 +195,9 @@ fn alone(code: u64) -> Command
     ensures { λ r. ⌜ r ≡ numbered table code [] ⌝ }
 {
     match code {
-        CLEAR => Command::Clear,
+        CLEAR => Command::Change {
+            change: Change::Clear,
+        },
         PLAN => Command::Plan,
         _ => Command::Broken,
     }
@@ -204,9 +207,15 @@ fn with_one(code: u64, a: u32) -> Command
     ensures { λ r. ⌜ r ≡ numbered table code (a ∷ []) ⌝ }
 {
     match code {
-        START => Command::Start { state: a },
-        END => Command::End { stage: a },
-        BUDGET => Command::Budget { watts: a },
+        START => Command::Change {
+            change: Change::Start { state: a },
+        },
+        END => Command::Change {
+            change: Change::End { stage: a },
+        },
+        BUDGET => Command::Change {
+            change: Change::Budget { watts: a },
+        },
         _ => Command::Broken,
     }
 }
@@ -215,17 +224,23 @@ fn with_two(code: u64, a: u32, b: u32) -> Command
     ensures { λ r. ⌜ r ≡ numbered table code (a ∷ b ∷ []) ⌝ }
 {
     match code {
-        BOOK => Command::Book {
-            states: a,
-            stages: b,
+        BOOK => Command::Change {
+            change: Change::Book {
+                states: a,
+                stages: b,
+            },
         },
-        POWER => Command::Power {
-            number: a,
-            watts: b,
+        POWER => Command::Change {
+            change: Change::Power {
+                number: a,
+                watts: b,
+            },
         },
-        WORTH => Command::Worth {
-            number: a,
-            figure: b,
+        WORTH => Command::Change {
+            change: Change::Worth {
+                number: a,
+                figure: b,
+            },
         },
         _ => Command::Broken,
     }
@@ -235,20 +250,26 @@ fn with_three(code: u64, a: u32, b: u32, c: u32) -> Command
     ensures { λ r. ⌜ r ≡ numbered table code (a ∷ b ∷ c ∷ []) ⌝ }
 {
     match code {
-        RULE => Command::Rule {
-            state: a,
-            mark: b,
-            stage: c,
+        RULE => Command::Change {
+            change: Change::Rule {
+                state: a,
+                mark: b,
+                stage: c,
+            },
         },
-        ROW => Command::Row {
-            stage: a,
-            state: b,
-            next: c,
+        ROW => Command::Change {
+            change: Change::Row {
+                stage: a,
+                state: b,
+                next: c,
+            },
         },
-        LOAD => Command::Load {
-            parent: a,
-            power: b,
-            worth: c,
+        LOAD => Command::Change {
+            change: Change::Load {
+                parent: a,
+                power: b,
+                worth: c,
+            },
         },
         _ => Command::Broken,
     }

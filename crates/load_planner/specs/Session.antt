@@ -6,10 +6,11 @@ use lib.ListN.{length, take}
 use Rattle.lines.specs.Input.{mostKept}
 use Rattle.calls.specs.Program.{Left, Carried, afterChunk, afterChunks, started, lentCells}
 use Rattle.planner.specs.declared.Planner.{Planner}
+use Rattle.planner.specs.Planner.{held}
 use Rattle.load_planner.specs.declared.Session.{Session}
 
 abbrev pub leftOf : Planner → (output work : List ℕ) → Left
-leftOf p o w = record { tables = p .tables; output = o; work = w }
+leftOf p o w = record { state = held p; output = o; work = w }
 
 -- the bytes held are the first of the line's buffer
 abbrev pub carriedOf : Session → (line output work : List ℕ) → Carried

@@ -9,23 +9,27 @@ use lib.Dec.{leb}
 use lib.ListN.{length}
 use Rattle.lists.specs.Tests.{pick, some}
 use Rattle.lists.proofs.Bools.{and-left, and-right}
-use Rattle.lines.specs.declared.Command.{Command}
+use Rattle.lines.specs.declared.Change.{Change}
 use Rattle.tables.specs.declared.tables.StoredTables.{StoredTables}
 use Rattle.tables.specs.declared.tables.Changed as operation
 use Rattle.tables.specs.declared.rule.RuleRange.{RuleRange}
 use Rattle.tables.specs.declared.rule.Transition.{Transition}
 use Rattle.tables.specs.declared.load.Load.{Load}
 use Rattle.tables.specs.Tables.{Tables}
-use Rattle.tables.specs.Limits.{between, ruleIn, sameRule, maxRules, loadIn, maxLoads, Limits}
+use Rattle.tables.specs.Limits.{between, ruleIn, sameRule, maxRules, loadIn, maxLoads}
 use Rattle.tables.specs.Stored.{stored, tablesOf, Holds}
 use Rattle.tables.specs.Operations.{accepted, ruleNumber, loadNumber}
 use Rattle.tables.proofs.Parts.{limits-parts}
-use Rattle.tables.proofs.Stored.{tables-stored}
-use Rattle.calls.specs.Causes.{Cause, _if_, lowest, isLoad, causes}
-use Rattle.calls.specs.Effects.{effect, acted}
+use Rattle.calls.specs.Rows.{Cause, _if_, isLoad, Row, changes, effectOf, changing}
+use Rattle.calls.specs.Causes.{lowest}
+use Rattle.calls.specs.Effects.{acted}
+use Rattle.calls.specs.State.{Kept}
+use Rattle.calls.proofs.State.{is-stored, places, kept-within}
+use Rattle.planner.specs.declared.Planner.{Planner}
 use Rattle.planner.specs.declared.changes.Changed.{Changed}
 use Rattle.planner.specs.declared.changes.NamedRule.{NamedRule}
 use Rattle.planner.specs.declared.changes.NamedLoad.{NamedLoad}
+use Rattle.planner.specs.Planner.{held, stateIn}
 use Rattle.planner.specs.Changes.{namedRule, namedLoad, settled, changedBy}
 use Rattle.planner.proofs.Ranges.{inside}
 
@@ -57,69 +61,60 @@ load-lowest n ls = go (leb n (length ls))
     go false = refl
 
 -- ---- what a planner within the limits holds
-module _ (s : StoredTables) (h : Holds maxLoads s) where
-  same-tables : tablesOf s ≡ h .0
-  same-tables = ap tablesOf (h .2) ∙ tables-stored (h .0) (h .1)
+pub tables-count : (u : StoredTables) → Holds maxLoads u → u .loads .count ≡ length (tablesOf u .loads)
+unfolding stored
+tables-count u h = ap (λ (x : StoredTables). x .loads .count) (is-stored u h)
 
-  pub lawful : Limits (tablesOf s)
-  lawful = rw same-tables (h .1)
+module _ (p : Planner) (h : Kept maxLoads (held p)) where
+  pub load-count : p .tables .loads .count ≡ length (stateIn p .tables .loads)
+  load-count = tables-count (p .tables) (h .tables)
 
-  pub is-stored : s ≡ stored (tablesOf s)
-  is-stored = h .2 ∙ ap stored (sym same-tables)
+  pub few : p .tables .loads .count ≤ maxLoads
+  few = omega (arith, load-count, places (p .tables) (h .tables), limits-parts (stateIn p .tables) (kept-within (held p) h .tables) .few)
 
-  pub load-count : s .loads .count ≡ length (tablesOf s .loads)
-  unfolding stored
-  load-count = ap (λ (x : StoredTables). x .loads .count) is-stored
-
-  pub places : tablesOf s .places ≡ maxLoads
-  places = ap (λ (t : Tables). t .places) same-tables ∙ h .3
-
-  pub few : s .loads .count ≤ maxLoads
-  few = omega (arith, load-count, places, limits-parts (tablesOf s) lawful .few)
-
-acted-accepted : (t : Tables) (n : ℕ) (c : Command) → acted t n c ≡ accepted n (effect t c) t
-acted-accepted t zero c = refl
-acted-accepted t (suc n) c = refl
+acted-accepted : (t : Tables) (n : ℕ) (r : Row) → acted t n r ≡ accepted n (effectOf t r) t
+acted-accepted t zero r = refl
+acted-accepted t (suc n) r = refl
 
 -- ---- the ways out of a change whose first cause is "value out of its range"
-module _ (s : StoredTables) (h : Holds maxLoads s) (c : Command) {r : Changed} (b : Bool) (cs : List Cause) (first : causes (tablesOf s) 0 c ≡ (5 if not b) ∷ cs) where
+module _ (p : Planner) (h : Kept maxLoads (held p)) (c : Change) {r : Changed} (b : Bool) (cs : List Cause) (first : changing (tablesOf (p .tables)) c .causes ≡ (5 if not b) ∷ cs) where
   -- out of range: 5, and the planner as it was
-  pub out-of-range : b ≡ false → r ≡ settled 5 s → r ≡ changedBy (tablesOf s) c
+  pub out-of-range : b ≡ false → r ≡ settled p 5 (p .tables) → r ≡ changedBy (stateIn p) c
   unfolding changedBy
-  out-of-range e is = is ∙ rw (first, five b cs e) (ap (settled 5) (is-stored s h))
+  out-of-range e is = is ∙ rw (first, five b cs e) (ap (settled p 5) (is-stored (p .tables) (h .tables)))
 
   -- in range: the number and the tables that the operation gives
-  pub operated : b ≡ true → (d : operation.Changed) → d ≡ record { number = lowest cs; tables = stored (accepted (lowest cs) (effect (tablesOf s) c) (tablesOf s)) }
-      → r ≡ settled (d .number) (d .tables) → r ≡ changedBy (tablesOf s) c
+  pub operated : b ≡ true → (d : operation.Changed) → d ≡ record { number = lowest cs; tables = stored (accepted (lowest cs) (changing (tablesOf (p .tables)) c .after) (tablesOf (p .tables))) }
+      → r ≡ settled p (d .number) (d .tables) → r ≡ changedBy (stateIn p) c
   unfolding changedBy
-  operated e d given is = is ∙ rw (given, first, no-five b cs e, acted-accepted (tablesOf s) (lowest cs) c)
+  operated e d given is = is ∙ rw (given, acted-accepted (tablesOf (p .tables)) (lowest (changing (tablesOf (p .tables)) c .causes)) (changes (changing (tablesOf (p .tables)) c)), first, no-five b cs e)
 
 -- in range, where that is the only cause: accepted
-pub accepts : (s : StoredTables) (h : Holds maxLoads s) (c : Command) {r : Changed} (b : Bool) → causes (tablesOf s) 0 c ≡ (5 if not b) ∷ [] → b ≡ true
-    → (u : StoredTables) → u ≡ stored (effect (tablesOf s) c) → r ≡ settled 0 u → r ≡ changedBy (tablesOf s) c
+pub accepts : (p : Planner) (h : Kept maxLoads (held p)) (c : Change) {r : Changed} (b : Bool) → changing (tablesOf (p .tables)) c .causes ≡ (5 if not b) ∷ [] → b ≡ true
+    → (u : StoredTables) → u ≡ stored (changing (tablesOf (p .tables)) c .after) → r ≡ settled p 0 u → r ≡ changedBy (stateIn p) c
 unfolding lowest
-accepts s h c b first e u given is = operated s h c b [] first e (record { number = 0; tables = u }) (λ i. record { number = 0; tables = given i }) is
+accepts p h c b first e u given is = operated p h c b [] first e (record { number = 0; tables = u }) (λ i. record { number = 0; tables = given i }) is
 
 -- another power or worth of load k: c changes it where there is such a load and the figure fits
-module _ (s : StoredTables) (h : Holds maxLoads s) (c : Command) (k : ℕ) (fits : Bool) (first : causes (tablesOf s) 0 c ≡ (5 if not (isLoad (tablesOf s) k && fits)) ∷ [])
-    {there : Bool} (looked : there ≡ between 1 (s .loads .count) k) where
-  tested : there && fits ≡ isLoad (tablesOf s) k && fits
-  tested = ap (λ (b : Bool). b && fits) (looked ∙ ap (λ (n : ℕ). between 1 n k) (load-count s h))
+module _ (p : Planner) (h : Kept maxLoads (held p)) (c : Change) (k : ℕ) (fits : Bool) (first : changing (tablesOf (p .tables)) c .causes ≡ (5 if not (isLoad (tablesOf (p .tables)) k && fits)) ∷ [])
+    {there : Bool} (looked : there ≡ between 1 (p .tables .loads .count) k) where
+  tested : there && fits ≡ isLoad (tablesOf (p .tables)) k && fits
+  tested = ap (λ (b : Bool). b && fits) (looked ∙ ap (λ (n : ℕ). between 1 n k) (load-count p h))
 
-  pub figure-refused : {d : Changed} → not (there && fits) ≡ true → d ≡ settled 5 s → d ≡ changedBy (tablesOf s) c
-  figure-refused e = out-of-range s h c (isLoad (tablesOf s) k && fits) [] first (sym tested ∙ not-true _ e)
+  pub figure-refused : {d : Changed} → not (there && fits) ≡ true → d ≡ settled p 5 (p .tables) → d ≡ changedBy (stateIn p) c
+  figure-refused e = out-of-range p h c (isLoad (tablesOf (p .tables)) k && fits) [] first (sym tested ∙ not-true _ e)
 
-  passed : not (there && fits) ≡ false → isLoad (tablesOf s) k && fits ≡ true
+  passed : not (there && fits) ≡ false → isLoad (tablesOf (p .tables)) k && fits ≡ true
   passed e = sym tested ∙ not-false _ e
 
   pub figure-fits : not (there && fits) ≡ false → fits ≡ true
-  figure-fits e = and-right (isLoad (tablesOf s) k) fits (passed e)
+  figure-fits e = and-right (isLoad (tablesOf (p .tables)) k) fits (passed e)
 
   pub figure-changed : {d : Changed} → not (there && fits) ≡ false → (set : StoredTables → StoredTables)
-      → (1 ≤ k → k ≤ length (tablesOf s .loads) → set (stored (tablesOf s)) ≡ stored (effect (tablesOf s) c)) → (u : StoredTables) → u ≡ set s → d ≡ settled 0 u → d ≡ changedBy (tablesOf s) c
+      → (1 ≤ k → k ≤ length (tablesOf (p .tables) .loads) → set (stored (tablesOf (p .tables))) ≡ stored (changing (tablesOf (p .tables)) c .after)) → (u : StoredTables) → u ≡ set (p .tables) → d ≡ settled p 0 u → d ≡ changedBy (stateIn p) c
   figure-changed e set law u given =
-      let is-there = inside 1 (length (tablesOf s .loads)) k (and-left (isLoad (tablesOf s) k) fits (passed e)) in
-      accepts s h c (isLoad (tablesOf s) k && fits) first (passed e) u (given ∙ ap set (is-stored s h) ∙ law (is-there .0) (is-there .1))
+      let is-there = inside 1 (length (tablesOf (p .tables) .loads)) k (and-left (isLoad (tablesOf (p .tables)) k) fits (passed e)) in
+      accepts p h c (isLoad (tablesOf (p .tables)) k && fits) first (passed e) u (given ∙ ap set (is-stored (p .tables) (h .tables)) ∙ law (is-there .0) (is-there .1))
 
 -- ---- the rule or the load that a line names
 named-fits : (m : RuleRange) (r : Transition) {x : NamedRule} → x ≡ namedRule m r → x .fits ≡ ruleIn m r
@@ -139,16 +134,16 @@ unfolding namedLoad
 load-is k l is e = ap (λ (x : NamedLoad). x .load) is ∙ rw e
 
 -- a rule of either sort, in a book with the rules rs of that sort
-module _ (s : StoredTables) (h : Holds maxLoads s) (c : Command) (m : RuleRange) (r : Transition) (rs : List Transition)
-    (first : causes (tablesOf s) 0 c ≡ (5 if not (ruleIn m r)) ∷ (6 if leb maxRules (length rs)) ∷ (7 if some (sameRule r) rs) ∷ [])
+module _ (p : Planner) (h : Kept maxLoads (held p)) (c : Change) (m : RuleRange) (r : Transition) (rs : List Transition)
+    (first : changing (tablesOf (p .tables)) c .causes ≡ (5 if not (ruleIn m r)) ∷ (6 if leb maxRules (length rs)) ∷ (7 if some (sameRule r) rs) ∷ [])
     {x : NamedRule} (is : x ≡ namedRule m r) {d : Changed} where
-  pub rule-refused : not (x .fits) ≡ true → d ≡ settled 5 s → d ≡ changedBy (tablesOf s) c
-  rule-refused e = out-of-range s h c (ruleIn m r) _ first (sym (named-fits m r is) ∙ not-true _ e)
+  pub rule-refused : not (x .fits) ≡ true → d ≡ settled p 5 (p .tables) → d ≡ changedBy (stateIn p) c
+  rule-refused e = out-of-range p h c (ruleIn m r) _ first (sym (named-fits m r is) ∙ not-true _ e)
 
   pub rule-added : not (x .fits) ≡ false → (add : StoredTables → Transition → operation.Changed)
-      → add (stored (tablesOf s)) r ≡ record { number = ruleNumber rs r; tables = stored (accepted (ruleNumber rs r) (effect (tablesOf s) c) (tablesOf s)) }
-      → (o : operation.Changed) → o ≡ add s (x .rule) → d ≡ settled (o .number) (o .tables) → d ≡ changedBy (tablesOf s) c
+      → add (stored (tablesOf (p .tables))) r ≡ record { number = ruleNumber rs r; tables = stored (accepted (ruleNumber rs r) (changing (tablesOf (p .tables)) c .after) (tablesOf (p .tables))) }
+      → (o : operation.Changed) → o ≡ add (p .tables) (x .rule) → d ≡ settled p (o .number) (o .tables) → d ≡ changedBy (stateIn p) c
   rule-added e add law o given =
       let fits = sym (named-fits m r is) ∙ not-false _ e in
-      operated s h c (ruleIn m r) _ first fits o
-      (given ∙ ap (add s) (named-is m r is fits) ∙ ap (λ (y : StoredTables). add y r) (is-stored s h) ∙ rw (rule-lowest rs r) law)
+      operated p h c (ruleIn m r) _ first fits o
+      (given ∙ ap (add (p .tables)) (named-is m r is fits) ∙ ap (λ (y : StoredTables). add y r) (is-stored (p .tables) (h .tables)) ∙ rw (rule-lowest rs r) law)

@@ -8,7 +8,7 @@ use lib.Dec.{leb}
 use Rattle.lists.proofs.Bools.{and-left, and-right}
 use Rattle.tables.specs.declared.rule.RuleRange.{RuleRange}
 use Rattle.tables.specs.Limits.{between, bookSize, ruleIn, parentIn, powerIn, worthIn, loadIn}
-use Rattle.calls.specs.Causes.{rule, load}
+use Rattle.calls.specs.Rows.{rule, load}
 
 pub inside : (a b x : ℕ) → between a b x ≡ true → (a ≤ x) × (x ≤ b)
 inside a b x h = (leb-true a x (and-left (leb a x) (leb x b) h), leb-true x b (and-right (leb a x) (leb x b) h))

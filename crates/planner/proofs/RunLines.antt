@@ -3,6 +3,7 @@ use Prim.Native.Nat.{ℕ, zero, suc, _+_, _-_, _≤_, _<_}
 use mathlib.Core.Path.{_≡_, refl, sym, ap, subst, _∙_}
 use mathlib.Core.Bool.{Bool}
 use mathlib.Core.List.{List, [], _∷_, _++_, map}
+use mathlib.Core.Logic.{inl, inr}
 use native.Mathlib.Nat.{le-refl}
 use native.Mathlib.Numerals.{add-one}
 use native.Mathlib.Omega.{arith}
@@ -10,22 +11,19 @@ use lib.Dec.{eqb}
 use lib.ListN.{length, getD, take, length-append, length-map, List·getD-map}
 use lib.Seq.{take-suc, take-all}
 use Rattle.lists.specs.Argmax.{guard}
-use Rattle.lines.specs.Answers.{LoadLine, loadLine, loadLines, AllRanged, Wrote}
+use Rattle.lines.specs.Answers.{LoadLine, loadLine, loadLines, AllRanged, textOf, Wrote}
 use Rattle.lines.proofs.Answers.{loads-more}
 use Rattle.lines.proofs.Wrote.{wrote-none, wrote-then}
 use Rattle.tables.specs.Tables.{Tables}
 use Rattle.tables.specs.Limits.{maxLoads, Limits}
 use Rattle.tables.proofs.Parts.{limits-parts}
-use Rattle.meaning.specs.Choice.{Entry, noEntry, plan, check, planEntries, checkEntries}
+use Rattle.meaning.specs.Choice.{Entry, noEntry}
 use Rattle.meaning.specs.Claims.{Numbered}
-use Rattle.meaning.proofs.Entries.{plan-listed, check-listed}
-use Rattle.meaning.proofs.InOrder.{listed-length}
-use Rattle.meaning.proofs.Limits.{lawful}
-use Rattle.calls.specs.Printing.{lineOf}
-use Rattle.calls.proofs.Fits.{plan-ranged, check-ranged}
+use Rattle.calls.specs.Rows.{Shown, lineOf, shownText}
+use Rattle.calls.proofs.Rows.{Listing}
 use Rattle.engine.specs.declared.run.Run.{Run}
 use Rattle.engine.specs.Shown.{runOf}
-use Rattle.engine.proofs.Answers.{shown-at, plan-numbered, check-numbered}
+use Rattle.engine.proofs.Answers.{shown-at}
 use Rattle.planner.specs.Answers.{lineAt, linesTo}
 
 -- ---- the lines of more loads take more room
@@ -103,20 +101,10 @@ module _ (es : List Entry) (o : Numbered 1 es) (few : length es ≤ maxLoads) (r
   lines-shown : linesTo (runOf es) (length es) ≡ map lineOf es
   lines-shown = lines-to (length es) (le-refl (length es)) ∙ take-all (length es) (map lineOf es) (omega (arith, length-map es lineOf))
 
--- ---- the runs of a plan and of a check
-module _ (t : Tables) (h : Limits t) (places : t .places ≡ maxLoads) where
-  pub plan-lines : linesTo (runOf (planEntries t)) (length (t .loads)) ≡ map lineOf (planEntries t)
-  unfolding planEntries
-  plan-lines =
-      let tree = lawful t h .ordered in
-      let n = listed-length (plan t) (length (t .loads)) (plan-listed t tree) in
-      ap (linesTo (runOf (planEntries t))) (sym n)
-      ∙ lines-shown (planEntries t) (plan-numbered t tree) (omega (arith, n, places, limits-parts t h .few)) (plan-ranged t h)
-
-  pub check-lines : (σ : ℕ → ℕ) → linesTo (runOf (checkEntries t σ)) (length (t .loads)) ≡ map lineOf (checkEntries t σ)
-  unfolding checkEntries
-  check-lines σ =
-      let tree = lawful t h .ordered in
-      let n = listed-length (check t σ) (length (t .loads)) (check-listed t tree σ) in
-      ap (linesTo (runOf (checkEntries t σ))) (sym n)
-      ∙ lines-shown (checkEntries t σ) (check-numbered t tree σ) (omega (arith, n, places, limits-parts t h .few)) (check-ranged t h σ)
+-- ---- what a row shows: its text with the lines of the run is its text with the lines of its entries
+pub shown-lines : (t : Tables) → Limits t → t .places ≡ maxLoads → (x : Shown) → Listing t x → textOf (x .answer) (linesTo (runOf (x .entries)) (length (t .loads))) ≡ shownText x
+shown-lines t h places x (inl no-lines) = no-lines _
+shown-lines t h places x (inr o) =
+    let n = o .loads .all in
+    ap (λ (ls : List LoadLine). textOf (x .answer) ls)
+    (ap (linesTo (runOf (x .entries))) (sym n) ∙ lines-shown (x .entries) (o .loads .each) (omega (arith, n, places, limits-parts t h .few)) (o .ranged))

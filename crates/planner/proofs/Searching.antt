@@ -8,10 +8,9 @@ use borrow.Author.Tests.{eq-eqb, ne-eqb, lt-ltb, le-ltb}
 use lib.ListN.{length}
 use Rattle.marks.specs.declared.LoadSet.{LoadSet}
 use Rattle.marks.specs.Sets.{sizeOf, markIn}
-use Rattle.lines.specs.declared.Command.{Command}
 use Rattle.lines.specs.declared.Command.the-variants.{Plan, Check}
+use Rattle.lines.specs.declared.answer.Answer.the-variants.{Planned, Allowed, Refused}
 use Rattle.tables.specs.declared.tables.StoredTables.{StoredTables}
-use Rattle.tables.specs.Tables.{Tables}
 use Rattle.tables.specs.Limits.{maxLoads}
 use Rattle.tables.specs.Stored.{bookOf, tablesOf, keepsLimits, Holds}
 use Rattle.tables.proofs.Parts.{limits-parts}
@@ -21,18 +20,21 @@ use Rattle.meaning.specs.Best.{bestPlan, bestCheck}
 use Rattle.meaning.specs.Choice.{Entry, planEntries, checkEntries}
 use Rattle.meaning.proofs.Limits.{lawful as lawful-tree}
 use Rattle.meaning.specs.Cells.{cellsOf}
-use Rattle.calls.specs.Causes.{lowest, noneFits, notAllowed, causes}
-use Rattle.calls.specs.Effects.{effect}
+use Rattle.calls.specs.State.{State, storedState, Kept}
+use Rattle.calls.specs.Rows.{Row, noneFits, notAllowed, row, causesOf}
+use Rattle.calls.specs.Causes.{lowest}
+use Rattle.calls.proofs.State.{places, kept-within, kept-stored}
 use Rattle.cells.specs.Problem.{planProblem, shapeOf}
 use Rattle.cells.specs.Work.{cellsNeeded}
 use Rattle.engine.specs.declared.run.Run.{Run}
 use Rattle.engine.specs.declared.run.Outcome.{Outcome}
 use Rattle.engine.specs.Shown.{runOf, outcomeOf}
 use Rattle.engine.proofs.Answers.{plan-set, plan-size}
-use Rattle.planner.specs.declared.answers.Answer.the-variants.{Planned, Allowed, Refused}
+use Rattle.planner.specs.declared.Planner.{Planner}
 use Rattle.planner.specs.declared.search.Decided.{Decided}
-use Rattle.planner.specs.Decided.{acceptedAs, unshown, decidedBy}
-use Rattle.planner.proofs.Commands.{lawful, is-stored, load-count, places}
+use Rattle.planner.specs.Planner.{held, plannerOf, stateIn}
+use Rattle.planner.specs.Decided.{unshown, decidedBy}
+use Rattle.planner.proofs.Commands.{tables-count}
 
 -- ---- what a search found
 pub none-found : (v : ℕ) (es : List Entry) {o : Outcome} → o ≡ outcomeOf v es → o .found ≡ false → v ≡ 0
@@ -46,42 +48,42 @@ some-found zero es is e = absurd (let z : _≡_ {A = ℕ} 0 1 = cc in omega arit
 some-found (suc v) es is e = (λ z. omega arith, ap (λ (o : Outcome). o .run) is)
 
 -- ---- the numbers of `plan`
-module _ (t : Tables) (cells : ℕ) where
-  pub plan-four : length (t .loads) ≡ 0 → lowest (causes t cells Plan) ≡ 4
-  unfolding causes lowest
-  plan-four e = rw (eq-eqb (length (t .loads)) 0 e)
+module _ (s : State) (cells : ℕ) where
+  pub plan-four : length (s .tables .loads) ≡ 0 → lowest (causesOf cells (row s Plan)) ≡ 4
+  unfolding row lowest
+  plan-four e = rw (eq-eqb (length (s .tables .loads)) 0 e)
 
-  module _ (some : length (t .loads) ≡ 0 → ⊥) where
-    pub plan-eight : cells < cellsOf t → lowest (causes t cells Plan) ≡ 8
-    unfolding causes lowest
-    plan-eight l = rw (ne-eqb (length (t .loads)) 0 some, lt-ltb cells (cellsOf t) l)
+  module _ (some : length (s .tables .loads) ≡ 0 → ⊥) where
+    pub plan-eight : cells < cellsOf (s .tables) → lowest (causesOf cells (row s Plan)) ≡ 8
+    unfolding row lowest
+    plan-eight l = rw (ne-eqb (length (s .tables .loads)) 0 some, lt-ltb cells (cellsOf (s .tables)) l)
 
-    pub plan-nine : cellsOf t ≤ cells → bestPlan t ≡ 0 → lowest (causes t cells Plan) ≡ 9
-    unfolding causes lowest noneFits
-    plan-nine l e = rw (ne-eqb (length (t .loads)) 0 some, le-ltb cells (cellsOf t) l, eq-eqb (bestPlan t) 0 e)
+    pub plan-nine : cellsOf (s .tables) ≤ cells → bestPlan (s .tables) ≡ 0 → lowest (causesOf cells (row s Plan)) ≡ 9
+    unfolding row lowest noneFits
+    plan-nine l e = rw (ne-eqb (length (s .tables .loads)) 0 some, le-ltb cells (cellsOf (s .tables)) l, eq-eqb (bestPlan (s .tables)) 0 e)
 
-    pub plan-accepted : cellsOf t ≤ cells → (bestPlan t ≡ 0 → ⊥) → lowest (causes t cells Plan) ≡ 0
-    unfolding causes lowest noneFits
-    plan-accepted l e = rw (ne-eqb (length (t .loads)) 0 some, le-ltb cells (cellsOf t) l, ne-eqb (bestPlan t) 0 e)
+    pub plan-accepted : cellsOf (s .tables) ≤ cells → (bestPlan (s .tables) ≡ 0 → ⊥) → lowest (causesOf cells (row s Plan)) ≡ 0
+    unfolding row lowest noneFits
+    plan-accepted l e = rw (ne-eqb (length (s .tables .loads)) 0 some, le-ltb cells (cellsOf (s .tables)) l, ne-eqb (bestPlan (s .tables)) 0 e)
 
 -- ---- the numbers of `check`
-module _ (t : Tables) (σ : LoadSet) (n : ℕ) where
-  pub check-four : length (t .loads) ≡ 0 → lowest (causes t 0 (Check σ n)) ≡ 4
-  unfolding causes lowest
-  check-four e = rw (eq-eqb (length (t .loads)) 0 e)
+module _ (s : State) (σ : LoadSet) (n : ℕ) where
+  pub check-four : length (s .tables .loads) ≡ 0 → lowest (causesOf 0 (row s (Check σ n))) ≡ 4
+  unfolding row lowest
+  check-four e = rw (eq-eqb (length (s .tables .loads)) 0 e)
 
-  module _ (some : length (t .loads) ≡ 0 → ⊥) where
-    pub check-five : (n ≡ length (t .loads) → ⊥) → lowest (causes t 0 (Check σ n)) ≡ 5
-    unfolding causes lowest
-    check-five d = rw (ne-eqb (length (t .loads)) 0 some, ne-eqb n (length (t .loads)) d)
+  module _ (some : length (s .tables .loads) ≡ 0 → ⊥) where
+    pub check-five : (n ≡ length (s .tables .loads) → ⊥) → lowest (causesOf 0 (row s (Check σ n))) ≡ 5
+    unfolding row lowest
+    check-five d = rw (ne-eqb (length (s .tables .loads)) 0 some, ne-eqb n (length (s .tables .loads)) d)
 
-    pub check-ten : n ≡ length (t .loads) → bestCheck t (markIn σ) ≡ 0 → lowest (causes t 0 (Check σ n)) ≡ 10
-    unfolding causes lowest notAllowed
-    check-ten q e = rw (ne-eqb (length (t .loads)) 0 some, eq-eqb n (length (t .loads)) q, eq-eqb (bestCheck t (markIn σ)) 0 e)
+    pub check-ten : n ≡ length (s .tables .loads) → bestCheck (s .tables) (markIn σ) ≡ 0 → lowest (causesOf 0 (row s (Check σ n))) ≡ 10
+    unfolding row lowest notAllowed
+    check-ten q e = rw (ne-eqb (length (s .tables .loads)) 0 some, eq-eqb n (length (s .tables .loads)) q, eq-eqb (bestCheck (s .tables) (markIn σ)) 0 e)
 
-    pub check-accepted : n ≡ length (t .loads) → (bestCheck t (markIn σ) ≡ 0 → ⊥) → lowest (causes t 0 (Check σ n)) ≡ 0
-    unfolding causes lowest notAllowed
-    check-accepted q e = rw (ne-eqb (length (t .loads)) 0 some, eq-eqb n (length (t .loads)) q, ne-eqb (bestCheck t (markIn σ)) 0 e)
+    pub check-accepted : n ≡ length (s .tables .loads) → (bestCheck (s .tables) (markIn σ) ≡ 0 → ⊥) → lowest (causesOf 0 (row s (Check σ n))) ≡ 0
+    unfolding row lowest notAllowed
+    check-accepted q e = rw (ne-eqb (length (s .tables .loads)) 0 some, eq-eqb n (length (s .tables .loads)) q, ne-eqb (bestCheck (s .tables) (markIn σ)) 0 e)
 
 -- ---- on a planner that holds tables within the limits
 module _ (s : StoredTables) (h : Holds maxLoads s) where
@@ -90,30 +92,34 @@ module _ (s : StoredTables) (h : Holds maxLoads s) where
 
   pub cells-needed : cellsNeeded (shapeOf (planProblem s)) ≡ cellsOf (tablesOf s)
   unfolding cellsOf tablesOf bookOf
-  cells-needed = ap (λ (n : ℕ). n * (s .book .states + s .book .stages) * (s .budget + 1)) (load-count s h)
+  cells-needed = ap (λ (n : ℕ). n * (s .book .states + s .book .stages) * (s .budget + 1)) (tables-count s h)
+
+module _ (p : Planner) (h : Kept maxLoads (held p)) where
+  is-held : p ≡ plannerOf (storedState (stateIn p))
+  is-held = ap plannerOf (kept-stored (held p) h)
 
   -- refused: the planner is as it was
-  pub refuses : (c : Command) (n m : ℕ) {d : Decided} → d ≡ unshown (Refused (suc m)) (record { tables = s }) → n ≡ suc m → d ≡ decidedBy (tablesOf s) n c
+  pub refuses : (r : Row) (n m : ℕ) {d : Decided} → d ≡ unshown (Refused (suc m)) p → n ≡ suc m → d ≡ decidedBy (stateIn p) n r
   unfolding decidedBy
-  refuses c n m is e = is ∙ rw e (λ i. record { answer = Refused (suc m); run = runOf []; planner = record { tables = is-stored s h i } })
+  refuses r n m is e = is ∙ rw e (λ i. record { answer = Refused (suc m); run = runOf []; planner = is-held i })
 
   -- a plan was found
-  pub plans : (n : ℕ) → n ≡ 0 → (r : Run) → r ≡ runOf (planEntries (tablesOf s)) → (v w k : ℕ)
-      → v ≡ worth (tablesOf s) (markIn (r .set)) → w ≡ power (tablesOf s) (markIn (r .set)) → k ≡ sizeOf (r .set)
-      → record { answer = Planned v w k; run = r; planner = record { tables = s } } ≡ decidedBy (tablesOf s) n Plan
-  unfolding decidedBy acceptedAs effect
+  pub plans : (n : ℕ) → n ≡ 0 → (r : Run) → r ≡ runOf (planEntries (stateIn p .tables)) → (v w k : ℕ)
+      → v ≡ worth (stateIn p .tables) (markIn (r .set)) → w ≡ power (stateIn p .tables) (markIn (r .set)) → k ≡ sizeOf (r .set)
+      → record { answer = Planned v w k; run = r; planner = p } ≡ decidedBy (stateIn p) n (row (stateIn p) Plan)
+  unfolding decidedBy row
   plans n z r is v w k a b d =
-      let t = tablesOf s in
-      let tree = lawful-tree t (lawful s h) .ordered in
-      let most : length (t .loads) ≤ maxLoads = omega (arith, places s h, limits-parts t (lawful s h) .few) in
+      let t = stateIn p .tables in
+      let tree = lawful-tree t (kept-within (held p) h .tables) .ordered in
+      let most : length (t .loads) ≤ maxLoads = omega (arith, places (p .tables) (h .tables), limits-parts t (kept-within (held p) h .tables) .few) in
       let set : markIn (r .set) ≡ _ = ap (λ (x : Run). markIn (x .set)) is ∙ plan-set t tree most in
       let worths = a ∙ ap (worth t) set in
       let powers = b ∙ ap (power t) set in
       let on = d ∙ ap (λ (x : Run). sizeOf (x .set)) is ∙ plan-size t tree most in
-      rw z (λ i. record { answer = Planned (worths i) (powers i) (on i); run = is i; planner = record { tables = is-stored s h i } })
+      rw z (λ i. record { answer = Planned (worths i) (powers i) (on i); run = is i; planner = is-held i })
 
   -- a run of a checked set was found
-  pub allows : (σ : LoadSet) (m n : ℕ) → n ≡ 0 → (r : Run) → r ≡ runOf (checkEntries (tablesOf s) (markIn σ))
-      → record { answer = Allowed; run = r; planner = record { tables = s } } ≡ decidedBy (tablesOf s) n (Check σ m)
-  unfolding decidedBy acceptedAs effect
-  allows σ m n z r is = rw z (λ i. record { answer = Allowed; run = is i; planner = record { tables = is-stored s h i } })
+  pub allows : (σ : LoadSet) (m n : ℕ) → n ≡ 0 → (r : Run) → r ≡ runOf (checkEntries (stateIn p .tables) (markIn σ))
+      → record { answer = Allowed; run = r; planner = p } ≡ decidedBy (stateIn p) n (row (stateIn p) (Check σ m))
+  unfolding decidedBy row
+  allows σ m n z r is = rw z (λ i. record { answer = Allowed; run = is i; planner = is-held i })

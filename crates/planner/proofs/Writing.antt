@@ -4,11 +4,10 @@ use mathlib.Core.Path.{_≡_}
 use mathlib.Core.List.{List, _++_}
 use native.Mathlib.Omega.{arith}
 use lib.ListN.{length, length-append}
-use Rattle.lines.specs.Answers.{yes, planLine, LoadLine, loadLines, Wrote}
+use Rattle.lines.specs.declared.answer.Answer.{Answer}
+use Rattle.lines.specs.declared.answer.Answer.the-variants.{Planned, Allowed}
+use Rattle.lines.specs.Answers.{yes, planLine, LoadLine, loadLines, textOf, Wrote}
 use Rattle.lines.proofs.Wrote.{wrote-then, wrote-length}
-use Rattle.planner.specs.declared.answers.Answer.{Answer}
-use Rattle.planner.specs.declared.answers.Answer.the-variants.{Planned, Allowed}
-use Rattle.planner.specs.Answers.{textOf}
 
 -- the room that the first part leaves
 rest-room : {l m : List ℕ} {at : ℕ} {a : List ℕ} (b : List ℕ) → Wrote l m 0 at a → length (a ++ b) ≤ length l → at + length b ≤ length m

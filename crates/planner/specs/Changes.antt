@@ -2,20 +2,23 @@
 -- paper 01 where that is 0. Assumes nothing.
 use Prim.Native.Nat.{ℕ}
 use Rattle.lists.specs.Tests.{pick}
-use Rattle.lines.specs.declared.Command.{Command}
+use Rattle.lines.specs.declared.Change.{Change}
+use Rattle.lines.specs.Answers.{answerOf}
 use Rattle.tables.specs.declared.tables.StoredTables.{StoredTables}
 use Rattle.tables.specs.declared.rule.RuleRange.{RuleRange}
 use Rattle.tables.specs.declared.rule.Transition.{Transition}
 use Rattle.tables.specs.declared.load.Load.{Load}
-use Rattle.tables.specs.Tables.{Tables, noRule, noLoad}
+use Rattle.tables.specs.Tables.{noRule, noLoad}
 use Rattle.tables.specs.Limits.{ruleIn, loadIn}
-use Rattle.tables.specs.Stored.{stored}
-use Rattle.calls.specs.Causes.{lowest, causes}
-use Rattle.calls.specs.Effects.{acted}
+use Rattle.calls.specs.State.{State, storedState}
+use Rattle.calls.specs.Rows.{changes, changing}
+use Rattle.calls.specs.Causes.{lowest}
+use Rattle.calls.specs.Effects.{stateBy}
+use Rattle.planner.specs.declared.Planner.{Planner}
 use Rattle.planner.specs.declared.changes.Changed.{Changed}
 use Rattle.planner.specs.declared.changes.NamedRule.{NamedRule}
 use Rattle.planner.specs.declared.changes.NamedLoad.{NamedLoad}
-use Rattle.planner.specs.Answers.{answerOf}
+use Rattle.planner.specs.Planner.{plannerOf}
 
 -- the rule or the load that a line names, and whether its numbers are in their ranges
 unfoldable pub namedRule : RuleRange → Transition → NamedRule
@@ -24,9 +27,13 @@ namedRule m r = let fits = ruleIn m r in record { fits = fits; rule = pick fits 
 unfoldable pub namedLoad : (number : ℕ) → Load → NamedLoad
 namedLoad k l = let fits = loadIn k l in record { fits = fits; load = pick fits l noLoad }
 
-abbrev pub settled : (number : ℕ) → StoredTables → Changed
-settled n s = record { answer = answerOf n; planner = record { tables = s } }
+-- the answer of a change with this number, and the planner with the tables after it
+abbrev pub settled : Planner → (number : ℕ) → StoredTables → Changed
+settled p n u = record { answer = answerOf n; planner = record { tables = u } }
 
 -- (No change's number depends on the cells.)
-unfoldable pub changedBy : Tables → Command → Changed
-changedBy t c = let n = lowest (causes t 0 c) in settled n (stored (acted t n c))
+unfoldable pub changedBy : State → Change → Changed
+changedBy s c =
+    let x = changing (s .tables) c in
+    let n = lowest (x .causes) in
+    record { answer = answerOf n; planner = plannerOf (storedState (stateBy s n (changes x))) }

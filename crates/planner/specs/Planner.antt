@@ -1,8 +1,18 @@
--- A fresh planner: "A fresh planner has 0 states and stages, no rules, no loads and budget 0" of paper 01. Assumes nothing.
-use Rattle.tables.specs.Tables as on-paper
+-- The planner is the state of crate `calls`: what it holds, and what that is on paper; and a fresh one, "0 states and stages, no rules, no loads
+-- and budget 0" of paper 01. Assumes nothing.
 use Rattle.tables.specs.Limits.{maxLoads}
-use Rattle.tables.specs.Stored.{stored}
+use Rattle.calls.specs.State as on-paper
+use Rattle.calls.specs.State.{State, StoredState, storedState, stateOf}
 use Rattle.planner.specs.declared.Planner.{Planner}
 
+abbrev pub held : Planner → StoredState
+held p = record { tables = p .tables }
+
+abbrev pub plannerOf : StoredState → Planner
+plannerOf x = record { tables = x .tables }
+
+abbrev pub stateIn : Planner → State
+stateIn p = stateOf (held p)
+
 abbrev pub fresh : Planner
-fresh = record { tables = stored (on-paper.fresh maxLoads) }
+fresh = plannerOf (storedState (on-paper.fresh maxLoads))

@@ -1,5 +1,6 @@
-// What a line is answered, and its text in the free part of the output.
+// The text of an answer, in the free part of the output.
 use engine::run::Run;
+use lines::answer::Answer;
 use lines::writing::write_load;
 use lines::writing::write_no;
 use lines::writing::write_ok;
@@ -10,44 +11,9 @@ ghost use mathlib.Core.Path.{_≡_};
 ghost use Prim.Native.Nat.{_+_, _≤_, _<_};
 ghost use lib.ListN.{length};
 ghost use Rattle.marks.specs.Sets.{markIn};
-ghost use Rattle.lines.specs.Answers.{Wrote, loadLine, loadLines};
+ghost use Rattle.lines.specs.Answers.{Wrote, loadLine, loadLines, textOf};
 ghost use Rattle.tables.specs.Limits.{maxLoads};
-ghost use Rattle.planner.specs.Answers.{numberOf, answerOf, lineAt, linesTo, textOf};
-
-// The answer to a line. The run of a plan or of an allowed check stands beside it.
-pub enum Answer {
-    Accepted,
-    Planned { worth: u32, power: u32, on: u32 },
-    Allowed,
-    Refused { number: u8 },
-}
-
-impl Answer {
-    // The answer of a change with this number.
-    pub(crate) fn of_change(number: u8) -> Answer
-        ensures { λ r. ⌜ r ≡ answerOf number ⌝ }
-    {
-        if number == 0 {
-            return Answer::Accepted;
-        }
-        Answer::Refused { number }
-    }
-
-    pub(crate) fn number(self) -> u8
-        ensures { λ r. ⌜ r ≡ numberOf self ⌝ }
-    {
-        match self {
-            Answer::Accepted => 0,
-            Answer::Planned {
-                worth: _,
-                power: _,
-                on: _,
-            } => 0,
-            Answer::Allowed => 0,
-            Answer::Refused { number } => number,
-        }
-    }
-}
+ghost use Rattle.planner.specs.Answers.{lineAt, linesTo};
 
 // The mark of a load in a set.
 fn mark_in(set: LoadSet, number: usize) -> u32

@@ -8,14 +8,16 @@ use lines::Command;
 use lines::reading::read;
 use lines::reading::too_long;
 ghost use mathlib.Core.Path.{_≡_};
+ghost use mathlib.Core.Bool.{true};
 ghost use lib.ListN.{length};
-ghost use Rattle.lines.specs.Grammar.{parse};
+ghost use Rattle.lines.specs.Answers.{numberOf};
 ghost use Rattle.tables.specs.Limits.{maxLoads};
-ghost use Rattle.tables.specs.Stored.{tablesOf, Holds};
+ghost use Rattle.calls.specs.State.{keeps, Kept};
+ghost use Rattle.calls.specs.Rows.{row, lineRow, bytesOf};
 ghost use Rattle.calls.specs.Printing.{workAfter};
 ghost use Rattle.calls.specs.Calls.{called};
-ghost use Rattle.planner.specs.Answers.{numberOf};
-ghost use Rattle.planner.specs.Decided.{unshown, decided, decidedLine};
+ghost use Rattle.planner.specs.Planner.{held, stateIn};
+ghost use Rattle.planner.specs.Decided.{unshown, decided};
 ghost use Rattle.planner.specs.Calls.{callOf, doneOf, turnedAway};
 
 // "1,024 bytes must be free from there."
@@ -44,25 +46,12 @@ fn changed(c: Changed) -> Decided
 impl Planner {
     // What a command answers.
     fn decide(self, c: Command, work: &mut [u32]) -> Decided
-        requires { ⌜ Holds maxLoads (self .tables) ⌝ }
-        ensures answer { λ r. ⌜ r ≡ decided (tablesOf (self .tables)) (length (now (work .entry))) c ⌝ }
-        ensures cells { λ r. ⌜ now (work .exit) ≡ workAfter (tablesOf (self .tables)) (numberOf (r .answer)) c (now (work .entry)) ⌝ }
+        requires { ⌜ Kept maxLoads (held self) ⌝ }
+        ensures answer { λ r. ⌜ r ≡ decided (stateIn self) (length (now (work .entry))) (row (stateIn self) c) ⌝ }
+        ensures cells { λ r. ⌜ now (work .exit) ≡ workAfter (numberOf (r .answer)) (row (stateIn self) c) (now (work .entry)) ⌝ }
     {
         match c {
-            Command::Clear => changed(self.clear()),
-            Command::Book { states, stages } => changed(self.book(states, stages)),
-            Command::Start { state } => changed(self.start(state)),
-            Command::End { stage } => changed(self.end(stage)),
-            Command::Rule { state, mark, stage } => changed(self.rule(state, mark, stage)),
-            Command::Row { stage, state, next } => changed(self.row(stage, state, next)),
-            Command::Load {
-                parent,
-                power,
-                worth,
-            } => changed(self.load(parent, power, worth)),
-            Command::Power { number, watts } => changed(self.power(number, watts)),
-            Command::Worth { number, figure } => changed(self.worth(number, figure)),
-            Command::Budget { watts } => changed(self.budget(watts)),
+            Command::Change { change } => changed(self.change(change)),
             Command::Plan => self.plan(work),
             Command::Check { set, count } => self.check(set, count),
             Command::Broken => self.refused(BROKEN),
@@ -71,14 +60,29 @@ impl Planner {
 
     // What a line is answered, where there is room for the answer.
     fn decide_line(self, line: &[u8], work: &mut [u32]) -> Decided
-        requires { ⌜ Holds maxLoads (self .tables) ⌝ }
-        ensures answer { λ r. ⌜ r ≡ decidedLine (tablesOf (self .tables)) (length (now (work .entry))) (now (line .entry)) ⌝ }
-        ensures cells { λ r. ⌜ now (work .exit) ≡ workAfter (tablesOf (self .tables)) (numberOf (r .answer)) (parse (now (line .entry))) (now (work .entry)) ⌝ }
+        requires { ⌜ Kept maxLoads (held self) ⌝ }
+        ensures answer { λ r. ⌜ r ≡ decided (stateIn self) (length (now (work .entry))) (lineRow (stateIn self) (now (line .entry))) ⌝ }
+        ensures cells { λ r. ⌜ now (work .exit) ≡ workAfter (numberOf (r .answer)) (lineRow (stateIn self) (now (line .entry))) (now (work .entry)) ⌝ }
     {
         if too_long(line) {
             return self.refused(TOO_LONG);
         }
         self.decide(read(line), work)
+    }
+
+    // Does a planner that is handed in keep the limits?
+    fn keeps_limits(self) -> bool
+        ensures test { λ r. ⌜ r ≡ keeps (held self) ⌝ }
+        ensures kept { λ r. ⌜ (r ≡ true → Kept maxLoads (held self)) ⌝ }
+    {
+        self.tables.keeps_limits()
+    }
+
+    // The bytes that must be free for the answer to a line.
+    fn bytes_for(self, line: &[u8]) -> usize
+        ensures { λ r. ⌜ r ≡ bytesOf (lineRow (stateIn self) (now (line .entry))) ⌝ }
+    {
+        FREE_BYTES
     }
 
     // Number 1: nothing is written, and everything is left as it was.
@@ -94,15 +98,15 @@ impl Planner {
 
     // A line handed to a planner: the answer is written from a place in the output on, and a plan works in the lent cells.
     pub fn call(self, line: &[u8], out: &mut [u8], place: usize, work: &mut [u32]) -> Called
-        ensures { λ r. ⌜ doneOf r (now (out .exit)) (now (work .exit)) ≡ called (self .tables) (callOf (now (line .entry)) (now (out .entry)) place (now (work .entry))) ⌝ }
+        ensures { λ r. ⌜ doneOf r (now (out .exit)) (now (work .exit)) ≡ called (held self) (callOf (now (line .entry)) (now (out .entry)) place (now (work .entry))) ⌝ }
     {
-        if !self.tables.keeps_limits() {
+        if !self.keeps_limits() {
             return self.turned_away();
         }
         if out.len() < place {
             return self.turned_away();
         }
-        if out.len() - place < FREE_BYTES {
+        if out.len() - place < self.bytes_for(line) {
             return self.turned_away();
         }
         let d = self.decide_line(line, work);

@@ -1,6 +1,7 @@
 // The commands that change the tables. Each takes the planner and gives the answer and the next planner.
 use crate::Planner;
-use crate::answers::Answer;
+use lines::Change;
+use lines::answer::Answer;
 use tables::limits::MAX_BUDGET;
 use tables::limits::MAX_STATES;
 use tables::load::Load;
@@ -10,11 +11,12 @@ use tables::rule::RuleRange;
 use tables::rule::Transition;
 use tables::tables::StoredTables;
 ghost use mathlib.Core.Path.{_≡_};
-ghost use Rattle.lines.specs.declared.Command.the-variants as line;
+ghost use Rattle.lines.specs.declared.Change.the-variants as to;
 ghost use Prim.Native.Nat.{_+_, _≤_};
 ghost use Rattle.tables.specs.Limits.{between, maxLoads};
-ghost use Rattle.tables.specs.Stored.{tablesOf, Holds};
-ghost use Rattle.calls.specs.Causes.{rule, load};
+ghost use Rattle.calls.specs.State.{Kept};
+ghost use Rattle.calls.specs.Rows.{rule, load};
+ghost use Rattle.planner.specs.Planner.{held, stateIn};
 ghost use Rattle.planner.specs.Changes.{namedRule, namedLoad, settled, changedBy};
 
 // The number of "value out of its range".
@@ -91,122 +93,145 @@ fn named_load(number: usize, parent: u32, power: u32, worth: u32) -> NamedLoad
     }
 }
 
-// A change with this number, and the tables after it.
-fn settled(number: u8, tables: StoredTables) -> Changed
-    ensures { λ r. ⌜ r ≡ settled number tables ⌝ }
-{
-    Changed {
-        answer: Answer::of_change(number),
-        planner: Planner { tables },
-    }
-}
-
 impl Planner {
-    pub(crate) fn clear(self) -> Changed
-        requires { ⌜ Holds maxLoads (self .tables) ⌝ }
-        ensures { λ r. ⌜ r ≡ changedBy (tablesOf (self .tables)) line.Clear ⌝ }
+    // The answer of a change with this number, and the planner with the tables after it.
+    fn settled(self, number: u8, tables: StoredTables) -> Changed
+        ensures { λ r. ⌜ r ≡ settled self number tables ⌝ }
     {
-        settled(0, StoredTables::fresh())
+        Changed {
+            answer: Answer::of_change(number),
+            planner: Planner { tables },
+        }
     }
 
-    pub(crate) fn book(self, states: u32, stages: u32) -> Changed
-        requires { ⌜ Holds maxLoads (self .tables) ⌝ }
-        ensures { λ r. ⌜ r ≡ changedBy (tablesOf (self .tables)) (line.Book states stages) ⌝ }
+    fn clear(self) -> Changed
+        requires { ⌜ Kept maxLoads (held self) ⌝ }
+        ensures { λ r. ⌜ r ≡ changedBy (stateIn self) to.Clear ⌝ }
+    {
+        self.settled(0, StoredTables::fresh())
+    }
+
+    fn book(self, states: u32, stages: u32) -> Changed
+        requires { ⌜ Kept maxLoads (held self) ⌝ }
+        ensures { λ r. ⌜ r ≡ changedBy (stateIn self) (to.Book states stages) ⌝ }
     {
         let most = MAX_STATES as usize;
         if !(between(1, most, states as usize) & between(1, most, stages as usize)) {
-            return settled(OUT_OF_RANGE, self.tables);
+            return self.settled(OUT_OF_RANGE, self.tables);
         }
-        settled(0, self.tables.new_book(states as u8, stages as u8))
+        self.settled(0, self.tables.new_book(states as u8, stages as u8))
     }
 
-    pub(crate) fn start(self, state: u32) -> Changed
-        requires { ⌜ Holds maxLoads (self .tables) ⌝ }
-        ensures { λ r. ⌜ r ≡ changedBy (tablesOf (self .tables)) (line.Start state) ⌝ }
+    fn start(self, state: u32) -> Changed
+        requires { ⌜ Kept maxLoads (held self) ⌝ }
+        ensures { λ r. ⌜ r ≡ changedBy (stateIn self) (to.Start state) ⌝ }
     {
         if !between(1, self.tables.book.states as usize, state as usize) {
-            return settled(OUT_OF_RANGE, self.tables);
+            return self.settled(OUT_OF_RANGE, self.tables);
         }
-        settled(0, self.tables.mark_start(state as usize))
+        self.settled(0, self.tables.mark_start(state as usize))
     }
 
-    pub(crate) fn end(self, stage: u32) -> Changed
-        requires { ⌜ Holds maxLoads (self .tables) ⌝ }
-        ensures { λ r. ⌜ r ≡ changedBy (tablesOf (self .tables)) (line.End stage) ⌝ }
+    fn end(self, stage: u32) -> Changed
+        requires { ⌜ Kept maxLoads (held self) ⌝ }
+        ensures { λ r. ⌜ r ≡ changedBy (stateIn self) (to.End stage) ⌝ }
     {
         if !between(1, self.tables.book.stages as usize, stage as usize) {
-            return settled(OUT_OF_RANGE, self.tables);
+            return self.settled(OUT_OF_RANGE, self.tables);
         }
-        settled(0, self.tables.mark_end(stage as usize))
+        self.settled(0, self.tables.mark_end(stage as usize))
     }
 
-    pub(crate) fn rule(self, state: u32, mark: u32, stage: u32) -> Changed
-        requires { ⌜ Holds maxLoads (self .tables) ⌝ }
-        ensures { λ r. ⌜ r ≡ changedBy (tablesOf (self .tables)) (line.Rule state mark stage) ⌝ }
+    fn rule(self, state: u32, mark: u32, stage: u32) -> Changed
+        requires { ⌜ Kept maxLoads (held self) ⌝ }
+        ensures { λ r. ⌜ r ≡ changedBy (stateIn self) (to.Rule state mark stage) ⌝ }
     {
         let range = RuleRange::of_load_rules(self.tables.book.states, self.tables.book.stages);
         let named = named_rule(range, state, mark, stage);
         if !named.fits {
-            return settled(OUT_OF_RANGE, self.tables);
+            return self.settled(OUT_OF_RANGE, self.tables);
         }
         let done = self.tables.add_load_rule(named.rule);
-        settled(done.number, done.tables)
+        self.settled(done.number, done.tables)
     }
 
-    pub(crate) fn row(self, stage: u32, state: u32, next: u32) -> Changed
-        requires { ⌜ Holds maxLoads (self .tables) ⌝ }
-        ensures { λ r. ⌜ r ≡ changedBy (tablesOf (self .tables)) (line.Row stage state next) ⌝ }
+    fn row(self, stage: u32, state: u32, next: u32) -> Changed
+        requires { ⌜ Kept maxLoads (held self) ⌝ }
+        ensures { λ r. ⌜ r ≡ changedBy (stateIn self) (to.Row stage state next) ⌝ }
     {
         let range = RuleRange::of_row_rules(self.tables.book.states, self.tables.book.stages);
         let named = named_rule(range, stage, state, next);
         if !named.fits {
-            return settled(OUT_OF_RANGE, self.tables);
+            return self.settled(OUT_OF_RANGE, self.tables);
         }
         let done = self.tables.add_row_rule(named.rule);
-        settled(done.number, done.tables)
+        self.settled(done.number, done.tables)
     }
 
-    pub(crate) fn load(self, parent: u32, power: u32, worth: u32) -> Changed
-        requires { ⌜ Holds maxLoads (self .tables) ⌝ }
-        ensures { λ r. ⌜ r ≡ changedBy (tablesOf (self .tables)) (line.Load parent power worth) ⌝ }
+    fn load(self, parent: u32, power: u32, worth: u32) -> Changed
+        requires { ⌜ Kept maxLoads (held self) ⌝ }
+        ensures { λ r. ⌜ r ≡ changedBy (stateIn self) (to.Load parent power worth) ⌝ }
     {
         let named = named_load(self.tables.loads.count + 1, parent, power, worth);
         if !named.fits {
-            return settled(OUT_OF_RANGE, self.tables);
+            return self.settled(OUT_OF_RANGE, self.tables);
         }
         let done = self.tables.add_load(named.load);
-        settled(done.number, done.tables)
+        self.settled(done.number, done.tables)
     }
 
-    pub(crate) fn power(self, number: u32, watts: u32) -> Changed
-        requires { ⌜ Holds maxLoads (self .tables) ⌝ }
-        ensures { λ r. ⌜ r ≡ changedBy (tablesOf (self .tables)) (line.Power number watts) ⌝ }
+    fn power(self, number: u32, watts: u32) -> Changed
+        requires { ⌜ Kept maxLoads (held self) ⌝ }
+        ensures { λ r. ⌜ r ≡ changedBy (stateIn self) (to.Power number watts) ⌝ }
     {
         let there = between(1, self.tables.loads.count, number as usize);
         if !(there & (watts <= (MAX_POWER as u32))) {
-            return settled(OUT_OF_RANGE, self.tables);
+            return self.settled(OUT_OF_RANGE, self.tables);
         }
-        settled(0, self.tables.set_power(number as usize, watts as u16))
+        self.settled(0, self.tables.set_power(number as usize, watts as u16))
     }
 
-    pub(crate) fn worth(self, number: u32, figure: u32) -> Changed
-        requires { ⌜ Holds maxLoads (self .tables) ⌝ }
-        ensures { λ r. ⌜ r ≡ changedBy (tablesOf (self .tables)) (line.Worth number figure) ⌝ }
+    fn worth(self, number: u32, figure: u32) -> Changed
+        requires { ⌜ Kept maxLoads (held self) ⌝ }
+        ensures { λ r. ⌜ r ≡ changedBy (stateIn self) (to.Worth number figure) ⌝ }
     {
         let there = between(1, self.tables.loads.count, number as usize);
         if !(there & (figure <= (MAX_WORTH as u32))) {
-            return settled(OUT_OF_RANGE, self.tables);
+            return self.settled(OUT_OF_RANGE, self.tables);
         }
-        settled(0, self.tables.set_worth(number as usize, figure as u16))
+        self.settled(0, self.tables.set_worth(number as usize, figure as u16))
     }
 
-    pub(crate) fn budget(self, watts: u32) -> Changed
-        requires { ⌜ Holds maxLoads (self .tables) ⌝ }
-        ensures { λ r. ⌜ r ≡ changedBy (tablesOf (self .tables)) (line.Budget watts) ⌝ }
+    fn budget(self, watts: u32) -> Changed
+        requires { ⌜ Kept maxLoads (held self) ⌝ }
+        ensures { λ r. ⌜ r ≡ changedBy (stateIn self) (to.Budget watts) ⌝ }
     {
         if (MAX_BUDGET as u32) < watts {
-            return settled(OUT_OF_RANGE, self.tables);
+            return self.settled(OUT_OF_RANGE, self.tables);
         }
-        settled(0, self.tables.set_budget(watts as u16))
+        self.settled(0, self.tables.set_budget(watts as u16))
+    }
+
+    // What a change answers, and the next planner.
+    pub(crate) fn change(self, c: Change) -> Changed
+        requires { ⌜ Kept maxLoads (held self) ⌝ }
+        ensures { λ r. ⌜ r ≡ changedBy (stateIn self) c ⌝ }
+    {
+        match c {
+            Change::Clear => self.clear(),
+            Change::Book { states, stages } => self.book(states, stages),
+            Change::Start { state } => self.start(state),
+            Change::End { stage } => self.end(stage),
+            Change::Rule { state, mark, stage } => self.rule(state, mark, stage),
+            Change::Row { stage, state, next } => self.row(stage, state, next),
+            Change::Load {
+                parent,
+                power,
+                worth,
+            } => self.load(parent, power, worth),
+            Change::Power { number, watts } => self.power(number, watts),
+            Change::Worth { number, figure } => self.worth(number, figure),
+            Change::Budget { watts } => self.budget(watts),
+        }
     }
 }

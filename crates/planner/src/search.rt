@@ -1,11 +1,11 @@
 // The commands that search: `plan` and `check`.
 use crate::Planner;
-use crate::answers::Answer;
 use cells::problem::plan_problem;
 use cells::problem::shape_of;
 use cells::work::cells_needed;
 use engine::figures::figures_of;
 use engine::run::Run;
+use lines::answer::Answer;
 use marks::LoadSet;
 use tables::tables::StoredTables;
 ghost use mathlib.Core.Path.{_≡_};
@@ -14,8 +14,11 @@ ghost use Rattle.lines.specs.declared.Command.the-variants as line;
 ghost use Rattle.tables.specs.Limits.{maxLoads};
 ghost use Rattle.tables.specs.Stored.{tablesOf, Holds};
 ghost use Rattle.meaning.specs.Cells.{cellsOf};
+ghost use Rattle.lines.specs.Answers.{numberOf};
+ghost use Rattle.calls.specs.State.{Kept};
+ghost use Rattle.calls.specs.Rows.{row};
 ghost use Rattle.calls.specs.Printing.{workAfter};
-ghost use Rattle.planner.specs.Answers.{numberOf};
+ghost use Rattle.planner.specs.Planner.{held, stateIn};
 ghost use Rattle.planner.specs.Decided.{unshown, decided};
 
 // The numbers of "no loads", "bits not one for each load", "too few cells", "no allowed set fits" and "checked set not allowed".
@@ -63,9 +66,9 @@ impl Planner {
     }
 
     pub(crate) fn plan(self, work: &mut [u32]) -> Decided
-        requires { ⌜ Holds maxLoads (self .tables) ⌝ }
-        ensures answer { λ r. ⌜ r ≡ decided (tablesOf (self .tables)) (length (now (work .entry))) line.Plan ⌝ }
-        ensures cells { λ r. ⌜ now (work .exit) ≡ workAfter (tablesOf (self .tables)) (numberOf (r .answer)) line.Plan (now (work .entry)) ⌝ }
+        requires { ⌜ Kept maxLoads (held self) ⌝ }
+        ensures answer { λ r. ⌜ r ≡ decided (stateIn self) (length (now (work .entry))) (row (stateIn self) line.Plan) ⌝ }
+        ensures cells { λ r. ⌜ now (work .exit) ≡ workAfter (numberOf (r .answer)) (row (stateIn self) line.Plan) (now (work .entry)) ⌝ }
     {
         let tables = self.tables;
         if tables.loads.count == 0 {
@@ -94,8 +97,8 @@ impl Planner {
     }
 
     pub(crate) fn check(self, set: LoadSet, count: usize) -> Decided
-        requires { ⌜ Holds maxLoads (self .tables) ⌝ }
-        ensures { λ r. ⌜ r ≡ decided (tablesOf (self .tables)) 0 (line.Check set count) ⌝ }
+        requires { ⌜ Kept maxLoads (held self) ⌝ }
+        ensures { λ r. ⌜ r ≡ decided (stateIn self) 0 (row (stateIn self) (line.Check set count)) ⌝ }
     {
         let tables = self.tables;
         if tables.loads.count == 0 {

@@ -43,6 +43,7 @@ use denote.Triple.Table.{cited}
 use denote.Triple.Walked.{says, Stays, stay-ref, stay-dropped, gave-slice, walkOf, Goes, AllGo, goes-ref, goes-dropped, goes-gave-slice, ends-at, walked}
 use denote.Exit.{yes}
 use Rattle.calls.specs.Calls.{called}
+use Rattle.planner.specs.Planner.{held}
 use Rattle.planner.specs.Calls.{callOf}
 use Rattle.planner.specs.declared.Planner.{Planner}
 use Rattle.planner.proofs.Planner as T
@@ -125,7 +126,7 @@ module _ {M : Type 1} (𝓤 : URA M) (H : Heap 𝓤) (A : Atoms 𝓤) (W : Given
 
   -- what the callee ensures: its clause, and the last output and work of which it speaks
   abbrev Promised : Handled → (o w : List ℕ) → Type 0
-  Promised r o w = doneOf (r .planner) (r .reply) o w ≡ called (p .tables) (callOf (line .now) (out .now) place (work .now))
+  Promised r o w = doneOf (r .planner) (r .reply) o w ≡ called (held p) (callOf (line .now) (out .now) place (work .now))
 
   abbrev Ensured : Handled → SProp 𝓤
   Ensured r = ensured 𝓤 H A callee.ended (callee.clauses 𝓤 H A at-mem run) κs (p, lent) tt r

@@ -3,27 +3,29 @@ use mathlib.Core.Path.{_≡_, refl, ap}
 use mathlib.Core.List.{[]}
 use borrow.Author.Needs.{needs}
 use native.Mathlib.Omega.{arith}
-use lib.ListN.{length}
-use Rattle.lines.specs.Answers.{freeBytes}
-use Rattle.tables.specs.Stored.{Lengths}
+use lib.ListN.{length, take}
+use Rattle.tables.specs.Limits.{maxLoads}
+use Rattle.calls.specs.State.{Sized}
+use Rattle.calls.specs.Rows.{mostBytes}
 use Rattle.calls.specs.Calls.{Done}
 use Rattle.calls.specs.Program.{leftBy, doneOn, Carried, answered}
+use Rattle.calls.proofs.Rows.{line-right}
+use Rattle.planner.specs.Planner.{held, stateIn}
 use Rattle.planner.proofs.Demands.{demand1}
 use Rattle.lists.proofs.Arrays.{of-map}
 use Rattle.load_planner.proofs.answer.Statement.{statement}
 use Rattle.load_planner.proofs.answer.Tie as tie
 
-lengths : (c : tie.Start) → Lengths (c .args .s .planner .tables)
-lengths c = record { loadRules = search (needs, of-map); rowRules = search (needs, of-map) }
+sized : (c : tie.Start) → Sized maxLoads (held (c .args .s .planner))
+sized c = record { tables = record { loadRules = search (needs, of-map); rowRules = search (needs, of-map) }; places = search (needs, of-map) }
 
 -- no answer is longer than the output
 show-requires : tie.Need-show-requires
 show-requires c κs =
     let k = c .before .before .before in
     let e = k .before .before .before .before in
-    let r = k .call .result in
-    let size : length (k .call .last .1 .1 .1 .0) ≡ freeBytes = search needs in
-    omega (arith, size, demand1 (e .args .s .planner) (lengths e) _ r _ _ (k .call .ensures) .fits)
+    let size : length (k .call .last .1 .1 .1 .0) ≡ mostBytes = search needs in
+    omega (arith, size, demand1 (e .args .s .planner) (sized e) _ _ (k .call .ensures) .fits, line-right (stateIn (e .args .s .planner)) 0 (take (e .args .s .held) (e .args .line .now)) .most)
 
 answers : (x : Carried) (d : Done) → d ≡ doneOn (x .left) (x .begun) → record { left = leftBy d; begun = [] } ≡ answered x
 answers x d e = ap (λ (d : Done). record { left = leftBy d; begun = [] }) e

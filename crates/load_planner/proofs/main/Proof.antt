@@ -7,7 +7,7 @@ use mathlib.Core.List.{List, [], _∷_, _++_}
 use borrow.Author.Needs.{needs}
 use lib.Dec.{lit≤}
 use lib.ListN.{length, take, replicate}
-use Rattle.lines.specs.Answers.{freeBytes}
+use Rattle.calls.specs.Rows.{mostBytes}
 use Rattle.calls.specs.Program.{Carried, afterChunk, afterChunks, started, lentCells}
 use Rattle.calls.proofs.Program.{chunks-more}
 use Rattle.planner.specs.declared.Planner.{Planner}
@@ -23,9 +23,9 @@ Inv-loop chunk₀ line₀ out₀ work₀ session₀ turns₀ chunk line out work
 abbrev μ-loop : tie.MeasureT-loop
 μ-loop chunk₀ line₀ out₀ work₀ session₀ turns₀ chunk line out work session turns = turns
 
-ran-none : (p : Planner) → p ≡ fresh → Ran (record { left = leftOf p (replicate freeBytes 0) (replicate lentCells 0); begun = [] })
+ran-none : (p : Planner) → p ≡ fresh → Ran (record { left = leftOf p (replicate mostBytes 0) (replicate lentCells 0); begun = [] })
 unfolding afterChunks
-ran-none p e = record { chunks = []; taken = ap (λ (p : Planner). record { left = leftOf p (replicate freeBytes 0) (replicate lentCells 0); begun = [] }) e }
+ran-none p e = record { chunks = []; taken = ap (λ (p : Planner). record { left = leftOf p (replicate mostBytes 0) (replicate lentCells 0); begun = [] }) e }
 
 ran-more : {x y : Carried} {b : List ℕ} → Ran x → Stepped x y b → Ran y
 ran-more {b} r s = record { chunks = r .chunks ++ (take (s .count) b ∷ []); taken = s .taken ∙ ap (λ (x : Carried). afterChunk x (take (s .count) b)) (r .taken) ∙ sym (chunks-more (r .chunks) (started lentCells) (take (s .count) b)) }

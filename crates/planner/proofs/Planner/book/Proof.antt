@@ -5,16 +5,16 @@ use mathlib.Core.List.{[]}
 use native.Mathlib.Omega.{arith}
 use borrow.Author.Needs.{needs}
 use borrow.Author.Tests.{not-true, not-false}
-use Rattle.lines.specs.declared.Command.the-variants.{Book}
+use Rattle.lines.specs.declared.Change.the-variants.{Book}
 use Rattle.tables.specs.declared.tables.StoredTables.{StoredTables}
 use Rattle.tables.specs.Limits.{bookSize}
 use Rattle.tables.specs.Stored.{tablesOf}
 use Rattle.tables.specs.Operations.{bookBegun}
 use Rattle.tables.proofs.Changes.{book-begun}
-use Rattle.calls.specs.Causes.{causes}
-use Rattle.calls.specs.Effects.{effect}
+use Rattle.calls.specs.Rows.{changing}
 use Rattle.planner.proofs.Ranges.{book-inside}
-use Rattle.planner.proofs.Commands.{is-stored, out-of-range, accepts}
+use Rattle.calls.proofs.State.{is-stored}
+use Rattle.planner.proofs.Commands.{out-of-range, accepts}
 use Rattle.planner.proofs.Planner.book.Statement.{statement}
 use Rattle.planner.proofs.Planner.book.Tie as tie
 
@@ -25,11 +25,11 @@ passed : (c : tie.Else1) → bookSize (c .before .before .before .args .states) 
 passed c = sym (tested (c .before)) ∙ not-false _ (c .if1 .left)
 
 returns : tie.Need-returns
-unfolding causes
+unfolding changing
 returns c =
     let k = c .before .before in
     let s = k .before .before .args in
-    out-of-range (s .self .tables) (k .before .before .pre) (Book (s .states) (s .stages)) (bookSize (s .states) (s .stages)) [] refl
+    out-of-range (s .self) (k .before .before .pre) (Book (s .states) (s .stages)) (bookSize (s .states) (s .stages)) [] refl
     (sym (tested k) ∙ not-true _ (c .before .if1 .taken)) (c .settled .ensures)
 
 cast-new-book : tie.Need-cast-new-book
@@ -39,13 +39,13 @@ cast-new-book-2 : tie.Need-cast-new-book-2
 cast-new-book-2 c = let a = c .before .before .before .args in omega (arith, book-inside (a .states) (a .stages) (passed c) .1)
 
 returns-2 : tie.Need-returns-2
-unfolding causes effect
+unfolding changing
 returns-2 c =
     let k = c .before .before in
     let e = k .before .before .before in
     let s = e .args .self .tables in
-    accepts s (e .pre) (Book (e .args .states) (e .args .stages)) (bookSize (e .args .states) (e .args .stages)) refl (passed k)
-    _ (c .before .new-book .ensures ∙ ap (λ (x : StoredTables). bookBegun x (e .args .states) (e .args .stages)) (is-stored s (e .pre)) ∙ book-begun (tablesOf s) (e .args .states) (e .args .stages))
+    accepts (e .args .self) (e .pre) (Book (e .args .states) (e .args .stages)) (bookSize (e .args .states) (e .args .stages)) refl (passed k)
+    _ (c .before .new-book .ensures ∙ ap (λ (x : StoredTables). bookBegun x (e .args .states) (e .args .stages)) (is-stored s (e .pre .tables)) ∙ book-begun (tablesOf s) (e .args .states) (e .args .stages))
     (c .settled2 .ensures)
 
 pub book-spec : {M : Type 1} → statement M

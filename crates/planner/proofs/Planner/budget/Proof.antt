@@ -3,33 +3,33 @@ use mathlib.Core.Path.{refl, ap, _∙_}
 use mathlib.Core.List.{[]}
 use borrow.Author.Needs.{needs}
 use borrow.Author.Tests.{le-leb, lt-leb}
-use Rattle.lines.specs.declared.Command.the-variants.{Budget}
+use Rattle.lines.specs.declared.Change.the-variants.{Budget}
 use Rattle.tables.specs.declared.tables.StoredTables.{StoredTables}
 use Rattle.tables.specs.Limits.{budgetIn}
 use Rattle.tables.specs.Stored.{tablesOf}
 use Rattle.tables.specs.Operations.{budgetChanged}
 use Rattle.tables.proofs.Changes.{budget-changed}
-use Rattle.calls.specs.Causes.{causes}
-use Rattle.calls.specs.Effects.{effect}
-use Rattle.planner.proofs.Commands.{is-stored, out-of-range, accepts}
+use Rattle.calls.specs.Rows.{changing}
+use Rattle.calls.proofs.State.{is-stored}
+use Rattle.planner.proofs.Commands.{out-of-range, accepts}
 use Rattle.planner.proofs.Planner.budget.Statement.{statement}
 use Rattle.planner.proofs.Planner.budget.Tie as tie
 
 returns : tie.Need-returns
-unfolding causes
+unfolding changing
 returns c =
     let e = c .before .before in
     let w = e .args .watts in
-    out-of-range (e .args .self .tables) (e .pre) (Budget w) (budgetIn w) [] refl (lt-leb w 500 (c .before .if1 .taken)) (c .settled .ensures)
+    out-of-range (e .args .self) (e .pre) (Budget w) (budgetIn w) [] refl (lt-leb w 500 (c .before .if1 .taken)) (c .settled .ensures)
 
 returns-2 : tie.Need-returns-2
-unfolding causes effect
+unfolding changing
 returns-2 c =
     let e = c .before .before .before in
     let s = e .args .self .tables in
     let w = e .args .watts in
-    accepts s (e .pre) (Budget w) (budgetIn w) refl (le-leb w 500 (c .before .before .if1 .left))
-    _ (c .before .set-budget .ensures ∙ ap (λ (x : StoredTables). budgetChanged x w) (is-stored s (e .pre)) ∙ budget-changed (tablesOf s) w) (c .settled2 .ensures)
+    accepts (e .args .self) (e .pre) (Budget w) (budgetIn w) refl (le-leb w 500 (c .before .before .if1 .left))
+    _ (c .before .set-budget .ensures ∙ ap (λ (x : StoredTables). budgetChanged x w) (is-stored s (e .pre .tables)) ∙ budget-changed (tablesOf s) w) (c .settled2 .ensures)
 
 pub budget-spec : {M : Type 1} → statement M
 budget-spec =

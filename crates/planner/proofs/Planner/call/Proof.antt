@@ -1,16 +1,20 @@
 -- `Planner::call` meets its contract: turned away with number 1, or decided and written. Assumes nothing.
-use mathlib.Core.Path.{refl, sym, ap, _∙_}
+use mathlib.Core.Path.{sym, ap, _∙_}
+use Prim.Native.Nat.{_+_, _≤_}
 use native.Mathlib.Omega.{arith}
 use borrow.Author.Needs.{needs}
 use borrow.Author.Tests.{not-true, not-false}
+use lib.ListN.{length}
 use Rattle.lines.proofs.Wrote.{free-length}
 use Rattle.tables.specs.Limits.{maxLoads}
-use Rattle.tables.specs.Stored.{Holds}
+use Rattle.calls.specs.State.{Kept}
+use Rattle.calls.specs.Rows.{lineRow, bytesOf}
 use Rattle.calls.specs.Calls.{Call}
 use Rattle.planner.specs.declared.call.Called.{Called}
+use Rattle.planner.specs.Planner.{held, stateIn}
 use Rattle.planner.specs.Calls.{callOf, doneOf}
 use Rattle.planner.proofs.Commands.{few}
-use Rattle.planner.proofs.Calling.{broken, no-room, text-few, written}
+use Rattle.planner.proofs.Calling.{broken, turned, text-few, written}
 use Rattle.planner.proofs.Planner.call.Statement.{statement}
 use Rattle.planner.proofs.Planner.call.Tie as tie
 
@@ -19,8 +23,8 @@ made : tie.Start → Call
 made e = callOf (e .args .line .now) (e .args .out .now) (e .args .place) (e .args .work .now)
 
 -- past the test of limits
-held : (c : tie.Else1) → Holds maxLoads (c .before .before .before .before .before .args .self .tables)
-held c = c .before .keeps-limits .ensures .1 .0 (not-false _ (c .if1 .left))
+kept : (c : tie.Else1) → Kept maxLoads (held (c .before .before .before .before .before .args .self))
+kept c = c .before .keeps-limits .ensures .1 (not-false _ (c .if1 .left))
 
 returns : tie.Need-returns
 unfolding made
@@ -36,29 +40,35 @@ returns-2 c =
     let k = c .before .before in
     let e = k .before .before .before .before .before in
     ap (λ (r : Called). doneOf r (e .args .out .now) (e .args .work .now)) (c .turned-away2 .ensures)
-    ∙ no-room (e .args .self .tables) (held k) (made e) (e .args .self) refl (omega (arith, c .before .if2 .taken))
+    ∙ turned (e .args .self) (kept k) (made e) (omega (arith, c .before .if2 .taken))
 
 returns-3 : tie.Need-returns-3
 unfolding made
 returns-3 c =
-    let k = c .before .before .before in
+    let b = c .before .before in
+    let k = b .before .before in
     let e = k .before .before .before .before .before in
     ap (λ (r : Called). doneOf r (e .args .out .now) (e .args .work .now)) (c .turned-away3 .ensures)
-    ∙ no-room (e .args .self .tables) (held k) (made e) (e .args .self) refl (omega (arith, c .before .if3 .taken, c .before .before .if2 .left))
+    ∙ turned (e .args .self) (kept k) (made e) (omega (arith, c .before .if3 .taken, b .bytes-for .ensures, b .before .if2 .left))
 
 decide-line-requires : tie.Need-decide-line-requires
-decide-line-requires c κs = held (c .before .before .before)
+decide-line-requires c κs = kept (c .before .before .before .before)
+
+-- the bytes that the line needs are free
+free : (c : tie.Else3) → let e = c .before .before .before .before .before .before .before .before in
+    e .args .place + bytesOf (lineRow (stateIn (e .args .self)) (e .args .line .now)) ≤ length (e .args .out .now)
+free c = omega (arith, c .if3 .left, c .before .bytes-for .ensures, c .before .before .if2 .left)
 
 write-answer-requires : tie.Need-write-answer-requires
 unfolding made
 write-answer-requires c κs =
     let d = c .before .before .before .before .before in
     let f = d .before .before in
-    let k = f .before .before in
+    let k = f .before .before .before in
     let e = k .before .before .before .before .before in
-    let s = e .args .self .tables in (
-      few s (held k),
-      omega (arith, text-few s (held k) (made e) (d .decide-line .result) (d .decide-line .ensures .0), free-length (e .args .place) (e .args .out .now), f .if3 .left, f .before .if2 .left),
+    let s = e .args .self in (
+      few s (kept k),
+      omega (arith, text-few s (kept k) (made e) (d .decide-line .result) (d .decide-line .ensures .0), free-length (e .args .place) (e .args .out .now), free f),
     )
 
 returns-4 : tie.Need-returns-4
@@ -67,9 +77,9 @@ returns-4 c =
     let w = c .before .before .before in
     let d = w .before .before .before .before .before .before in
     let f = d .before .before in
-    let k = f .before .before in
+    let k = f .before .before .before in
     let e = k .before .before .before .before .before in
-    written (e .args .self .tables) (held k) (made e) (d .decide-line .result) (d .decide-line .ensures .0) (omega (arith, f .if3 .left, f .before .if2 .left))
+    written (e .args .self) (kept k) (made e) (d .decide-line .result) (d .decide-line .ensures .0) (free f)
     _ _ _ _ (c .number .ensures) (w .write-answer .ensures) (d .decide-line .ensures .1)
 
 pub call-spec : {M : Type 1} → statement M
@@ -82,6 +92,7 @@ call-spec =
     (λ c κs. search needs)
     returns-2
     (λ c. search needs)
+    (λ c κs. search needs)
     (λ c κs. search needs)
     returns-3
     decide-line-requires

@@ -8,7 +8,9 @@ use Rattle.lines.specs.declared.Command.the-variants.{Check}
 use Rattle.tables.specs.Stored.{tablesOf}
 use Rattle.meaning.specs.Best.{bestCheck}
 use Rattle.meaning.specs.Choice.{checkEntries}
+use Rattle.calls.specs.Rows.{row}
 use Rattle.calls.proofs.Answers.{positive}
+use Rattle.planner.specs.Planner.{stateIn}
 use Rattle.planner.proofs.Commands.{load-count}
 use Rattle.planner.proofs.Searching.{none-found, some-found, check-four, check-five, check-ten, check-accepted, kept, refuses, allows}
 use Rattle.planner.proofs.Planner.check.Statement.{statement}
@@ -16,31 +18,31 @@ use Rattle.planner.proofs.Planner.check.Tie as tie
 
 -- there are loads, and a bit for each
 some-loads : (c : tie.Else1) → length (tablesOf (c .before .before .before .args .self .tables) .loads) ≡ 0 → ⊥
-some-loads c z = let e = c .before .before .before in c .if1 .left (load-count (e .args .self .tables) (e .pre) ∙ z)
+some-loads c z = let e = c .before .before .before in c .if1 .left (load-count (e .args .self) (e .pre) ∙ z)
 
 each-load : (c : tie.Else2) → let e = c .before .before .before .before .before in e .args .count ≡ length (tablesOf (e .args .self .tables) .loads)
-each-load c = let e = c .before .before .before .before .before in c .if2 .left ∙ load-count (e .args .self .tables) (e .pre)
+each-load c = let e = c .before .before .before .before .before in c .if2 .left ∙ load-count (e .args .self) (e .pre)
 
 returns : tie.Need-returns
 returns c =
     let e = c .before .before .before .before in
     let s = e .args .self .tables in
-    refuses s (e .pre) (Check (e .args .set) (e .args .count)) _ 3 (c .refused .ensures)
-    (check-four (tablesOf s) (e .args .set) (e .args .count) (sym (load-count s (e .pre)) ∙ c .before .if1 .taken))
+    refuses (e .args .self) (e .pre) (row (stateIn (e .args .self)) (Check (e .args .set) (e .args .count))) _ 3 (c .refused .ensures)
+    (check-four (stateIn (e .args .self)) (e .args .set) (e .args .count) (sym (load-count (e .args .self) (e .pre)) ∙ c .before .if1 .taken))
 
 returns-2 : tie.Need-returns-2
 returns-2 c =
     let k = c .before .before .before in
     let e = k .before .before .before in
     let s = e .args .self .tables in
-    refuses s (e .pre) (Check (e .args .set) (e .args .count)) _ 4 (c .refused2 .ensures)
-    (check-five (tablesOf s) (e .args .set) (e .args .count) (some-loads k) (λ q. c .before .if2 .taken (q ∙ sym (load-count s (e .pre)))))
+    refuses (e .args .self) (e .pre) (row (stateIn (e .args .self)) (Check (e .args .set) (e .args .count))) _ 4 (c .refused2 .ensures)
+    (check-five (stateIn (e .args .self)) (e .args .set) (e .args .count) (some-loads k) (λ q. c .before .if2 .taken (q ∙ sym (load-count (e .args .self) (e .pre)))))
 
 check-requires : tie.Need-check-requires
 check-requires c κs =
     let k = c .before .before in
     let e = k .before .before .before in
-    (kept (e .args .self .tables) (e .pre), positive (k .if1 .left))
+    (kept (e .args .self .tables) (e .pre .tables), positive (k .if1 .left))
 
 returns-3 : tie.Need-returns-3
 returns-3 c =
@@ -48,8 +50,8 @@ returns-3 c =
     let k = o .before .before .before in
     let e = k .before .before .before in
     let s = e .args .self .tables in
-    refuses s (e .pre) (Check (e .args .set) (e .args .count)) _ 9 (c .refused3 .ensures)
-    (check-ten (tablesOf s) (e .args .set) (e .args .count) (some-loads k) (each-load (o .before)) (none-found (bestCheck (tablesOf s) (markIn (e .args .set))) (checkEntries (tablesOf s) (markIn (e .args .set))) (o .check .ensures) (not-true _ (c .before .if3 .taken))))
+    refuses (e .args .self) (e .pre) (row (stateIn (e .args .self)) (Check (e .args .set) (e .args .count))) _ 9 (c .refused3 .ensures)
+    (check-ten (stateIn (e .args .self)) (e .args .set) (e .args .count) (some-loads k) (each-load (o .before)) (none-found (bestCheck (tablesOf s) (markIn (e .args .set))) (checkEntries (tablesOf s) (markIn (e .args .set))) (o .check .ensures) (not-true _ (c .before .if3 .taken))))
 
 returns-4 : tie.Need-returns-4
 returns-4 c =
@@ -58,7 +60,7 @@ returns-4 c =
     let e = k .before .before .before in
     let s = e .args .self .tables in
     let f = some-found (bestCheck (tablesOf s) (markIn (e .args .set))) (checkEntries (tablesOf s) (markIn (e .args .set))) (o .check .ensures) (not-false _ (c .before .if3 .left)) in
-    allows s (e .pre) (e .args .set) (e .args .count) _ (check-accepted (tablesOf s) (e .args .set) (e .args .count) (some-loads k) (each-load (o .before)) (f .0)) _ (f .1)
+    allows (e .args .self) (e .pre) (e .args .set) (e .args .count) _ (check-accepted (stateIn (e .args .self)) (e .args .set) (e .args .count) (some-loads k) (each-load (o .before)) (f .0)) _ (f .1)
 
 pub check-spec : {M : Type 1} → statement M
 check-spec =

@@ -8,17 +8,17 @@ use borrow.Author.Needs.{needs}
 use borrow.Author.Tests.{not-true, not-false}
 use lib.Dec.{leb}
 use lib.ListN.{length}
-use Rattle.lines.specs.declared.Command.the-variants as line
+use Rattle.lines.specs.declared.Change.the-variants as line
 use Rattle.tables.specs.declared.load.Load.{Load}
 use Rattle.tables.specs.declared.tables.StoredTables.{StoredTables}
 use Rattle.tables.specs.Limits.{loadIn}
 use Rattle.tables.specs.Stored.{tablesOf}
 use Rattle.tables.specs.Operations.{loadAdded}
 use Rattle.tables.proofs.Changes.{load-added}
-use Rattle.calls.specs.Causes.{_if_, load, causes}
-use Rattle.calls.specs.Effects.{effect}
+use Rattle.calls.specs.Rows.{_if_, load, changing}
 use Rattle.planner.specs.Changes.{namedLoad}
-use Rattle.planner.proofs.Commands.{load-lowest, lawful, is-stored, load-count, few, out-of-range, operated, load-fits, load-is}
+use Rattle.calls.proofs.State.{is-stored, lawful}
+use Rattle.planner.proofs.Commands.{load-lowest, load-count, few, out-of-range, operated, load-fits, load-is}
 use Rattle.planner.proofs.Planner.load.Statement.{statement}
 use Rattle.planner.proofs.Planner.load.Tie as tie
 
@@ -33,32 +33,32 @@ named : (c : tie.After-named-load) → c .named-load .result ≡ namedLoad (numb
 unfolding number line-load
 named c =
     let e = c .before .before in
-    c .named-load .ensures ∙ ap (λ (n : ℕ). namedLoad n (line-load e)) (add-one _ ∙ ap suc (load-count (e .args .self .tables) (e .pre)))
+    c .named-load .ensures ∙ ap (λ (n : ℕ). namedLoad n (line-load e)) (add-one _ ∙ ap suc (load-count (e .args .self) (e .pre)))
 
 add-named-load : tie.Need-add-named-load
-add-named-load c = let e = c .before in omega (arith, few (e .args .self .tables) (e .pre))
+add-named-load c = let e = c .before in omega (arith, few (e .args .self) (e .pre))
 
 named-load-requires : tie.Need-named-load-requires
-named-load-requires c κs = let e = c .before in omega (arith, few (e .args .self .tables) (e .pre))
+named-load-requires c κs = let e = c .before in omega (arith, few (e .args .self) (e .pre))
 
 returns : tie.Need-returns
-unfolding causes number line-load
+unfolding changing number line-load
 returns c =
     let k = c .before .before .before in
     let e = k .before .before in
-    out-of-range (e .args .self .tables) (e .pre) (line.Load (e .args .parent) (e .args .power) (e .args .worth)) (loadIn (number e) (line-load e)) _ refl
+    out-of-range (e .args .self) (e .pre) (line.Load (e .args .parent) (e .args .power) (e .args .worth)) (loadIn (number e) (line-load e)) _ refl
     (sym (load-fits (number e) (line-load e) (named k)) ∙ not-true _ (c .before .if1 .taken)) (c .settled .ensures)
 
 returns-2 : tie.Need-returns-2
-unfolding causes effect number line-load
+unfolding changing number line-load
 returns-2 c =
     let k = c .before .before .before .before in
     let e = k .before .before in
     let s = e .args .self .tables in
     let ls = tablesOf s .loads in
     let fits = sym (load-fits (number e) (line-load e) (named k)) ∙ not-false _ (c .before .before .if1 .left) in
-    operated s (e .pre) (line.Load (e .args .parent) (e .args .power) (e .args .worth)) (loadIn (number e) (line-load e)) ((6 if leb (tablesOf s .places) (length ls)) ∷ []) refl fits
-    _ (c .before .add-load .ensures ∙ ap (loadAdded s) (load-is (number e) (line-load e) (named k) fits) ∙ ap (λ (x : StoredTables). loadAdded x (line-load e)) (is-stored s (e .pre)) ∙ rw (load-lowest (tablesOf s .places) ls) (load-added (tablesOf s) (lawful s (e .pre)) (line-load e)))
+    operated (e .args .self) (e .pre) (line.Load (e .args .parent) (e .args .power) (e .args .worth)) (loadIn (number e) (line-load e)) ((6 if leb (tablesOf s .places) (length ls)) ∷ []) refl fits
+    _ (c .before .add-load .ensures ∙ ap (loadAdded s) (load-is (number e) (line-load e) (named k) fits) ∙ ap (λ (x : StoredTables). loadAdded x (line-load e)) (is-stored s (e .pre .tables)) ∙ rw (load-lowest (tablesOf s .places) ls) (load-added (tablesOf s) (lawful s (e .pre .tables)) (line-load e)))
     (c .settled2 .ensures)
 
 pub load-spec : {M : Type 1} → statement M

@@ -1,29 +1,39 @@
 -- `Planner::plan` meets its contract. Assumes nothing.
-use Prim.Native.Nat.{_≤_}
+use Prim.Native.Nat.{ℕ, _≤_}
+use mathlib.Core.Bool.{true}
+use mathlib.Core.List.{List, _++_}
 use mathlib.Core.Path.{_≡_, refl, sym, ap, _∙_}
 use native.Mathlib.Omega.{arith}
 use borrow.Author.Needs.{needs}
 use borrow.Author.Tests.{not-true, not-false}
-use lib.ListN.{length}
+use lib.ListN.{length, replicate, drop}
 use Rattle.lines.specs.declared.Command.the-variants.{Plan}
+use Rattle.lines.specs.Answers.{numberOf}
 use Rattle.tables.specs.Stored.{tablesOf}
 use Rattle.meaning.specs.Best.{bestPlan}
 use Rattle.meaning.specs.Choice.{planEntries}
 use Rattle.meaning.specs.Cells.{cellsOf}
-use Rattle.calls.specs.Printing.{searched}
+use Rattle.calls.specs.Rows.{row}
+use Rattle.calls.specs.Printing.{searched, zeroed, workAfter}
 use Rattle.calls.proofs.Answers.{positive}
-use Rattle.calls.proofs.Work.{unsearched, cleared}
+use Rattle.calls.proofs.Work.{unsearched, row-zeroed}
 use Rattle.engine.specs.declared.figures.Figures.{Figures}
+use Rattle.planner.specs.declared.Planner.{Planner}
 use Rattle.planner.specs.declared.search.Decided.{Decided}
-use Rattle.planner.specs.Answers.{numberOf}
+use Rattle.planner.specs.Planner.{stateIn}
 use Rattle.planner.proofs.Commands.{load-count, few}
 use Rattle.planner.proofs.Searching.{none-found, some-found, plan-four, plan-eight, plan-nine, plan-accepted, kept, refuses, plans}
 use Rattle.planner.proofs.Planner.plan.Statement.{statement}
 use Rattle.planner.proofs.Planner.plan.Tie as tie
 
+-- the cells after a search
+cleared : (p : Planner) (n : ℕ) (w v : List ℕ) → searched n ≡ true → v ≡ replicate (cellsOf (tablesOf (p .tables))) 0 ++ drop (cellsOf (tablesOf (p .tables))) w → v ≡ workAfter n (row (stateIn p) Plan) w
+unfolding zeroed row
+cleared p n w v e is = is ∙ sym (row-zeroed n (row (stateIn p) Plan) w e)
+
 -- there are loads, and enough cells
 some-loads : (c : tie.Else1) → length (tablesOf (c .before .before .before .before .args .self .tables) .loads) ≡ 0 → ⊥
-some-loads c z = let e = c .before .before .before .before in c .if1 .left (load-count (e .args .self .tables) (e .pre) ∙ z)
+some-loads c z = let e = c .before .before .before .before in c .if1 .left (load-count (e .args .self) (e .pre) ∙ z)
 
 enough : (c : tie.Else2) → let a = c .before .before .before .before .before .before .args in cellsOf (tablesOf (a .self .tables)) ≤ length (a .work .now)
 enough c = omega (arith, c .if2 .left, c .before .cells-of .ensures)
@@ -33,7 +43,7 @@ returns c =
     let e = c .before .before .before .before .before in
     let s = e .args .self .tables in
     let r = c .refused .ensures in
-    (refuses s (e .pre) Plan _ 3 r (plan-four (tablesOf s) (length (e .args .work .now)) (sym (load-count s (e .pre)) ∙ c .before .if1 .taken)), sym (unsearched (tablesOf s) _ Plan (e .args .work .now) (ap (λ (d : Decided). searched (numberOf (d .answer))) r)))
+    (refuses (e .args .self) (e .pre) (row (stateIn (e .args .self)) Plan) _ 3 r (plan-four (stateIn (e .args .self)) (length (e .args .work .now)) (sym (load-count (e .args .self) (e .pre)) ∙ c .before .if1 .taken)), sym (unsearched _ (row (stateIn (e .args .self)) Plan) (e .args .work .now) (ap (λ (d : Decided). searched (numberOf (d .answer))) r)))
 
 returns-2 : tie.Need-returns-2
 returns-2 c =
@@ -41,14 +51,14 @@ returns-2 c =
     let e = k .before .before .before .before in
     let s = e .args .self .tables in
     let r = c .refused2 .ensures in
-    (refuses s (e .pre) Plan _ 7 r (plan-eight (tablesOf s) (length (e .args .work .now)) (some-loads k) (omega (arith, c .before .if2 .taken, c .before .before .cells-of .ensures))), sym (unsearched (tablesOf s) _ Plan (e .args .work .now) (ap (λ (d : Decided). searched (numberOf (d .answer))) r)))
+    (refuses (e .args .self) (e .pre) (row (stateIn (e .args .self)) Plan) _ 7 r (plan-eight (stateIn (e .args .self)) (length (e .args .work .now)) (some-loads k) (omega (arith, c .before .if2 .taken, c .before .before .cells-of .ensures))), sym (unsearched _ (row (stateIn (e .args .self)) Plan) (e .args .work .now) (ap (λ (d : Decided). searched (numberOf (d .answer))) r)))
 
 plan-requires : tie.Need-plan-requires
 plan-requires c κs =
     let k = c .before .before .before in
     let e = k .before .before .before .before in
     let s = e .args .self .tables in
-    (kept s (e .pre), (positive (k .if1 .left), enough (c .before)))
+    (kept s (e .pre .tables), (positive (k .if1 .left), enough (c .before)))
 
 returns-3 : tie.Need-returns-3
 returns-3 c =
@@ -59,11 +69,11 @@ returns-3 c =
     let s = e .args .self .tables in
     let r = c .refused3 .ensures in
     let none = none-found (bestPlan (tablesOf s)) (planEntries (tablesOf s)) (o .plan .ensures .0) (not-true _ (c .before .if3 .taken)) in
-    (refuses s (e .pre) Plan _ 8 r (plan-nine (tablesOf s) (length (e .args .work .now)) (some-loads k) (enough f) none), cleared (tablesOf s) _ (e .args .work .now) _ (ap (λ (d : Decided). searched (numberOf (d .answer))) r) (o .plan .ensures .1))
+    (refuses (e .args .self) (e .pre) (row (stateIn (e .args .self)) Plan) _ 8 r (plan-nine (stateIn (e .args .self)) (length (e .args .work .now)) (some-loads k) (enough f) none), cleared (e .args .self) _ (e .args .work .now) _ (ap (λ (d : Decided). searched (numberOf (d .answer))) r) (o .plan .ensures .1))
 
 figures-of-requires : tie.Need-figures-of-requires
 figures-of-requires c κs =
-    let e = c .before .before .before .before .before .before .before .before .before .before .before .before .before .before in few (e .args .self .tables) (e .pre)
+    let e = c .before .before .before .before .before .before .before .before .before .before .before .before .before .before in few (e .args .self) (e .pre)
 
 returns-4 : tie.Need-returns-4
 unfolding tablesOf
@@ -75,7 +85,7 @@ returns-4 c =
     let e = k .before .before .before .before in
     let s = e .args .self .tables in
     let found = some-found (bestPlan (tablesOf s)) (planEntries (tablesOf s)) (o .plan .ensures .0) (not-false _ (w .before .before .before .if3 .left)) in
-    (plans s (e .pre) _ (plan-accepted (tablesOf s) (length (e .args .work .now)) (some-loads k) (enough f) (found .0)) _ (found .1) _ _ _ (ap (λ (x : Figures). x .worth) (w .figures-of .ensures)) (ap (λ (x : Figures). x .power) (w .figures-of .ensures)) (c .count .ensures), cleared (tablesOf s) 0 (e .args .work .now) _ refl (o .plan .ensures .1))
+    (plans (e .args .self) (e .pre) _ (plan-accepted (stateIn (e .args .self)) (length (e .args .work .now)) (some-loads k) (enough f) (found .0)) _ (found .1) _ _ _ (ap (λ (x : Figures). x .worth) (w .figures-of .ensures)) (ap (λ (x : Figures). x .power) (w .figures-of .ensures)) (c .count .ensures), cleared (e .args .self) 0 (e .args .work .now) _ refl (o .plan .ensures .1))
 
 pub plan-spec : {M : Type 1} → statement M
 plan-spec =

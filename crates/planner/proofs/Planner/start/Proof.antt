@@ -3,34 +3,34 @@ use mathlib.Core.Path.{refl, sym, ap, _∙_}
 use mathlib.Core.List.{[]}
 use borrow.Author.Needs.{needs}
 use borrow.Author.Tests.{not-true, not-false}
-use Rattle.lines.specs.declared.Command.the-variants.{Start}
+use Rattle.lines.specs.declared.Change.the-variants.{Start}
 use Rattle.tables.specs.declared.tables.StoredTables.{StoredTables}
 use Rattle.tables.specs.Limits.{between}
 use Rattle.tables.specs.Stored.{bookOf, tablesOf}
 use Rattle.tables.specs.Operations.{startMarked}
 use Rattle.tables.proofs.Changes.{start-marked}
-use Rattle.calls.specs.Causes.{causes}
-use Rattle.calls.specs.Effects.{effect}
-use Rattle.planner.proofs.Commands.{is-stored, out-of-range, accepts}
+use Rattle.calls.specs.Rows.{changing}
+use Rattle.calls.proofs.State.{is-stored}
+use Rattle.planner.proofs.Commands.{out-of-range, accepts}
 use Rattle.planner.proofs.Planner.start.Statement.{statement}
 use Rattle.planner.proofs.Planner.start.Tie as tie
 
 returns : tie.Need-returns
-unfolding causes tablesOf bookOf
+unfolding changing tablesOf bookOf
 returns c =
     let k = c .before .before in
     let e = k .before .before in
     let s = e .args .self .tables in
-    out-of-range s (e .pre) (Start (e .args .state)) (between 1 (s .book .states) (e .args .state)) [] refl (sym (k .between .ensures) ∙ not-true _ (c .before .if1 .taken)) (c .settled .ensures)
+    out-of-range (e .args .self) (e .pre) (Start (e .args .state)) (between 1 (s .book .states) (e .args .state)) [] refl (sym (k .between .ensures) ∙ not-true _ (c .before .if1 .taken)) (c .settled .ensures)
 
 returns-2 : tie.Need-returns-2
-unfolding causes effect tablesOf bookOf
+unfolding changing tablesOf bookOf
 returns-2 c =
     let k = c .before .before .before in
     let e = k .before .before in
     let s = e .args .self .tables in
-    accepts s (e .pre) (Start (e .args .state)) (between 1 (s .book .states) (e .args .state)) refl (sym (k .between .ensures) ∙ not-false _ (c .before .before .if1 .left))
-    _ (c .before .mark-start .ensures ∙ ap (λ (x : StoredTables). startMarked x (e .args .state)) (is-stored s (e .pre)) ∙ start-marked (tablesOf s) (e .args .state)) (c .settled2 .ensures)
+    accepts (e .args .self) (e .pre) (Start (e .args .state)) (between 1 (s .book .states) (e .args .state)) refl (sym (k .between .ensures) ∙ not-false _ (c .before .before .if1 .left))
+    _ (c .before .mark-start .ensures ∙ ap (λ (x : StoredTables). startMarked x (e .args .state)) (is-stored s (e .pre .tables)) ∙ start-marked (tablesOf s) (e .args .state)) (c .settled2 .ensures)
 
 pub start-spec : {M : Type 1} → statement M
 start-spec =

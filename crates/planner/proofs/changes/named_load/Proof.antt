@@ -9,7 +9,7 @@ use Rattle.tables.specs.declared.load.Load.{Load}
 use Rattle.tables.specs.Tables.{noLoad}
 use Rattle.tables.specs.Limits.{loadIn}
 use Rattle.tables.proofs.Places.{load-range}
-use Rattle.calls.specs.Causes.{load}
+use Rattle.calls.specs.Rows.{load}
 use Rattle.planner.specs.Changes.{namedLoad}
 use Rattle.planner.proofs.Ranges.{load-inside}
 use Rattle.planner.proofs.changes.named_load.Statement.{statement}

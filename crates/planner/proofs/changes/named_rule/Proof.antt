@@ -9,7 +9,7 @@ use Rattle.tables.specs.declared.rule.RuleRange.{RuleRange}
 use Rattle.tables.specs.declared.rule.Transition.{Transition}
 use Rattle.tables.specs.Tables.{noRule}
 use Rattle.tables.specs.Limits.{ruleIn}
-use Rattle.calls.specs.Causes.{rule}
+use Rattle.calls.specs.Rows.{rule}
 use Rattle.planner.specs.Changes.{namedRule}
 use Rattle.planner.proofs.Ranges.{rule-inside}
 use Rattle.planner.proofs.changes.named_rule.Statement.{statement}

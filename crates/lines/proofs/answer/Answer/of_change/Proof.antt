@@ -2,10 +2,10 @@
 use Prim.Native.Nat.{ℕ, zero, suc}
 use mathlib.Core.Path.{_≡_, refl}
 use borrow.Author.Needs.{needs}
-use Rattle.planner.specs.declared.answers.Answer.the-variants.{Refused}
-use Rattle.planner.specs.Answers.{answerOf}
-use Rattle.planner.proofs.answers.Answer.of_change.Statement.{statement}
-use Rattle.planner.proofs.answers.Answer.of_change.Tie as tie
+use Rattle.lines.specs.declared.answer.Answer.the-variants.{Refused}
+use Rattle.lines.specs.Answers.{answerOf}
+use Rattle.lines.proofs.answer.Answer.of_change.Statement.{statement}
+use Rattle.lines.proofs.answer.Answer.of_change.Tie as tie
 
 refused : (n : ℕ) → (n ≡ 0 → ⊥) → Refused n ≡ answerOf n
 refused zero d = absurd (d refl)

@@ -1,7 +1,7 @@
--- `settled` meets its contract. Assumes nothing.
+-- `Planner::settled` meets its contract. Assumes nothing.
 use borrow.Author.Needs.{needs}
-use Rattle.planner.proofs.changes.settled.Statement.{statement}
-use Rattle.planner.proofs.changes.settled.Tie as tie
+use Rattle.planner.proofs.Planner.settled.Statement.{statement}
+use Rattle.planner.proofs.Planner.settled.Tie as tie
 
 returns : tie.Need-returns
 returns c = rw (c .of-change .ensures)

@@ -1,0 +1,63 @@
+-- The number of a row, and that it acts exactly if its number is 0. Assumes nothing.
+use Prim.Native.Nat.{ℕ, zero, suc, _≤_, _<_}
+use mathlib.Core.Path.{_≡_, refl, sym, _∙_}
+use mathlib.Core.Bool.{Bool}
+use mathlib.Core.List.{_∷_}
+use mathlib.Core.Logic.{_⊎_, inl, inr}
+use native.Mathlib.Nat.{eq-zero-or-pos}
+use native.Mathlib.Omega.{arith}
+use lib.Dec.{lit≤}
+use lib.ListN.{length}
+use Rattle.tables.specs.Tables.{Tables}
+use Rattle.calls.specs.State.{State}
+use Rattle.calls.specs.Rows.{_if_, Row, changes, shows, works, causesOf}
+use Rattle.calls.specs.Causes.{lowest, allCauses, refusal, Lowest}
+use Rattle.calls.specs.Effects.{acted, changed, stateBy}
+use Rattle.calls.specs.Calls.{Call, rowFor, after, numberOf}
+use Rattle.calls.proofs.Numbers.{ascending-from, lowest-given, lowest-least, lowest-range}
+use Rattle.calls.proofs.Rows.{Right}
+
+module _ {s : State} {n : ℕ} {r : Row} (x : Right s n r) where
+  -- the lowest number that applies is given, each exactly in its case
+  pub causes-lowest : (b : Bool) (room place : ℕ) → let cs = (1 if b) ∷ allCauses n room place r in Lowest cs (lowest cs)
+  unfolding allCauses
+  causes-lowest b room place = record { given = lowest-given _; least = lowest-least 1 _ (lit≤ tt, (lit≤ tt, ascending-from (lit≤ tt) (causesOf n r) (x .ordered))) }
+
+  pub refusal-most : (room place : ℕ) → refusal n room place r ≤ 10
+  unfolding refusal allCauses
+  refusal-most room place = go (eq-zero-or-pos _)
+    where
+      go : (lowest (allCauses n room place r) ≡ 0) ⊎ (0 < lowest (allCauses n room place r)) → lowest (allCauses n room place r) ≤ 10
+      go (inl e) = omega arith
+      go (inr l) = lowest-range 1 (allCauses n room place r) (lit≤ tt, ascending-from (lit≤ tt) (causesOf n r) (x .ordered)) l .1
+
+  -- the number of a row with enough free bytes: 0, or from 2 to 10
+  pub past-one : 0 < lowest (causesOf n r) → (2 ≤ lowest (causesOf n r)) × (lowest (causesOf n r) ≤ 10)
+  past-one = lowest-range 2 (causesOf n r) (x .ordered)
+
+-- no change's number depends on the cells, and no other row acts
+acts-alike : (t : Tables) (m n room place : ℕ) (r : Row) → acted t (refusal m room place r) r ≡ acted t (refusal n room place r) r
+unfolding refusal allCauses
+acts-alike t m n room place (changes x) = refl
+acts-alike t m n room place (shows b cs x) = refl
+acts-alike t m n room place (works b k before after x) = still (refusal m room place r) ∙ sym (still (refusal n room place r))
+  where
+    r : Row
+    r = works b k before after x
+
+    still : (i : ℕ) → acted t i r ≡ t
+    still zero = refl
+    still (suc i) = refl
+
+-- a call acts exactly if its number is 0
+pub after-number : (s : State) (c : Call) → after s c ≡ stateBy s (numberOf s c) (rowFor s c)
+unfolding changed
+after-number s c = λ i. record { tables = acts-alike (s .tables) 0 (length (c .work)) (length (c .output)) (c .place) (rowFor s c) i }
+
+-- "a refused one not at all"
+pub refused-keeps : (s : State) (c : Call) → 0 < numberOf s c → after s c ≡ s
+refused-keeps s c h = after-number s c ∙ go (numberOf s c) h
+  where
+    go : (n : ℕ) → 0 < n → stateBy s n (rowFor s c) ≡ s
+    go zero l = absurd (omega arith)
+    go (suc n) l = refl

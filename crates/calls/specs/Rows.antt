@@ -1,0 +1,173 @@
+-- What each line of the table asks for: a row a line, with the bytes that it needs, its causes in the order of their numbers, and what it does
+-- where none applies. What a call returns and leaves is read off its row.
+-- It stands for the table of "Lines" and rows 2 to 10 of "Causes and numbers" of paper 01. Assumes nothing.
+use Prim.Native.Nat.{ℕ, suc}
+use mathlib.Core.Bool.{Bool, true, _&&_, not}
+use mathlib.Core.List.{List, [], _∷_, _++_, map}
+use lib.Dec.{eqb, leb, ltb}
+use lib.ListN.{length}
+use Rattle.lists.specs.Tests.{pick, some}
+use Rattle.marks.specs.Sets.{markIn}
+use Rattle.lines.specs.declared.Change.{Change}
+use Rattle.lines.specs.declared.Change.the-variants as to
+use Rattle.lines.specs.declared.Command.{Command}
+use Rattle.lines.specs.declared.Command.the-variants as line
+use Rattle.lines.specs.declared.answer.Answer.{Answer}
+use Rattle.lines.specs.declared.answer.Answer.the-variants.{Accepted, Planned, Allowed}
+use Rattle.lines.specs.Length.{tooLong}
+use Rattle.lines.specs.Grammar.{parse}
+use Rattle.lines.specs.Answers.{freeBytes, LoadLine, textOf}
+use Rattle.tables.specs.declared.rule.Transition.{Transition}
+use Rattle.tables.specs.declared.load.Load.{Load}
+use Rattle.tables.specs.Tables as on-paper
+use Rattle.tables.specs.Tables.{Tables}
+use Rattle.tables.specs.Limits.{between, bookSize, ruleIn, loadRuleRange, rowRuleRange, sameRule, maxRules, loadIn, powerIn, worthIn, budgetIn}
+use Rattle.tables.specs.Changes.{newBook, markStart, markEnd, addLoadRule, addRowRule, addLoad, setPower, setWorth, setBudget}
+use Rattle.meaning.specs.Sets.{power, worth, numberOn}
+use Rattle.meaning.specs.Best.{bestPlan, bestCheck}
+use Rattle.meaning.specs.Choice.{Entry, planEntries, checkEntries, shownSet}
+use Rattle.meaning.specs.Cells.{cellsOf}
+use Rattle.calls.specs.State.{State}
+
+pub record Cause : Type 0 where
+  pub number : ℕ
+  pub applies : Bool
+
+infix 20 _if_
+abbrev pub _if_ : ℕ → Bool → Cause
+n if b = record { number = n; applies = b }
+
+-- a change: what refuses it, and the tables after it
+pub record Changing : Type 0 where
+  pub causes : List Cause
+  pub after : Tables
+
+-- an answer, and the entries whose load lines it shows
+pub record Shown : Type 0 where
+  pub answer : Answer
+  pub entries : List Entry
+
+-- a row: a change prints `ok`; what shows changes nothing; what works needs cells (8) besides, and leaves them 0 if it looked
+pub data Row : Type 0 where
+  changes : Changing → Row
+  shows : (bytes : ℕ) (causes : List Cause) (shown : Shown) → Row
+  works : (bytes cells : ℕ) (before after : List Cause) (shown : Shown) → Row
+
+-- ---- what is shown
+abbrev pub alone : Answer → Shown
+alone a = record { answer = a; entries = [] }
+
+-- "A plan prints `plan,worth,power,n`, n being the number of loads on": the figures of the set shown
+abbrev pub planned : Tables → List Entry → Shown
+planned t es = record { answer = Planned (worth t (shownSet es)) (power t (shownSet es)) (numberOn t (shownSet es)); entries = es }
+
+-- "An allowed check prints `yes` and the same load lines."
+abbrev pub allowed : List Entry → Shown
+allowed es = record { answer = Allowed; entries = es }
+
+-- "and then for each load `number,mark,state,load rule,row rule`"
+abbrev pub lineOf : Entry → LoadLine
+lineOf e = record { number = e .number; mark = e .mark; state = e .state; loadRule = e .loadRule; rowRule = e .rowRule }
+
+abbrev pub shownText : Shown → List ℕ
+shownText x = textOf (x .answer) (map lineOf (x .entries))
+
+unfoldable pub planText : Tables → List Entry → List ℕ
+planText t es = shownText (planned t es)
+
+unfoldable pub checkText : List Entry → List ℕ
+checkText es = shownText (allowed es)
+
+-- ---- the table
+-- the rule or the load that a line names
+abbrev pub rule : ℕ → ℕ → ℕ → Transition
+rule x l y = record { from = x; label = l; to = y }
+
+abbrev pub load : ℕ → ℕ → ℕ → Load
+load p w v = record { parent = p; power = w; worth = v }
+
+-- is k the number of a load?
+abbrev pub isLoad : Tables → ℕ → Bool
+isLoad t k = between 1 (length (t .loads)) k
+
+-- "no allowed set fits"; "checked set not allowed"
+unfoldable pub noneFits : Tables → Bool
+noneFits t = eqb (bestPlan t) 0
+
+unfoldable pub notAllowed : Tables → (ℕ → ℕ) → Bool
+notAllowed t σ = eqb (bestCheck t σ) 0
+
+abbrev pub unless : List Cause → Tables → Changing
+unless cs u = record { causes = cs; after = u }
+
+-- a rule of either sort
+abbrev pub ruleCauses : Bool → Transition → List Transition → List Cause
+ruleCauses fits r rs = (5 if not fits) ∷ (6 if leb maxRules (length rs)) ∷ (7 if some (sameRule r) rs) ∷ []
+
+unfoldable pub changing : Tables → Change → Changing
+changing t to.Clear = unless [] (on-paper.fresh (t .places))
+changing t (to.Book s g) = unless ((5 if not (bookSize s g)) ∷ []) (newBook t s g)
+changing t (to.Start q) = unless ((5 if not (between 1 (t .book .states) q)) ∷ []) (markStart t q)
+changing t (to.End g) = unless ((5 if not (between 1 (t .book .stages) g)) ∷ []) (markEnd t g)
+changing t (to.Rule q m g) =
+    unless (ruleCauses (ruleIn (loadRuleRange (t .book .states) (t .book .stages)) (rule q m g)) (rule q m g) (t .book .loadRules)) (addLoadRule t (rule q m g))
+changing t (to.Row g q h) =
+    unless (ruleCauses (ruleIn (rowRuleRange (t .book .states) (t .book .stages)) (rule g q h)) (rule g q h) (t .book .rowRules)) (addRowRule t (rule g q h))
+changing t (to.Load p w v) =
+    unless ((5 if not (loadIn (suc (length (t .loads))) (load p w v))) ∷ (6 if leb (t .places) (length (t .loads))) ∷ []) (addLoad t (load p w v))
+changing t (to.Power k w) = unless ((5 if not (isLoad t k && powerIn w)) ∷ []) (setPower t k w)
+changing t (to.Worth k v) = unless ((5 if not (isLoad t k && worthIn v)) ∷ []) (setWorth t k v)
+changing t (to.Budget b) = unless ((5 if not (budgetIn b)) ∷ []) (setBudget t b)
+
+-- a line that has this number whatever the state
+abbrev pub refuses : ℕ → Row
+refuses n = shows freeBytes ((n if true) ∷ []) (alone Accepted)
+
+unfoldable pub row : State → Command → Row
+row s (line.Change c) = changes (changing (s .tables) c)
+row s line.Plan =
+    let t = s .tables in works freeBytes (cellsOf t) ((4 if eqb (length (t .loads)) 0) ∷ []) ((9 if noneFits t) ∷ []) (planned t (planEntries t))
+row s (line.Check σ n) =
+    let t = s .tables in
+    shows freeBytes ((4 if eqb (length (t .loads)) 0) ∷ (5 if not (eqb n (length (t .loads)))) ∷ (10 if notAllowed t (markIn σ)) ∷ [])
+    (allowed (checkEntries t (markIn σ)))
+row s line.Broken = refuses 3
+
+-- of a line: "line over 80 bytes" is judged before its form
+unfoldable pub lineRow : State → List ℕ → Row
+lineRow s l = pick (tooLong l) (refuses 2) (row s (parse l))
+
+-- ---- what is read off a row
+-- the bytes that must be free
+abbrev pub bytesOf : Row → ℕ
+bytesOf (changes x) = freeBytes
+bytesOf (shows b cs x) = b
+bytesOf (works b m before after x) = b
+
+-- no row needs more
+abbrev pub mostBytes : ℕ
+mostBytes = freeBytes
+
+-- the causes, in the order of their numbers
+abbrev pub causesOf : (cells : ℕ) → Row → List Cause
+causesOf n (changes x) = x .causes
+causesOf n (shows b cs x) = cs
+causesOf n (works b m before after x) = before ++ ((8 if ltb n m) ∷ after)
+
+-- the tables after it
+abbrev pub effectOf : Tables → Row → Tables
+effectOf t (changes x) = x .after
+effectOf t (shows b cs x) = t
+effectOf t (works b m before after x) = t
+
+-- "An accepted change prints `ok`."
+abbrev pub shownOf : Row → Shown
+shownOf (changes x) = alone Accepted
+shownOf (shows b cs x) = x
+shownOf (works b m before after x) = x
+
+-- the cells that it works in
+abbrev pub cellsFor : Row → ℕ
+cellsFor (changes x) = 0
+cellsFor (shows b cs x) = 0
+cellsFor (works b m before after x) = m

@@ -1,0 +1,69 @@
+-- `Planner::change` meets its contract: a case for each change. Assumes nothing.
+use borrow.Author.Needs.{needs}
+use Rattle.planner.proofs.Planner.change.Statement.{statement}
+use Rattle.planner.proofs.Planner.change.Tie as tie
+
+returns : tie.Need-returns
+returns c = rw (c .before .enum-told .given .1) (c .clear .ensures)
+
+returns-2 : tie.Need-returns-2
+returns-2 c = rw (c .before .before .c .given .1) (c .book .ensures)
+
+returns-3 : tie.Need-returns-3
+returns-3 c = rw (c .before .before .c2 .given .1) (c .start .ensures)
+
+returns-4 : tie.Need-returns-4
+returns-4 c = rw (c .before .before .c3 .given .1) (c .end .ensures)
+
+returns-5 : tie.Need-returns-5
+returns-5 c = rw (c .before .before .c4 .given .1) (c .rule .ensures)
+
+returns-6 : tie.Need-returns-6
+returns-6 c = rw (c .before .before .c5 .given .1) (c .row .ensures)
+
+returns-7 : tie.Need-returns-7
+returns-7 c = rw (c .before .before .c6 .given .1) (c .load .ensures)
+
+returns-8 : tie.Need-returns-8
+returns-8 c = rw (c .before .before .c7 .given .1) (c .power .ensures)
+
+returns-9 : tie.Need-returns-9
+returns-9 c = rw (c .before .before .c8 .given .1) (c .worth .ensures)
+
+returns-10 : tie.Need-returns-10
+returns-10 c = rw (c .before .before .c9 .given .1) (c .budget .ensures)
+
+pub change-spec : {M : Type 1} → statement M
+change-spec =
+    tie.close
+    (tie.spec
+    (λ c. search needs)
+    (λ c κs. search needs)
+    (λ c. search needs)
+    (λ c κs. search needs)
+    (λ c. search needs)
+    (λ c κs. search needs)
+    (λ c. search needs)
+    (λ c κs. search needs)
+    (λ c. search needs)
+    (λ c κs. search needs)
+    (λ c. search needs)
+    (λ c κs. search needs)
+    (λ c. search needs)
+    (λ c κs. search needs)
+    (λ c. search needs)
+    (λ c κs. search needs)
+    (λ c. search needs)
+    (λ c κs. search needs)
+    (λ c. search needs)
+    (λ c κs. search needs)
+    returns
+    returns-2
+    returns-3
+    returns-4
+    returns-5
+    returns-6
+    returns-7
+    returns-8
+    returns-9
+    returns-10)
