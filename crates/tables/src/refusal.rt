@@ -1,4 +1,20 @@
-// The numbers of the refusals that a full list and a rule that is there already give.
+// The numbers of the refusals, by name: the table "Causes and numbers". The specification has them under the same names in specs/Refusals.
+pub const UNUSABLE: u8 = 1;
+
+pub const TOO_LONG: u8 = 2;
+
+pub const BROKEN: u8 = 3;
+
+pub const NO_LOADS: u8 = 4;
+
+pub const OUT_OF_RANGE: u8 = 5;
+
 pub const FULL: u8 = 6;
 
 pub const SAME_RULE: u8 = 7;
+
+pub const TOO_FEW_CELLS: u8 = 8;
+
+pub const NONE_FITS: u8 = 9;
+
+pub const NOT_ALLOWED: u8 = 10;

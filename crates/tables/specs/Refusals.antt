@@ -1,0 +1,46 @@
+-- The numbers of the refusals, by name: the table of "Causes and numbers" of paper 01. Assumes nothing.
+use Prim.Native.Nat.{ℕ}
+
+-- "fewer free output bytes than needed; place past the end; a planner handed in that breaks a limit"
+abbrev pub unusable : ℕ
+unusable = 1
+
+-- "line over 80 bytes"
+abbrev pub tooLong : ℕ
+tooLong = 2
+
+-- "no command of the table, wrong field count or form"
+abbrev pub broken : ℕ
+broken = 3
+
+-- "plan, check or judge with no loads"
+abbrev pub noLoads : ℕ
+noLoads = 4
+
+-- "value out of its range; bits not one for each load; judge given not three numbers for each load"
+abbrev pub outOfRange : ℕ
+outOfRange = 5
+
+-- "64 loads or 32 rules of that sort already"
+abbrev pub full : ℕ
+full = 6
+
+-- "the same rule already in the book"
+abbrev pub sameRule : ℕ
+sameRule = 7
+
+-- "plan with too few cells"
+abbrev pub tooFewCells : ℕ
+tooFewCells = 8
+
+-- "no allowed set fits"
+abbrev pub noneFits : ℕ
+noneFits = 9
+
+-- "checked set not allowed"
+abbrev pub notAllowed : ℕ
+notAllowed = 10
+
+-- no refusal has a greater number
+abbrev pub greatest : ℕ
+greatest = notAllowed
