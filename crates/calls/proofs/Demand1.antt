@@ -1,5 +1,5 @@
 -- Demand 1: every call gives its answer or the one refusal that applies, and leaves what the paper says. Assumes nothing.
-use Prim.Native.Nat.{ℕ, zero, suc, _+_, _≤_}
+use Prim.Native.Nat.{ℕ, zero, suc, _+_, _≤_, _<_}
 use mathlib.Core.Path.{_≡_, refl, sym, ap, subst, _∙_}
 use mathlib.Core.Bool.{Bool, true, false}
 use mathlib.Core.List.{List, [], _∷_, _++_, append-assoc}
@@ -10,6 +10,7 @@ use lib.Dec.{eqb, lit≤}
 use lib.ListN.{length, take, drop, length-take, length-append}
 use lib.Seq.{sets, sets-eq, take-at, drop-at}
 use Rattle.lines.specs.Answers.{refused}
+use Rattle.tables.specs.Refusals as no
 use Rattle.calls.specs.State.{State, StoredState, storedState, stateOf, keeps, Within, Sized}
 use Rattle.calls.specs.Rows.{Cause, _if_, Row, bytesOf}
 use Rattle.calls.specs.Causes.{lowest, allCauses, refusal}
@@ -55,12 +56,12 @@ module _ (l bs : List ℕ) (p : ℕ) (h : p + length bs ≤ length l) where
       ap (drop (p + length bs)) (sets-eq bs l p h) ∙ drop-at (take p l ++ bs) (drop (p + length bs) l) (p + length bs) size
 
 -- ---- one that keeps them
-not-one : (b : Bool) (cs : List Cause) → (lowest ((1 if b) ∷ cs) ≡ 1 → ⊥) → b ≡ false
+not-one : (b : Bool) (cs : List Cause) → (lowest ((no.unusable if b) ∷ cs) ≡ no.unusable → ⊥) → b ≡ false
 unfolding lowest
 not-one true cs d = absurd (d refl)
 not-one false cs d = refl
 
-refusal-text : (n : ℕ) (r : Row) → 2 ≤ n → text n r ≡ refused n
+refusal-text : (n : ℕ) (r : Row) → no.unusable < n → text n r ≡ refused n
 unfolding text
 refusal-text zero r h = absurd (omega arith)
 refusal-text (suc zero) r h = absurd (omega arith)
@@ -79,21 +80,21 @@ module _ (s : State) (h : Within s) (c : Call) where
   x : Right s (length (c .work)) r
   x = line-right s (length (c .work)) (c .line)
 
-  one : n ≡ 1 → answer s c ≡ turnedAway c
+  one : n ≡ no.unusable → answer s c ≡ turnedAway c
   unfolding text
-  one e = answer-at s c 1 r e refl ∙ ap (reply c 1 []) (unsearched 1 r (c .work) refl)
+  one e = answer-at s c no.unusable r e refl ∙ ap (reply c no.unusable []) (unsearched no.unusable r (c .work) refl)
 
   -- a call that is not turned away has room for its answer
-  room : (n ≡ 1 → ⊥) → c .place + length bs ≤ length (c .output)
+  room : (n ≡ no.unusable → ⊥) → c .place + length bs ≤ length (c .output)
   unfolding refusal allCauses answer
   room d = omega (arith, ltb-false (length (c .output)) (c .place + bytesOf r) (not-one _ _ d), answer-fits s h c)
 
-  one-or-room : (n ≡ 1) ⊎ (c .place + length bs ≤ length (c .output))
-  one-or-room = go (eqb n 1) refl
+  one-or-room : (n ≡ no.unusable) ⊎ (c .place + length bs ≤ length (c .output))
+  one-or-room = go (eqb n no.unusable) refl
     where
-      go : (b : Bool) → eqb n 1 ≡ b → (n ≡ 1) ⊎ (c .place + length bs ≤ length (c .output))
-      go true e = inl (eqb-true n 1 e)
-      go false e = inr (room (eqb-false n 1 e))
+      go : (b : Bool) → eqb n no.unusable ≡ b → (n ≡ no.unusable) ⊎ (c .place + length bs ≤ length (c .output))
+      go true e = inl (eqb-true n no.unusable e)
+      go false e = inr (room (eqb-false n no.unusable e))
 
   held : Demand1 (storedState s) c (handled s c)
   unfolding answer refusal lowest

@@ -10,6 +10,7 @@ use lib.ListN.{length}
 use Rattle.marks.specs.declared.LoadSet.{LoadSet}
 use Rattle.marks.specs.Sets.{markIn}
 use Rattle.lines.specs.declared.Command.the-variants.{Check}
+use Rattle.tables.specs.Refusals as no
 use Rattle.meaning.specs.Best.{bestCheck}
 use Rattle.meaning.specs.Choice.{checkEntries}
 use Rattle.meaning.proofs.Claims.{claims}
@@ -21,9 +22,9 @@ use Rattle.calls.specs.Calls.{Call, rowFor, numberOf, answer}
 use Rattle.calls.specs.Demand2.{CheckCall, CheckAllowed, CheckRefused, CheckRight}
 use Rattle.calls.proofs.Answers.{positive, roomy, row-is, answer-at}
 
-abbrev ten : Bool → ℕ
-ten true = 10
-ten false = 0
+abbrev refusedIf : Bool → ℕ
+refusedIf true = no.notAllowed
+refusedIf false = 0
 
 module _ (s : State) (c : Call) (σ : LoadSet) (k : CheckCall (s .tables) c σ) where
   abbrev r : Row
@@ -32,13 +33,13 @@ module _ (s : State) (c : Call) (σ : LoadSet) (k : CheckCall (s .tables) c σ) 
   check-row : rowFor s c ≡ r
   check-row = row-is s c (Check σ (length (s .tables .loads))) (k .line) (k .short)
 
-  check-number : (b : Bool) → notAllowed (s .tables) (markIn σ) ≡ b → numberOf s c ≡ ten b
+  check-number : (b : Bool) → notAllowed (s .tables) (markIn σ) ≡ b → numberOf s c ≡ refusedIf b
   unfolding row lowest
   check-number b e =
       ap (refusal (length (c .work)) (length (c .output)) (c .place)) check-row ∙ roomy (length (c .work)) (length (c .output)) (c .place) r (k .free)
       ∙ rw (ne-eqb (length (s .tables .loads)) 0 (λ e. absurd (omega (arith, k .loads))), eq-eqb (length (s .tables .loads)) (length (s .tables .loads)) refl, e) (go b)
     where
-      go : (b : Bool) → lowest ((10 if b) ∷ []) ≡ ten b
+      go : (b : Bool) → lowest ((no.notAllowed if b) ∷ []) ≡ refusedIf b
       go true = refl
       go false = refl
 
@@ -57,7 +58,7 @@ module _ (s : State) (c : Call) (σ : LoadSet) (k : CheckCall (s .tables) c σ) 
     unfolding notAllowed text workAfter
     none-found e = record {
       rejected = λ a. absurd (omega (arith, eqb-true (bestCheck (s .tables) (markIn σ)) 0 e, claims (s .tables) (h .tables) .allowed (markIn σ) .1 a));
-      answered = answer-at s c 10 r (check-number true e) check-row;
+      answered = answer-at s c no.notAllowed r (check-number true e) check-row;
     }
 
     pub check-right : CheckRight (s .tables) c σ (answer s c)

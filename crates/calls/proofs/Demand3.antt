@@ -8,6 +8,7 @@ use native.Mathlib.Omega.{arith}
 use borrow.Author.Tests.{eqb-true, eqb-false, ne-eqb, le-ltb}
 use lib.ListN.{length}
 use Rattle.lines.specs.declared.Command.the-variants.{Plan}
+use Rattle.tables.specs.Refusals as no
 use Rattle.tables.specs.Tables.{Tables}
 use Rattle.tables.specs.Limits.{mostPlaces}
 use Rattle.meaning.specs.Best.{bestPlan}
@@ -31,9 +32,9 @@ unfolding noneFits
 none-cell t e = eqb-true (bestPlan t) 0 e
 
 -- the number of a plan that demand 3 speaks of
-abbrev nine : Bool → ℕ
-nine true = 9
-nine false = 0
+abbrev refusedIf : Bool → ℕ
+refusedIf true = no.noneFits
+refusedIf false = 0
 
 module _ (s : State) (c : Call) (k : PlanCall (s .tables) c) where
   abbrev r : Row
@@ -42,13 +43,13 @@ module _ (s : State) (c : Call) (k : PlanCall (s .tables) c) where
   plan-row : rowFor s c ≡ r
   plan-row = row-is s c Plan (k .line) (k .short)
 
-  plan-number : (b : Bool) → noneFits (s .tables) ≡ b → numberOf s c ≡ nine b
+  plan-number : (b : Bool) → noneFits (s .tables) ≡ b → numberOf s c ≡ refusedIf b
   unfolding row lowest
   plan-number b e =
       ap (refusal (length (c .work)) (length (c .output)) (c .place)) plan-row ∙ roomy (length (c .work)) (length (c .output)) (c .place) r (k .free)
       ∙ rw (ne-eqb (length (s .tables .loads)) 0 (λ e. absurd (omega (arith, k .loads))), le-ltb (length (c .work)) (cellsOf (s .tables)) (k .cells), e) (go b)
     where
-      go : (b : Bool) → lowest ((9 if b) ∷ []) ≡ nine b
+      go : (b : Bool) → lowest ((no.noneFits if b) ∷ []) ≡ refusedIf b
       go true = refl
       go false = refl
 
@@ -66,7 +67,7 @@ module _ (s : State) (c : Call) (k : PlanCall (s .tables) c) where
           answered = a;
         }
 
-    number-is : (b : Bool) → noneFits (s .tables) ≡ b → answer s c .number ≡ nine b
+    number-is : (b : Bool) → noneFits (s .tables) ≡ b → answer s c .number ≡ refusedIf b
     unfolding answer
     number-is b e = plan-number b e
 

@@ -2,12 +2,12 @@
 use Prim.Native.Nat.{ℕ, zero, suc, _+_, _*_, _≤_, _<_, zero-le}
 use mathlib.Core.Path.{_≡_}
 use mathlib.Core.Bool.{Bool, true, false, _&&_}
-use mathlib.Core.List.{List, [], _∷_, map}
+use mathlib.Core.List.{List, [], _∷_}
 use native.Mathlib.Nat.{mul-suc}
 use native.Mathlib.Omega.{arith}
 use borrow.Author.Tests.{leb-true, eqb-false}
 use lib.Dec.{lit≤, eqb}
-use lib.ListN.{length, length-map}
+use lib.ListN.{length}
 use Rattle.lists.specs.Tests.{everyFrom}
 use Rattle.lists.specs.Argmax.{guard}
 use Rattle.lists.proofs.Bools.{and-left, and-right}
@@ -20,26 +20,27 @@ use Rattle.tables.proofs.Parts.{limits-parts}
 use Rattle.meaning.specs.Forest.{sum}
 use Rattle.meaning.specs.Sets.{counted, power, worth, numberOn}
 use Rattle.meaning.specs.Best.{bestPlan}
-use Rattle.meaning.specs.Choice.{Entry, find, inOrder, plan, check, planEntries, checkEntries, shownSet}
+use Rattle.tables.specs.declared.entry.Entry.{Entry}
+use Rattle.meaning.specs.Choice.{find, inOrder, plan, check, planEntries, checkEntries, shownSet}
 use Rattle.meaning.proofs.Ranges.{Bounded, plan-bounded, check-bounded}
 use Rattle.meaning.proofs.Entries.{Listed, plan-listed, check-listed}
 use Rattle.meaning.proofs.InOrder.{listed-length}
 use Rattle.meaning.proofs.Limits.{lawful, narrow}
 use Rattle.meaning.proofs.Claims.{claims}
-use Rattle.calls.specs.Rows.{noneFits, lineOf, planned, allowed, shownText}
+use Rattle.calls.specs.Rows.{noneFits, planned, allowed, shownText}
 use Rattle.calls.proofs.Answers.{positive}
 
 -- ---- load lines
 ranged : (es : List Entry) → ((i : ℕ) → Bounded (find es i)) → (k n : ℕ) → ((i : ℕ) → k ≤ i → i < k + n → find es i .number < 1000)
-    → AllRanged (map lineOf (inOrder es k n))
+    → AllRanged (inOrder es k n)
 unfolding inOrder
 ranged es b k zero h = tt
 ranged es b k (suc n) h = (
-  record { numbered = h k (omega arith) (omega arith); marked = b k .mark; inState = b k .state; byLoadRule = b k .loadRule; byRowRule = b k .rowRule },
+  record { number = h k (omega arith) (omega arith); mark = b k .mark; state = b k .state; rule = b k .rule; row = b k .row },
   ranged es b (suc k) n (λ i c d. h i (omega arith) (omega arith)),
 )
 
-all-ranged : (es : List Entry) (n : ℕ) → n < 1000 → Listed es n → ((i : ℕ) → Bounded (find es i)) → AllRanged (map lineOf (inOrder es 1 n))
+all-ranged : (es : List Entry) (n : ℕ) → n < 1000 → Listed es n → ((i : ℕ) → Bounded (find es i)) → AllRanged (inOrder es 1 n)
 all-ranged es n few l b = ranged es b 1 n (λ i c d. omega (arith, l .number i c (omega arith)))
 
 -- ---- the figures of a set
@@ -80,29 +81,29 @@ module _ (t : Tables) (h : Limits t) where
   few : length (t .loads) ≤ mostPlaces
   few = omega (arith, limits-parts t h .few, limits-parts t h .places)
 
-  pub plan-ranged : AllRanged (map lineOf (planEntries t))
+  pub plan-ranged : AllRanged (planEntries t)
   unfolding planEntries
   plan-ranged = all-ranged (plan t) (length (t .loads)) (omega (arith, few)) (plan-listed t (lawful t h .ordered)) (plan-bounded t (narrow t h))
 
-  pub check-ranged : (σ : ℕ → ℕ) → AllRanged (map lineOf (checkEntries t σ))
+  pub check-ranged : (σ : ℕ → ℕ) → AllRanged (checkEntries t σ)
   unfolding checkEntries
   check-ranged σ = all-ranged (check t σ) (length (t .loads)) (omega (arith, few)) (check-listed t (lawful t h .ordered) σ) (check-bounded t (narrow t h) σ)
 
-  plan-few : 14 * length (map lineOf (planEntries t)) + 20 ≤ freeBytes
+  plan-few : 14 * length (planEntries t) + 20 ≤ freeBytes
   unfolding planEntries
-  plan-few = omega (arith, few, length-map (planEntries t) lineOf, listed-length (plan t) (length (t .loads)) (plan-listed t (lawful t h .ordered)))
+  plan-few = omega (arith, few, listed-length (plan t) (length (t .loads)) (plan-listed t (lawful t h .ordered)))
 
-  check-few : (σ : ℕ → ℕ) → 14 * length (map lineOf (checkEntries t σ)) + 20 ≤ freeBytes
+  check-few : (σ : ℕ → ℕ) → 14 * length (checkEntries t σ) + 20 ≤ freeBytes
   unfolding checkEntries
-  check-few σ = omega (arith, few, length-map (checkEntries t σ) lineOf, listed-length (check t σ) (length (t .loads)) (check-listed t (lawful t h .ordered) σ))
+  check-few σ = omega (arith, few, listed-length (check t σ) (length (t .loads)) (check-listed t (lawful t h .ordered) σ))
 
   pub planned-fits : noneFits t ≡ false → length (shownText (planned t (planEntries t))) ≤ freeBytes
   unfolding noneFits
   planned-fits e =
       let σ = shownSet (planEntries t) in
       let fits = claims t h .planned (positive (eqb-false (bestPlan t) 0 e)) .optimum .fits in
-      plan-fits (map lineOf (planEntries t)) plan-ranged plan-few (worth t σ) (power t σ) (numberOn t σ)
+      plan-fits (planEntries t) plan-ranged plan-few (worth t σ) (power t σ) (numberOn t σ)
       (all-worth t h σ) (omega (arith, fits, leb-true (t .budget) 500 (limits-parts t h .budget))) (all-on t h σ)
 
   pub checked-fits : (σ : ℕ → ℕ) → length (shownText (allowed (checkEntries t σ))) ≤ freeBytes
-  checked-fits σ = check-fits (map lineOf (checkEntries t σ)) (check-ranged σ) (check-few σ)
+  checked-fits σ = check-fits (checkEntries t σ) (check-ranged σ) (check-few σ)

@@ -1,4 +1,4 @@
--- With n places for loads, load lines in range meet refusal 6 exactly at line n + 1. Assumes nothing.
+-- With n places for loads, load lines in range meet refusal 6 at line n + 1, and not before. Assumes nothing.
 use Prim.Native.Nat.{ℕ, zero, suc, _+_, _≤_, _<_}
 use mathlib.Core.Path.{_≡_, refl, ap, _∙_}
 use mathlib.Core.Bool.{Bool, true, false}
@@ -11,6 +11,7 @@ use Rattle.lists.specs.Tests.{pick}
 use Rattle.lists.proofs.Arrays.{length-snoc}
 use Rattle.lines.specs.declared.Command.the-variants as line
 use Rattle.lines.specs.declared.Change.the-variants as to
+use Rattle.tables.specs.Refusals as no
 use Rattle.tables.specs.Tables as on-paper
 use Rattle.tables.specs.Tables.{Tables}
 use Rattle.tables.specs.Limits.{mostPlaces}
@@ -33,13 +34,13 @@ module _ (n k : ℕ) (s : State) (places : s .tables .places ≡ n) (loads : len
   load-row : rowFor s c ≡ r
   load-row = row-is s c (line.Change (to.Load (l .parent) (l .power) (l .worth))) (l .line) (l .short)
 
-  load-number : numberOf s c ≡ pick (leb n k) 6 0
+  load-number : numberOf s c ≡ pick (leb n k) no.full 0
   unfolding row changing lowest
   load-number =
       ap (refusal (length (c .work)) (length (c .output)) (c .place)) load-row ∙ roomy (length (c .work)) (length (c .output)) (c .place) r (l .free)
       ∙ rw (loads, places, l .fits) (go (leb n k))
     where
-      go : (b : Bool) → lowest ((6 if b) ∷ []) ≡ pick b 6 0
+      go : (b : Bool) → lowest ((no.full if b) ∷ []) ≡ pick b no.full 0
       go true = refl
       go false = refl
 
@@ -48,7 +49,7 @@ module _ (n k : ℕ) (s : State) (places : s .tables .places ≡ n) (loads : len
   load-after h = ap (λ (x : State). x .tables) (after-number s c) ∙ rw (load-number, lt-leb n k h, load-row)
 
 numbers : (n k : ℕ) (s : State) → s .tables .places ≡ n → length (s .tables .loads) ≡ k → (xs : List Exchange) → Right s xs → LoadCalls (suc k) xs
-    → (j : ℕ) → k + j ≤ n → j < length xs → numberAt xs j ≡ pick (leb n (k + j)) 6 0
+    → (j : ℕ) → k + j ≤ n → j < length xs → numberAt xs j ≡ pick (leb n (k + j)) no.full 0
 unfolding answer
 numbers n k s p q [] r ls j most h = absurd (omega (arith, h))
 numbers n k s p q (x ∷ xs) r ls zero most h =

@@ -2,8 +2,10 @@
 use Prim.Native.Nat.{ℕ, zero, suc, _≤_}
 use mathlib.Core.Path.{_≡_, refl}
 use native.Mathlib.Omega.{arith}
+use lib.Dec.{lit<}
 use lib.ListN.{length}
 use Rattle.lines.proofs.Answers.{refused-fits}
+use Rattle.tables.specs.Refusals as no
 use Rattle.tables.specs.Limits.{Limits}
 use Rattle.calls.specs.State.{State, Within}
 use Rattle.calls.specs.Rows.{Row, bytesOf, causesOf}
@@ -18,7 +20,7 @@ use Rattle.calls.proofs.Refusals.{refusal-most}
 -- no cause at all: none of the row
 pub none-of-row : (n room place : ℕ) (r : Row) → refusal n room place r ≡ 0 → lowest (causesOf n r) ≡ 0
 unfolding refusal allCauses
-none-of-row n room place r e = passed 0 _ _ e .1
+none-of-row n room place r e = passed no.unusable _ _ (lit< tt) e .1
 
 module _ (s : State) (h : Within s) where
   pub after-within : (c : Call) → Within (after s c)
@@ -30,7 +32,7 @@ module _ (s : State) (h : Within s) where
       go (suc n) e = h .tables
 
   -- of a number of the table, and 0 only where no cause applies
-  pub text-fits : (cells n : ℕ) {r : Row} → Right s cells r → n ≤ 10 → (n ≡ 0 → lowest (causesOf cells r) ≡ 0) → length (text n r) ≤ bytesOf r
+  pub text-fits : (cells n : ℕ) {r : Row} → Right s cells r → n ≤ no.greatest → (n ≡ 0 → lowest (causesOf cells r) ≡ 0) → length (text n r) ≤ bytesOf r
   unfolding text
   text-fits cells zero x m e = x .shown h (e refl) .fits
   text-fits cells (suc zero) x m e = omega arith

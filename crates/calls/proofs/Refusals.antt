@@ -8,6 +8,7 @@ use native.Mathlib.Nat.{eq-zero-or-pos}
 use native.Mathlib.Omega.{arith}
 use lib.Dec.{lit≤}
 use lib.ListN.{length}
+use Rattle.tables.specs.Refusals as no
 use Rattle.tables.specs.Tables.{Tables}
 use Rattle.calls.specs.State.{State}
 use Rattle.calls.specs.Rows.{_if_, Row, changes, shows, works, causesOf}
@@ -19,20 +20,20 @@ use Rattle.calls.proofs.Rows.{Right}
 
 module _ {s : State} {n : ℕ} {r : Row} (x : Right s n r) where
   -- the lowest number that applies is given, each exactly in its case
-  pub causes-lowest : (b : Bool) (room place : ℕ) → let cs = (1 if b) ∷ allCauses n room place r in Lowest cs (lowest cs)
+  pub causes-lowest : (b : Bool) (room place : ℕ) → let cs = (no.unusable if b) ∷ allCauses n room place r in Lowest cs (lowest cs)
   unfolding allCauses
   causes-lowest b room place = record { given = lowest-given _; least = lowest-least 1 _ (lit≤ tt, (lit≤ tt, ascending-from (lit≤ tt) (causesOf n r) (x .ordered))) }
 
-  pub refusal-most : (room place : ℕ) → refusal n room place r ≤ 10
+  pub refusal-most : (room place : ℕ) → refusal n room place r ≤ no.greatest
   unfolding refusal allCauses
   refusal-most room place = go (eq-zero-or-pos _)
     where
-      go : (lowest (allCauses n room place r) ≡ 0) ⊎ (0 < lowest (allCauses n room place r)) → lowest (allCauses n room place r) ≤ 10
+      go : (lowest (allCauses n room place r) ≡ 0) ⊎ (0 < lowest (allCauses n room place r)) → lowest (allCauses n room place r) ≤ no.greatest
       go (inl e) = omega arith
       go (inr l) = lowest-range 1 (allCauses n room place r) (lit≤ tt, ascending-from (lit≤ tt) (causesOf n r) (x .ordered)) l .1
 
-  -- the number of a row with enough free bytes: 0, or from 2 to 10
-  pub past-one : 0 < lowest (causesOf n r) → (2 ≤ lowest (causesOf n r)) × (lowest (causesOf n r) ≤ 10)
+  -- the number of a row with enough free bytes: 0, or or a number of the row
+  pub past-one : 0 < lowest (causesOf n r) → (no.unusable < lowest (causesOf n r)) × (lowest (causesOf n r) ≤ no.greatest)
   past-one = lowest-range 2 (causesOf n r) (x .ordered)
 
 -- no change's number depends on the cells, and no other row acts

@@ -2,10 +2,10 @@
 use Prim.Native.Nat.{ℕ, suc, _≤_, _<_}
 use mathlib.Core.Path.{_≡_, refl}
 use mathlib.Core.Bool.{Bool, true, false, _&&_}
-use mathlib.Core.List.{List, [], map}
+use mathlib.Core.List.{List, []}
 use mathlib.Core.Logic.{_⊎_, inl, inr}
 use borrow.Author.Tests.{leb-false, eqb-false}
-use lib.Dec.{lit≤, eqb, leb, ltb}
+use lib.Dec.{lit<, lit≤, eqb, leb, ltb}
 use lib.ListN.{length}
 use Rattle.lists.specs.Tests.{pick, some}
 use Rattle.lists.proofs.Bools.{and-right}
@@ -16,19 +16,20 @@ use Rattle.lines.specs.declared.Command.{Command}
 use Rattle.lines.specs.declared.Command.the-variants as line
 use Rattle.lines.specs.Length.{tooLong}
 use Rattle.lines.specs.Grammar.{parse}
-use Rattle.lines.specs.Answers.{freeBytes, LoadLine, AllRanged, numberOf, textOf}
+use Rattle.lines.specs.Answers.{freeBytes, AllRanged, numberOf, textOf}
 use Rattle.tables.specs.declared.rule.Transition.{Transition}
+use Rattle.tables.specs.Refusals as no
 use Rattle.tables.specs.Tables.{Tables}
 use Rattle.tables.specs.Limits.{between, bookSize, sameRule, maxRules, loadIn, powerIn, worthIn, budgetIn, Limits}
 use Rattle.tables.proofs.Parts.{limits-parts}
 use Rattle.tables.proofs.Keeps.{fresh-limits, new-book-keeps, mark-start-keeps, mark-end-keeps, add-load-rule-keeps, add-row-rule-keeps, add-load-keeps, set-power-keeps, set-worth-keeps, set-budget-keeps}
 use Rattle.meaning.specs.Best.{bestPlan, bestCheck}
-use Rattle.meaning.specs.Choice.{Entry}
+use Rattle.tables.specs.declared.entry.Entry.{Entry}
 use Rattle.meaning.specs.Claims.{EachLoad}
 use Rattle.meaning.specs.Cells.{cellsOf}
 use Rattle.meaning.proofs.Claims.{claims}
 use Rattle.calls.specs.State.{State, Within}
-use Rattle.calls.specs.Rows.{Changing, Shown, shownText, lineOf, Row, changes, shows, rule, load, isLoad, noneFits, notAllowed, ruleCauses, changing, refuses, row, lineRow, bytesOf, mostBytes, causesOf, effectOf, shownOf}
+use Rattle.calls.specs.Rows.{Changing, Shown, shownText, Row, changes, shows, rule, load, isLoad, noneFits, notAllowed, ruleCauses, changing, refuses, row, lineRow, bytesOf, mostBytes, causesOf, effectOf, shownOf}
 use Rattle.calls.specs.Causes.{lowest}
 use Rattle.calls.proofs.Numbers.{passed, passed-not, Ascending}
 use Rattle.calls.proofs.Answers.{positive}
@@ -45,37 +46,37 @@ is-sound o k = record { ordered = o; keeps = k }
 -- what a rule of either sort that is accepted has passed
 new-rule : (b : Bool) (r : Transition) (rs : List Transition) → lowest (ruleCauses b r rs) ≡ 0 → (b ≡ true) × (length rs < maxRules) × (some (sameRule r) rs ≡ false)
 new-rule b r rs e =
-    let p = passed-not 4 b _ e in
-    let q = passed 5 (leb maxRules (length rs)) _ (p .1) in
-    (p .0, leb-false maxRules (length rs) (q .0), passed 6 (some (sameRule r) rs) [] (q .1) .0)
+    let p = passed-not no.outOfRange b _ (lit< tt) e in
+    let q = passed no.full (leb maxRules (length rs)) _ (lit< tt) (p .1) in
+    (p .0, leb-false maxRules (length rs) (q .0), passed no.sameRule (some (sameRule r) rs) [] (lit< tt) (q .1) .0)
 
 sound : (t : Tables) (c : Change) → Sound t (changing t c)
 unfolding changing
 sound t to.Clear = is-sound (lit≤ tt) (λ h e. fresh-limits (t .places) (limits-parts t h .places))
-sound t (to.Book s g) = is-sound (lit≤ tt, lit≤ tt) (λ h e. new-book-keeps t h s g (passed-not 4 (bookSize s g) [] e .0))
-sound t (to.Start q) = is-sound (lit≤ tt, lit≤ tt) (λ h e. mark-start-keeps t h q (passed-not 4 (between 1 (t .book .states) q) [] e .0))
-sound t (to.End g) = is-sound (lit≤ tt, lit≤ tt) (λ h e. mark-end-keeps t h g (passed-not 4 (between 1 (t .book .stages) g) [] e .0))
+sound t (to.Book s g) = is-sound (lit≤ tt, lit≤ tt) (λ h e. new-book-keeps t h s g (passed-not no.outOfRange (bookSize s g) [] (lit< tt) e .0))
+sound t (to.Start q) = is-sound (lit≤ tt, lit≤ tt) (λ h e. mark-start-keeps t h q (passed-not no.outOfRange (between 1 (t .book .states) q) [] (lit< tt) e .0))
+sound t (to.End g) = is-sound (lit≤ tt, lit≤ tt) (λ h e. mark-end-keeps t h g (passed-not no.outOfRange (between 1 (t .book .stages) g) [] (lit< tt) e .0))
 sound t (to.Rule q m g) =
     is-sound (lit≤ tt, (lit≤ tt, (lit≤ tt, lit≤ tt))) (λ h e. let p = new-rule _ (rule q m g) (t .book .loadRules) e in add-load-rule-keeps t h (rule q m g) (p .0) (p .1) (p .2))
 sound t (to.Row g q k) =
     is-sound (lit≤ tt, (lit≤ tt, (lit≤ tt, lit≤ tt))) (λ h e. let p = new-rule _ (rule g q k) (t .book .rowRules) e in add-row-rule-keeps t h (rule g q k) (p .0) (p .1) (p .2))
 sound t (to.Load p w v) =
     is-sound (lit≤ tt, (lit≤ tt, lit≤ tt)) (λ h e.
-    let a = passed-not 4 (loadIn (suc (length (t .loads))) (load p w v)) _ e in
-    let b = passed 5 (leb (t .places) (length (t .loads))) [] (a .1) in
+    let a = passed-not no.outOfRange (loadIn (suc (length (t .loads))) (load p w v)) _ (lit< tt) e in
+    let b = passed no.full (leb (t .places) (length (t .loads))) [] (lit< tt) (a .1) in
     add-load-keeps t h (load p w v) (a .0) (leb-false (t .places) (length (t .loads)) (b .0)))
-sound t (to.Power k w) = is-sound (lit≤ tt, lit≤ tt) (λ h e. set-power-keeps t h k w (and-right (isLoad t k) (powerIn w) (passed-not 4 (isLoad t k && powerIn w) [] e .0)))
-sound t (to.Worth k v) = is-sound (lit≤ tt, lit≤ tt) (λ h e. set-worth-keeps t h k v (and-right (isLoad t k) (worthIn v) (passed-not 4 (isLoad t k && worthIn v) [] e .0)))
-sound t (to.Budget w) = is-sound (lit≤ tt, lit≤ tt) (λ h e. set-budget-keeps t h w (passed-not 4 (budgetIn w) [] e .0))
+sound t (to.Power k w) = is-sound (lit≤ tt, lit≤ tt) (λ h e. set-power-keeps t h k w (and-right (isLoad t k) (powerIn w) (passed-not no.outOfRange (isLoad t k && powerIn w) [] (lit< tt) e .0)))
+sound t (to.Worth k v) = is-sound (lit≤ tt, lit≤ tt) (λ h e. set-worth-keeps t h k v (and-right (isLoad t k) (worthIn v) (passed-not no.outOfRange (isLoad t k && worthIn v) [] (lit< tt) e .0)))
+sound t (to.Budget w) = is-sound (lit≤ tt, lit≤ tt) (λ h e. set-budget-keeps t h w (passed-not no.outOfRange (budgetIn w) [] (lit< tt) e .0))
 
 -- ---- rows
 -- an answer has no load lines, or its entries are one for each load
 pub record OneEach (t : Tables) (es : List Entry) : Type 0 where
   pub loads : EachLoad t es
-  pub ranged : AllRanged (map lineOf es)
+  pub ranged : AllRanged es
 
 abbrev pub Listing : Tables → Shown → Type 0
-Listing t x = ((ls : List LoadLine) → textOf (x .answer) ls ≡ shownText x) ⊎ OneEach t (x .entries)
+Listing t x = ((es : List Entry) → textOf (x .answer) es ≡ shownText x) ⊎ OneEach t (x .entries)
 
 -- what a row shows where no cause applies
 pub record Showing (t : Tables) (bytes : ℕ) (x : Shown) : Type 0 where
@@ -90,14 +91,14 @@ pub record Right (s : State) (cells : ℕ) (r : Row) : Type 0 where
   pub keeps : Within s → lowest (causesOf cells r) ≡ 0 → Limits (effectOf (s .tables) r)
   pub shown : Within s → lowest (causesOf cells r) ≡ 0 → Showing (s .tables) (bytesOf r) (shownOf r)
 
-refuses-right : (s : State) (cells n : ℕ) → 2 ≤ n → n ≤ 10 → Right s cells (refuses n)
+refuses-right : (s : State) (cells n : ℕ) → no.unusable < n → n ≤ no.greatest → Right s cells (refuses n)
 refuses-right s cells n a b = record {
   ordered = (a, b);
   room = lit≤ tt;
   most = lit≤ tt;
   accepts = refl;
   keeps = λ h e. h .tables;
-  shown = λ h e. record { fits = lit≤ tt; lists = inl (λ ls. refl) };
+  shown = λ h e. record { fits = lit≤ tt; lists = inl (λ es. refl) };
 }
 
 right : (s : State) (n : ℕ) (c : Command) → Right s n (row s c)
@@ -110,7 +111,7 @@ right s n (line.Change c) =
       most = lit≤ tt;
       accepts = refl;
       keeps = λ h. x .keeps (h .tables);
-      shown = λ h e. record { fits = lit≤ tt; lists = inl (λ ls. refl) };
+      shown = λ h e. record { fits = lit≤ tt; lists = inl (λ es. refl) };
     }
 right s n line.Plan =
     let t = s .tables in
@@ -121,7 +122,7 @@ right s n line.Plan =
       accepts = refl;
       keeps = λ h e. h .tables;
       shown = λ h e.
-          let some = passed 8 (noneFits t) [] (passed 7 (ltb n (cellsOf t)) _ (passed 3 (eqb (length (t .loads)) 0) _ e .1) .1) .0 in
+          let some = passed no.noneFits (noneFits t) [] (lit< tt) (passed no.tooFewCells (ltb n (cellsOf t)) _ (lit< tt) (passed no.noLoads (eqb (length (t .loads)) 0) _ (lit< tt) e .1) .1) .0 in
           let p = claims t (h .tables) .planned (positive (eqb-false (bestPlan t) 0 some)) in
           record { fits = planned-fits t (h .tables) some; lists = inr (record { loads = p .loads; ranged = plan-ranged t (h .tables) }) };
     }
@@ -134,16 +135,16 @@ right s n (line.Check σ k) =
       accepts = refl;
       keeps = λ h e. h .tables;
       shown = λ h e.
-          let some = passed 9 (notAllowed t (markIn σ)) [] (passed-not 4 (eqb k (length (t .loads))) _ (passed 3 (eqb (length (t .loads)) 0) _ e .1) .1) .0 in
+          let some = passed no.notAllowed (notAllowed t (markIn σ)) [] (lit< tt) (passed-not no.outOfRange (eqb k (length (t .loads))) _ (lit< tt) (passed no.noLoads (eqb (length (t .loads)) 0) _ (lit< tt) e .1) .1) .0 in
           let p = claims t (h .tables) .checked (markIn σ) (positive (eqb-false (bestCheck t (markIn σ)) 0 some)) in
           record { fits = checked-fits t (h .tables) (markIn σ); lists = inr (record { loads = p .loads; ranged = check-ranged t (h .tables) (markIn σ) }) };
     }
-right s n line.Broken = refuses-right s n 3 (lit≤ tt) (lit≤ tt)
+right s n line.Broken = refuses-right s n no.broken (lit≤ tt) (lit≤ tt)
 
 pub line-right : (s : State) (n : ℕ) (l : List ℕ) → Right s n (lineRow s l)
 unfolding lineRow
 line-right s n l = go (tooLong l)
   where
-    go : (b : Bool) → Right s n (pick b (refuses 2) (row s (parse l)))
-    go true = refuses-right s n 2 (lit≤ tt) (lit≤ tt)
+    go : (b : Bool) → Right s n (pick b (refuses no.tooLong) (row s (parse l)))
+    go true = refuses-right s n no.tooLong (lit≤ tt) (lit≤ tt)
     go false = right s n (parse l)

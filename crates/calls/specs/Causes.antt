@@ -5,6 +5,7 @@ use mathlib.Core.Path.{_≡_}
 use mathlib.Core.Bool.{true, false}
 use mathlib.Core.List.{List, [], _∷_}
 use lib.Dec.{ltb}
+use Rattle.tables.specs.Refusals as no
 use Rattle.calls.specs.Rows.{Cause, _if_, Row, bytesOf, causesOf}
 
 -- "The lowest number that applies is given"; "0 if accepted"
@@ -14,7 +15,7 @@ lowest (c ∷ cs) = elim (c .applies) [ true ↦ c .number | false ↦ lowest cs
 
 -- "fewer free output bytes than needed", so a place past the end has too few; then those of the row
 unfoldable pub allCauses : (cells room place : ℕ) → Row → List Cause
-allCauses n room place r = (1 if ltb room (place + bytesOf r)) ∷ causesOf n r
+allCauses n room place r = (no.unusable if ltb room (place + bytesOf r)) ∷ causesOf n r
 
 -- the number of a row, given the cells, the length of the output and the place in it
 unfoldable pub refusal : (cells room place : ℕ) → Row → ℕ

@@ -9,6 +9,7 @@ use mathlib.Core.Bool.{true, false, not}
 use mathlib.Core.List.{List, _∷_}
 use lib.ListN.{length, take, drop}
 use Rattle.lines.specs.Answers.{refused}
+use Rattle.tables.specs.Refusals as no
 use Rattle.calls.specs.State.{StoredState, stateOf, keeps}
 use Rattle.calls.specs.Rows.{Cause, _if_, bytesOf, cellsFor}
 use Rattle.calls.specs.Causes.{allCauses, Lowest}
@@ -17,18 +18,18 @@ use Rattle.calls.specs.Calls.{Call, rowFor, Done, written, turnedAway}
 
 -- every cause of the table, in its order: "a planner handed in that breaks a limit", then those of its state
 abbrev pub causesOf : StoredState → Call → List Cause
-causesOf p c = (1 if not (keeps p)) ∷ allCauses (length (c .work)) (length (c .output)) (c .place) (rowFor (stateOf p) c)
+causesOf p c = (no.unusable if not (keeps p)) ∷ allCauses (length (c .work)) (length (c .output)) (c .place) (rowFor (stateOf p) c)
 
 pub record Demand1 (p : StoredState) (c : Call) (d : Done) : Type 0 where
   -- its answer, or exactly in the paper's case one numbered refusal
   pub number : Lowest (causesOf p c) (d .reply .number)
-  pub most : d .reply .number ≤ 10
+  pub most : d .reply .number ≤ no.greatest
   -- a refusal changes nothing that the planner keeps
   pub state : 0 < d .reply .number → d .state ≡ p
   -- 1: "number, 0 bytes", and "everything" is left as it was
-  pub one : d .reply .number ≡ 1 → d .reply ≡ turnedAway c
+  pub one : d .reply .number ≡ no.unusable → d .reply ≡ turnedAway c
   -- from 2 on: "number, `no,N`"
-  pub prints : 2 ≤ d .reply .number → written c (d .reply) ≡ refused (d .reply .number)
+  pub prints : no.unusable < d .reply .number → written c (d .reply) ≡ refused (d .reply .number)
   -- "1,024 bytes must be free from there": no answer is longer than the bytes that its line needs
   pub fits : d .reply .count ≤ bytesOf (rowFor (stateOf p) c)
   -- "Bytes before the place and after the answer keep their values."

@@ -10,6 +10,7 @@ use Rattle.lines.specs.declared.Change.the-variants as to
 use Rattle.lines.specs.Length.{tooLong}
 use Rattle.lines.specs.Grammar.{parse}
 use Rattle.lines.specs.Answers.{freeBytes}
+use Rattle.tables.specs.Refusals as no
 use Rattle.tables.specs.Limits.{loadIn}
 use Rattle.calls.specs.Rows.{load}
 use Rattle.calls.specs.Calls.{Call}
@@ -37,4 +38,4 @@ numberAt xs j = getD (map (λ (x : Exchange). x .done .reply .number) xs) j 0
 -- the first n are accepted, and the one after them is refused with 6
 pub record FullAfter (n : ℕ) (xs : List Exchange) : Type 0 where
   pub accepted : (j : ℕ) → j < n → j < length xs → numberAt xs j ≡ 0
-  pub full : n < length xs → numberAt xs n ≡ 6
+  pub full : n < length xs → numberAt xs n ≡ no.full

@@ -7,6 +7,7 @@ use lib.Dec.{eqb}
 use lib.ListN.{replicate, drop}
 use Rattle.lists.specs.Tests.{pick}
 use Rattle.lines.specs.declared.answer.Answer.the-variants.{Refused}
+use Rattle.tables.specs.Refusals as no
 use Rattle.calls.specs.Rows.{Shown, alone, shownText, Row, shownOf, cellsFor}
 
 -- what a row with this number, 0 if accepted, is answered
@@ -26,7 +27,7 @@ zeroed n w = replicate n 0 ++ drop n w
 
 -- does a row with this number look for a set?
 abbrev pub searched : ℕ → Bool
-searched n = eqb n 0 || eqb n 9
+searched n = eqb n 0 || eqb n no.noneFits
 
 -- ".. and all cells after any other call, are unchanged"
 unfoldable pub workAfter : (number : ℕ) → Row → List ℕ → List ℕ

@@ -3,7 +3,7 @@
 -- It stands for the table of "Lines" and rows 2 to 10 of "Causes and numbers" of paper 01. Assumes nothing.
 use Prim.Native.Nat.{ℕ, suc}
 use mathlib.Core.Bool.{Bool, true, _&&_, not}
-use mathlib.Core.List.{List, [], _∷_, _++_, map}
+use mathlib.Core.List.{List, [], _∷_, _++_}
 use lib.Dec.{eqb, leb, ltb}
 use lib.ListN.{length}
 use Rattle.lists.specs.Tests.{pick, some}
@@ -16,16 +16,18 @@ use Rattle.lines.specs.declared.answer.Answer.{Answer}
 use Rattle.lines.specs.declared.answer.Answer.the-variants.{Accepted, Planned, Allowed}
 use Rattle.lines.specs.Length.{tooLong}
 use Rattle.lines.specs.Grammar.{parse}
-use Rattle.lines.specs.Answers.{freeBytes, LoadLine, textOf}
+use Rattle.lines.specs.Answers.{freeBytes, textOf}
 use Rattle.tables.specs.declared.rule.Transition.{Transition}
 use Rattle.tables.specs.declared.load.Load.{Load}
+use Rattle.tables.specs.Refusals as no
 use Rattle.tables.specs.Tables as on-paper
 use Rattle.tables.specs.Tables.{Tables}
 use Rattle.tables.specs.Limits.{between, bookSize, ruleIn, loadRuleRange, rowRuleRange, sameRule, maxRules, loadIn, powerIn, worthIn, budgetIn}
 use Rattle.tables.specs.Changes.{newBook, markStart, markEnd, addLoadRule, addRowRule, addLoad, setPower, setWorth, setBudget}
 use Rattle.meaning.specs.Sets.{power, worth, numberOn}
 use Rattle.meaning.specs.Best.{bestPlan, bestCheck}
-use Rattle.meaning.specs.Choice.{Entry, planEntries, checkEntries, shownSet}
+use Rattle.tables.specs.declared.entry.Entry.{Entry}
+use Rattle.meaning.specs.Choice.{planEntries, checkEntries, shownSet}
 use Rattle.meaning.specs.Cells.{cellsOf}
 use Rattle.calls.specs.State.{State}
 
@@ -65,12 +67,8 @@ planned t es = record { answer = Planned (worth t (shownSet es)) (power t (shown
 abbrev pub allowed : List Entry → Shown
 allowed es = record { answer = Allowed; entries = es }
 
--- "and then for each load `number,mark,state,load rule,row rule`"
-abbrev pub lineOf : Entry → LoadLine
-lineOf e = record { number = e .number; mark = e .mark; state = e .state; loadRule = e .loadRule; rowRule = e .rowRule }
-
 abbrev pub shownText : Shown → List ℕ
-shownText x = textOf (x .answer) (map lineOf (x .entries))
+shownText x = textOf (x .answer) (x .entries)
 
 unfoldable pub planText : Tables → List Entry → List ℕ
 planText t es = shownText (planned t es)
@@ -102,22 +100,22 @@ unless cs u = record { causes = cs; after = u }
 
 -- a rule of either sort
 abbrev pub ruleCauses : Bool → Transition → List Transition → List Cause
-ruleCauses fits r rs = (5 if not fits) ∷ (6 if leb maxRules (length rs)) ∷ (7 if some (sameRule r) rs) ∷ []
+ruleCauses fits r rs = (no.outOfRange if not fits) ∷ (no.full if leb maxRules (length rs)) ∷ (no.sameRule if some (sameRule r) rs) ∷ []
 
 unfoldable pub changing : Tables → Change → Changing
 changing t to.Clear = unless [] (on-paper.fresh (t .places))
-changing t (to.Book s g) = unless ((5 if not (bookSize s g)) ∷ []) (newBook t s g)
-changing t (to.Start q) = unless ((5 if not (between 1 (t .book .states) q)) ∷ []) (markStart t q)
-changing t (to.End g) = unless ((5 if not (between 1 (t .book .stages) g)) ∷ []) (markEnd t g)
+changing t (to.Book s g) = unless ((no.outOfRange if not (bookSize s g)) ∷ []) (newBook t s g)
+changing t (to.Start q) = unless ((no.outOfRange if not (between 1 (t .book .states) q)) ∷ []) (markStart t q)
+changing t (to.End g) = unless ((no.outOfRange if not (between 1 (t .book .stages) g)) ∷ []) (markEnd t g)
 changing t (to.Rule q m g) =
     unless (ruleCauses (ruleIn (loadRuleRange (t .book .states) (t .book .stages)) (rule q m g)) (rule q m g) (t .book .loadRules)) (addLoadRule t (rule q m g))
 changing t (to.Row g q h) =
     unless (ruleCauses (ruleIn (rowRuleRange (t .book .states) (t .book .stages)) (rule g q h)) (rule g q h) (t .book .rowRules)) (addRowRule t (rule g q h))
 changing t (to.Load p w v) =
-    unless ((5 if not (loadIn (suc (length (t .loads))) (load p w v))) ∷ (6 if leb (t .places) (length (t .loads))) ∷ []) (addLoad t (load p w v))
-changing t (to.Power k w) = unless ((5 if not (isLoad t k && powerIn w)) ∷ []) (setPower t k w)
-changing t (to.Worth k v) = unless ((5 if not (isLoad t k && worthIn v)) ∷ []) (setWorth t k v)
-changing t (to.Budget b) = unless ((5 if not (budgetIn b)) ∷ []) (setBudget t b)
+    unless ((no.outOfRange if not (loadIn (suc (length (t .loads))) (load p w v))) ∷ (no.full if leb (t .places) (length (t .loads))) ∷ []) (addLoad t (load p w v))
+changing t (to.Power k w) = unless ((no.outOfRange if not (isLoad t k && powerIn w)) ∷ []) (setPower t k w)
+changing t (to.Worth k v) = unless ((no.outOfRange if not (isLoad t k && worthIn v)) ∷ []) (setWorth t k v)
+changing t (to.Budget b) = unless ((no.outOfRange if not (budgetIn b)) ∷ []) (setBudget t b)
 
 -- a line that has this number whatever the state
 abbrev pub refuses : ℕ → Row
@@ -126,16 +124,18 @@ refuses n = shows freeBytes ((n if true) ∷ []) (alone Accepted)
 unfoldable pub row : State → Command → Row
 row s (line.Change c) = changes (changing (s .tables) c)
 row s line.Plan =
-    let t = s .tables in works freeBytes (cellsOf t) ((4 if eqb (length (t .loads)) 0) ∷ []) ((9 if noneFits t) ∷ []) (planned t (planEntries t))
+    let t = s .tables in
+    works freeBytes (cellsOf t) ((no.noLoads if eqb (length (t .loads)) 0) ∷ []) ((no.noneFits if noneFits t) ∷ []) (planned t (planEntries t))
 row s (line.Check σ n) =
     let t = s .tables in
-    shows freeBytes ((4 if eqb (length (t .loads)) 0) ∷ (5 if not (eqb n (length (t .loads)))) ∷ (10 if notAllowed t (markIn σ)) ∷ [])
+    shows freeBytes
+    ((no.noLoads if eqb (length (t .loads)) 0) ∷ (no.outOfRange if not (eqb n (length (t .loads)))) ∷ (no.notAllowed if notAllowed t (markIn σ)) ∷ [])
     (allowed (checkEntries t (markIn σ)))
-row s line.Broken = refuses 3
+row s line.Broken = refuses no.broken
 
 -- of a line: "line over 80 bytes" is judged before its form
 unfoldable pub lineRow : State → List ℕ → Row
-lineRow s l = pick (tooLong l) (refuses 2) (row s (parse l))
+lineRow s l = pick (tooLong l) (refuses no.tooLong) (row s (parse l))
 
 -- ---- what is read off a row
 -- the bytes that must be free
@@ -152,7 +152,7 @@ mostBytes = freeBytes
 abbrev pub causesOf : (cells : ℕ) → Row → List Cause
 causesOf n (changes x) = x .causes
 causesOf n (shows b cs x) = cs
-causesOf n (works b m before after x) = before ++ ((8 if ltb n m) ∷ after)
+causesOf n (works b m before after x) = before ++ ((no.tooFewCells if ltb n m) ∷ after)
 
 -- the tables after it
 abbrev pub effectOf : Tables → Row → Tables

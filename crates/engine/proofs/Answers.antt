@@ -14,7 +14,8 @@ use Rattle.tables.specs.Tables.{Tables}
 use Rattle.tables.specs.Limits.{maxLoads}
 use Rattle.meaning.specs.Forest.{IsTree}
 use Rattle.meaning.specs.Sets.{numberOn}
-use Rattle.meaning.specs.Choice.{Entry, noEntry, find, inOrder, plan, check, planEntries, checkEntries, shownSet}
+use Rattle.tables.specs.declared.entry.Entry.{Entry}
+use Rattle.meaning.specs.Choice.{noEntry, find, inOrder, plan, check, planEntries, checkEntries, shownSet}
 use Rattle.meaning.specs.Claims.{Numbered}
 use Rattle.meaning.proofs.Entries.{Listed, plan-listed, check-listed}
 use Rattle.marks.specs.Sets.{hasLoad, sizeOf, markIn}
@@ -39,16 +40,16 @@ find-at (e ∷ es) k (suc i) o h =
 -- the entry of the load at place i, as the run by value has it
 pub record ShownAt (es : List Entry) (i : ℕ) : Type 0 where
   pub state : getD (runOf es .states) i 0 ≡ getD es i noEntry .state
-  pub loadRule : getD (runOf es .«load_rules») i 0 ≡ getD es i noEntry .loadRule
-  pub rowRule : getD (runOf es .«row_rules») i 0 ≡ getD es i noEntry .rowRule
+  pub rule : getD (runOf es .«load_rules») i 0 ≡ getD es i noEntry .rule
+  pub row : getD (runOf es .«row_rules») i 0 ≡ getD es i noEntry .row
   pub mark : hasLoad (runOf es .set) (suc i) ≡ eqb (getD es i noEntry .mark) 1
 
 pub shown-at : (es : List Entry) → Numbered 1 es → length es ≤ maxLoads → (i : ℕ) → i < length es → ShownAt es i
 unfolding runOf
 shown-at es o few i h = record {
   state = at (λ e. e .state);
-  loadRule = at (λ e. e .loadRule);
-  rowRule = at (λ e. e .rowRule);
+  rule = at (λ e. e .rule);
+  row = at (λ e. e .row);
   mark = has-shown es o few (suc i) ∙ ap (λ (e : Entry). eqb (e .mark) 1) (ap (find es) (sym (one-add i)) ∙ find-at es 1 i o h);
 }
   where

@@ -15,7 +15,8 @@ use Rattle.meaning.specs.Runs.{isStart, Assigned}
 use Rattle.meaning.specs.Forest.{Item, tree, IsTree}
 use Rattle.meaning.specs.Cell.{_⊕_, draw, score}
 use Rattle.meaning.specs.Best.{loadReach, rowReach, bestTree}
-use Rattle.meaning.specs.Choice.{Entry, chooseTree, marksOf, assignedBy, Follows}
+use Rattle.tables.specs.declared.entry.Entry.{Entry}
+use Rattle.meaning.specs.Choice.{chooseTree, marksOf, assignedBy, Follows}
 use Rattle.meaning.specs.Cells.{loadAt, firstChild, nextSibling, rowCells, branchCells, rowEntries, branchEntries}
 use Rattle.meaning.proofs.Cell.{⊕-pos}
 use Rattle.meaning.proofs.Cells.{row-cell, row-entries, root-cell, root-entries}

@@ -15,7 +15,8 @@ use Rattle.tables.specs.Stored.{bookOf}
 use Rattle.meaning.specs.Runs.{Assigned}
 use Rattle.meaning.specs.Forest.{after}
 use Rattle.meaning.specs.Cells.{firstChild, nextSibling}
-use Rattle.meaning.specs.Choice.{Entry, find, inOrder, assigned}
+use Rattle.tables.specs.declared.entry.Entry.{Entry}
+use Rattle.meaning.specs.Choice.{find, inOrder, assigned}
 use Rattle.meaning.proofs.Entries.{tree-listed}
 use Rattle.meaning.proofs.Rows.{after-above}
 use Rattle.cells.specs.declared.problem.Problem.{Problem}
@@ -131,8 +132,8 @@ module _ (p : Problem) (ok : Lawful p) where
       number = suc n;
       mark = loadChoice p (suc n) q c .mark;
       state = q;
-      loadRule = loadChoice p (suc n) q c .rule;
-      rowRule = r;
+      rule = loadChoice p (suc n) q c .rule;
+      row = r;
     }
 
     entry-found : shownFor ≡ find (entriesFor p) (suc n)
@@ -145,7 +146,7 @@ module _ (p : Problem) (ok : Lawful p) where
         sym (ap₂ (λ k m. entry k m (assigned (find (entriesFor p) (suc n)))) number mark ∙ ap (entry (suc n) (loadRule (bookFor p) (itemsFor p) (loadsFor p) (suc n) q c .label)) rules)
       where
         entry : ℕ → ℕ → Assigned → Entry
-        entry k m a = record { number = k; mark = m; state = a .state; loadRule = a .loadRule; rowRule = a .rowRule }
+        entry k m a = record { number = k; mark = m; state = a .state; rule = a .loadRule; row = a .rowRule }
 
     run-more : (u : Run) → u ≡ runOf (inOrder (entriesFor p) 1 n) → withEntry u shownFor ≡ runOf (inOrder (entriesFor p) 1 (suc n))
     run-more u e =

@@ -16,7 +16,8 @@ use Rattle.marks.specs.declared.LoadSet.{LoadSet}
 use Rattle.marks.specs.Sets.{noLoads, joined, hasLoad, markIn}
 use Rattle.marks.proofs.Sets.{has-no-loads, has-joined-same, has-joined-other}
 use Rattle.tables.specs.Limits.{maxLoads}
-use Rattle.meaning.specs.Choice.{Entry, noEntry, find, inOrder, marksOf, shownSet}
+use Rattle.tables.specs.declared.entry.Entry.{Entry}
+use Rattle.meaning.specs.Choice.{noEntry, find, inOrder, marksOf, shownSet}
 use Rattle.meaning.specs.Claims.{Numbered}
 use Rattle.engine.specs.declared.run.Run.{Run}
 use Rattle.engine.specs.Shown.{marking, markAll, runOf, withEntry, outcomeOf}
@@ -65,10 +66,10 @@ runFrom a b c s = record { states = a; «load_rules» = b; «row_rules» = c; se
 pub run-snoc : (es : List Entry) (e : Entry) → e .number ≡ suc (length es) → length es < maxLoads → withEntry (runOf es) e ≡ runOf (es ++ (e ∷ []))
 unfolding runOf withEntry
 run-snoc es e q h =
-    ap₂ (λ a b. runFrom a b (set (laid 0 maxLoads (map (λ e. e .rowRule) es)) (e .number - 1) (e .rowRule)) (marking (markAll noLoads es) e))
-    (laid-more (λ e. e .state) es e (e .number) q h) (laid-more (λ e. e .loadRule) es e (e .number) q h)
-    ∙ ap₂ (λ a s. runFrom (laid 0 maxLoads (map (λ e. e .state) (es ++ (e ∷ [])))) (laid 0 maxLoads (map (λ e. e .loadRule) (es ++ (e ∷ [])))) a s)
-    (laid-more (λ e. e .rowRule) es e (e .number) q h) (sym (mark-snoc noLoads es e))
+    ap₂ (λ a b. runFrom a b (set (laid 0 maxLoads (map (λ e. e .row) es)) (e .number - 1) (e .row)) (marking (markAll noLoads es) e))
+    (laid-more (λ e. e .state) es e (e .number) q h) (laid-more (λ e. e .rule) es e (e .number) q h)
+    ∙ ap₂ (λ a s. runFrom (laid 0 maxLoads (map (λ e. e .state) (es ++ (e ∷ [])))) (laid 0 maxLoads (map (λ e. e .rule) (es ++ (e ∷ [])))) a s)
+    (laid-more (λ e. e .row) es e (e .number) q h) (sym (mark-snoc noLoads es e))
 
 -- ---- the set
 or-none : (a : Bool) → a || false ≡ a

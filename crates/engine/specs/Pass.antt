@@ -10,7 +10,8 @@ use Rattle.tables.specs.declared.load.Load.{Load}
 use Rattle.tables.specs.Limits.{maxLoads}
 use Rattle.meaning.specs.Forest.{tree}
 use Rattle.meaning.specs.Best.{bestTree}
-use Rattle.meaning.specs.Choice.{Entry, chooseTree, inOrder, marksOf, assignedBy}
+use Rattle.tables.specs.declared.entry.Entry.{Entry}
+use Rattle.meaning.specs.Choice.{chooseTree, inOrder, marksOf, assignedBy}
 use Rattle.meaning.specs.Cells.{firstChild, nextSibling}
 use Rattle.cells.specs.declared.problem.Problem.{Problem}
 use Rattle.cells.specs.Problem.{bookFor, loadsFor, itemsFor, shapeOf, Lawful}
@@ -64,7 +65,7 @@ entered r (suc j) g c = record { stages = set (r .stages) j g; left = set (r .le
 -- load k is passed, and the row below it is entered
 unfoldable pub passedLoad : Pass → (k rowRule q : ℕ) → LoadChoice → Pass
 passedLoad s k r q t = record {
-  run = withEntry (s .run) (record { number = k; mark = t .mark; state = q; loadRule = t .rule; rowRule = r });
+  run = withEntry (s .run) (record { number = k; mark = t .mark; state = q; rule = t .rule; row = r });
   rows = entered (s .rows) (t .child) (t .stage) (t .left);
 }
 

@@ -11,14 +11,9 @@ use Rattle.lists.specs.Arrays.{laid}
 use Rattle.marks.specs.declared.LoadSet.{LoadSet}
 use Rattle.marks.specs.Sets.{noLoads, joined}
 use Rattle.tables.specs.Limits.{maxLoads}
-use Rattle.meaning.specs.Choice.{Entry}
+use Rattle.tables.specs.declared.entry.Entry.{Entry}
 use Rattle.engine.specs.declared.run.Run.{Run}
 use Rattle.engine.specs.declared.run.Outcome.{Outcome}
-use Rattle.engine.specs.declared.run.Shown.{Shown}
-
--- a load's line, as the code holds it
-abbrev pub entryOf : Shown → Entry
-entryOf e = record { number = e .number; mark = e .mark; state = e .state; loadRule = e .«load_rule»; rowRule = e .«row_rule» }
 
 -- a set with the load of an entry, if it is on
 abbrev pub marking : LoadSet → Entry → LoadSet
@@ -33,8 +28,8 @@ markAll s (e ∷ es) = markAll (marking s e) es
 unfoldable pub runOf : List Entry → Run
 runOf es = record {
   states = laid 0 maxLoads (map (λ e. e .state) es);
-  «load_rules» = laid 0 maxLoads (map (λ e. e .loadRule) es);
-  «row_rules» = laid 0 maxLoads (map (λ e. e .rowRule) es);
+  «load_rules» = laid 0 maxLoads (map (λ e. e .rule) es);
+  «row_rules» = laid 0 maxLoads (map (λ e. e .row) es);
   set = markAll noLoads es;
 }
 
@@ -42,8 +37,8 @@ runOf es = record {
 unfoldable pub withEntry : Run → Entry → Run
 withEntry r e = record {
   states = set (r .states) (e .number - 1) (e .state);
-  «load_rules» = set (r .«load_rules») (e .number - 1) (e .loadRule);
-  «row_rules» = set (r .«row_rules») (e .number - 1) (e .rowRule);
+  «load_rules» = set (r .«load_rules») (e .number - 1) (e .rule);
+  «row_rules» = set (r .«row_rules») (e .number - 1) (e .row);
   set = marking (r .set) e;
 }
 

@@ -5,9 +5,9 @@ use crate::choice::load_choice;
 use crate::choice::row_choice;
 use crate::run::Outcome;
 use crate::run::Run;
-use crate::run::Shown;
 use cells::problem::Problem;
 use cells::problem::shape_of;
+use tables::entry::Entry;
 use tables::load::MAX_LOADS;
 ghost use mathlib.Core.Path.{_≡_};
 ghost use Prim.Native.Nat.{_+_, _≤_, _<_};
@@ -60,12 +60,12 @@ impl Pass {
         requires { ⌜ (0 < k) × (k ≤ maxLoads) × (c .child ≤ maxLoads) ⌝ }
         ensures { λ r. ⌜ r ≡ passedLoad self k row state c ⌝ }
     {
-        let run = self.run.with(Shown {
-            number: k,
+        let run = self.run.with(Entry {
+            number: k as u8,
             mark: c.mark,
             state: state,
-            load_rule: c.rule,
-            row_rule: row,
+            rule: c.rule,
+            row: row,
         });
         let rows = self.rows.with(c.child, c.stage, c.left);
         Pass { run, rows }

@@ -1,10 +1,11 @@
 // A run with the set of its loads, and what a search finds.
 use marks::LoadSet;
+use tables::entry::Entry;
 use tables::load::MAX_LOADS;
 ghost use mathlib.Core.Path.{_≡_};
 ghost use Prim.Native.Nat.{_≤_, _<_};
 ghost use Rattle.tables.specs.Limits.{maxLoads};
-ghost use Rattle.engine.specs.Shown.{entryOf, withEntry};
+ghost use Rattle.engine.specs.Shown.{withEntry};
 
 // A state, a load rule and a row rule for each load, in load order, and the loads that are on. Unused places hold 0.
 pub struct Run {
@@ -20,15 +21,6 @@ pub struct Outcome {
     pub run: Run,
 }
 
-// What is shown of a load: "number,mark,state,load rule,row rule".
-pub struct Shown {
-    pub number: usize,
-    pub mark: u8,
-    pub state: u8,
-    pub load_rule: u8,
-    pub row_rule: u8,
-}
-
 impl Run {
     pub const EMPTY: Run = Run {
         states: [0; MAX_LOADS],
@@ -38,17 +30,18 @@ impl Run {
     };
 
     // The run with the line of a load.
-    pub(crate) fn with(self, e: Shown) -> Run
+    pub(crate) fn with(self, e: Entry) -> Run
         requires { ⌜ (0 < e .number) × (e .number ≤ maxLoads) ⌝ }
-        ensures { λ r. ⌜ r ≡ withEntry self (entryOf e) ⌝ }
+        ensures { λ r. ⌜ r ≡ withEntry self e ⌝ }
     {
-        let at = e.number - 1;
+        let number = e.number as usize;
+        let at = number - 1;
         let mut next = self;
         next.states[at] = e.state;
-        next.load_rules[at] = e.load_rule;
-        next.row_rules[at] = e.row_rule;
+        next.load_rules[at] = e.rule;
+        next.row_rules[at] = e.row;
         if e.mark == 1 {
-            next.set = next.set.with(e.number);
+            next.set = next.set.with(number);
         }
         next
     }

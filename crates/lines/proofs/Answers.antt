@@ -5,8 +5,9 @@ use mathlib.Core.List.{List, [], _∷_, _++_, append-assoc, append-nil}
 use native.Mathlib.Omega.{arith}
 use lib.Dec.{lit≤}
 use lib.ListN.{length, length-append}
+use Rattle.tables.specs.declared.entry.Entry.{Entry}
 use Rattle.lines.specs.Text.{comma, lineFeed, decimal, field}
-use Rattle.lines.specs.Answers.{yes, refused, planLine, LoadLine, loadLine, loadLines, freeBytes, Ranged, AllRanged}
+use Rattle.lines.specs.Answers.{yes, refused, planLine, entryLine, entryLines, freeBytes, Ranged, AllRanged}
 use Rattle.lines.proofs.Decimal.{decimal-length}
 
 pub field-length : (n after : ℕ) → length (field n after) ≡ length (decimal n) + 1
@@ -21,38 +22,38 @@ pub plan-length : (v w n : ℕ) → length (planLine v w n) ≡ 5 + length (fiel
 unfolding planLine
 plan-length v w n = simp length-append
 
-pub load-length : (l : LoadLine)
-    → length (loadLine l) ≡ length (field (l .number) comma) + length (field (l .mark) comma) + length (field (l .state) comma) + length (field (l .loadRule) comma) + length (field (l .rowRule) lineFeed)
-unfolding loadLine
-load-length l = simp length-append
+pub entry-length : (l : Entry)
+    → length (entryLine l) ≡ length (field (l .number) comma) + length (field (l .mark) comma) + length (field (l .state) comma) + length (field (l .rule) comma) + length (field (l .row) lineFeed)
+unfolding entryLine
+entry-length l = simp length-append
 
 -- ---- a field of so many digits
 field-fits : (k n after : ℕ) → 1 ≤ k → n < 10 ^ k → length (field n after) ≤ k + 1
 field-fits k n after p h = omega (arith, field-length n after, decimal-length k n p h)
 
--- a load line has at most 14 bytes
-pub load-fits : (l : LoadLine) → Ranged l → length (loadLine l) ≤ 14
-load-fits l r =
+-- the line of an entry has at most 14 bytes
+pub entry-fits : (l : Entry) → Ranged l → length (entryLine l) ≤ 14
+entry-fits l r =
     omega (
       arith,
-      load-length l,
-      field-fits 3 (l .number) comma (lit≤ tt) (omega (arith, r .numbered)),
-      field-fits 1 (l .mark) comma (lit≤ tt) (omega (arith, r .marked)),
-      field-fits 1 (l .state) comma (lit≤ tt) (omega (arith, r .inState)),
-      field-fits 2 (l .loadRule) comma (lit≤ tt) (omega (arith, r .byLoadRule)),
-      field-fits 2 (l .rowRule) lineFeed (lit≤ tt) (omega (arith, r .byRowRule)),
+      entry-length l,
+      field-fits 3 (l .number) comma (lit≤ tt) (omega (arith, r .number)),
+      field-fits 1 (l .mark) comma (lit≤ tt) (omega (arith, r .mark)),
+      field-fits 1 (l .state) comma (lit≤ tt) (omega (arith, r .state)),
+      field-fits 2 (l .rule) comma (lit≤ tt) (omega (arith, r .rule)),
+      field-fits 2 (l .row) lineFeed (lit≤ tt) (omega (arith, r .row)),
     )
 
-pub loads-fit : (ls : List LoadLine) → AllRanged ls → length (loadLines ls) ≤ 14 * length ls
-unfolding loadLines
-loads-fit [] r = omega arith
-loads-fit (l ∷ ls) r = omega (arith, length-append (loadLine l) (loadLines ls), load-fits l (r .0), loads-fit ls (r .1))
+pub entries-fit : (ls : List Entry) → AllRanged ls → length (entryLines ls) ≤ 14 * length ls
+unfolding entryLines
+entries-fit [] r = omega arith
+entries-fit (l ∷ ls) r = omega (arith, length-append (entryLine l) (entryLines ls), entry-fits l (r .0), entries-fit ls (r .1))
 
 -- one line more, as a loop writes them
-pub loads-more : (ls : List LoadLine) (l : LoadLine) → loadLines (ls ++ (l ∷ [])) ≡ loadLines ls ++ loadLine l
-unfolding loadLines
-loads-more [] l = append-nil (loadLine l)
-loads-more (m ∷ ls) l = rw (loads-more ls l) (sym (append-assoc (loadLine m) (loadLines ls) (loadLine l)))
+pub entries-more : (ls : List Entry) (l : Entry) → entryLines (ls ++ (l ∷ [])) ≡ entryLines ls ++ entryLine l
+unfolding entryLines
+entries-more [] l = append-nil (entryLine l)
+entries-more (m ∷ ls) l = rw (entries-more ls l) (sym (append-assoc (entryLine m) (entryLines ls) (entryLine l)))
 
 -- the first line of a plan has at most 20 bytes
 pub plan-line-fits : (v w n : ℕ) → v < 1000000 → w < 1000 → n < 1000 → length (planLine v w n) ≤ 20
@@ -60,12 +61,12 @@ plan-line-fits v w n a b c =
     omega (arith, plan-length v w n, field-fits 6 v comma (lit≤ tt) (omega arith), field-fits 3 w comma (lit≤ tt) (omega arith), field-fits 3 n lineFeed (lit≤ tt) (omega arith))
 
 -- ---- every answer fits the bytes that must be free
-module _ (ls : List LoadLine) (r : AllRanged ls) (few : 14 * length ls + 20 ≤ freeBytes) where
-  pub plan-fits : (v w n : ℕ) → v < 1000000 → w < 1000 → n < 1000 → length (planLine v w n ++ loadLines ls) ≤ freeBytes
-  plan-fits v w n a b c = omega (arith, length-append (planLine v w n) (loadLines ls), plan-line-fits v w n a b c, loads-fit ls r)
+module _ (ls : List Entry) (r : AllRanged ls) (few : 14 * length ls + 20 ≤ freeBytes) where
+  pub plan-fits : (v w n : ℕ) → v < 1000000 → w < 1000 → n < 1000 → length (planLine v w n ++ entryLines ls) ≤ freeBytes
+  plan-fits v w n a b c = omega (arith, length-append (planLine v w n) (entryLines ls), plan-line-fits v w n a b c, entries-fit ls r)
 
-  pub check-fits : length (yes ++ loadLines ls) ≤ freeBytes
-  check-fits = omega (arith, length-append yes (loadLines ls), loads-fit ls r)
+  pub check-fits : length (yes ++ entryLines ls) ≤ freeBytes
+  check-fits = omega (arith, length-append yes (entryLines ls), entries-fit ls r)
 
 pub refused-fits : (n : ℕ) → n < 100 → length (refused n) ≤ freeBytes
 refused-fits n h = omega (arith, refused-length n, field-fits 2 n lineFeed (lit≤ tt) h)

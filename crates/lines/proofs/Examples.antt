@@ -14,9 +14,9 @@ use Rattle.lines.specs.declared.Change.the-variants.{Clear, Book, Start,
 use Rattle.lines.specs.Text.{bytes, same, decimalTo, decimal, field}
 use Rattle.lines.specs.Length.{tooLong}
 use Rattle.lines.specs.Grammar.{fields, isNumber, valueFrom, isBits, joinedFrom, find, parse}
-use Rattle.lines.specs.Answers.{refused, planLine, load, loadLine}
+use Rattle.lines.specs.Answers.{refused, planLine, entryLine}
 use Rattle.lines.specs.Input.{lines, feed, feedAll}
-use Rattle.lines.specs.Shown.{loadOf, loadsIn, shown}
+use Rattle.lines.specs.Shown.{entryIn, entriesIn, shown}
 
 abbrev reads : String → Command
 reads s = parse (bytes s)
@@ -57,13 +57,13 @@ eighty : map tooLong ((bytes "check," ++ replicate 74 49) ∷ (bytes "check," ++
 eighty = refl
 
 -- ---- answers
-printed : planLine 70 30 3 ++ loadLine (load 1 1 1 2 0) ++ loadLine (load 4 0 1 1 1) ++ refused 10 ≡ bytes "plan,70,30,3\n1,1,1,2,0\n4,0,1,1,1\nno,10\n"
-unfolding planLine loadLine refused field decimal decimalTo
+printed : planLine 70 30 3 ++ entryLine (record { number = 1; mark = 1; state = 1; rule = 2; row = 0 }) ++ entryLine (record { number = 4; mark = 0; state = 1; rule = 1; row = 1 }) ++ refused 10 ≡ bytes "plan,70,30,3\n1,1,1,2,0\n4,0,1,1,1\nno,10\n"
+unfolding planLine entryLine refused field decimal decimalTo
 printed = refl
 
 -- the loads on are those printed with mark 1
 read-back : map (shown (bytes "plan,70,30,3\n1,1,1,2,0\n2,1,1,2,1\n3,1,1,2,1\n4,0,1,1,1\n")) (1 ∷ 2 ∷ 3 ∷ 4 ∷ 5 ∷ []) ≡ true ∷ true ∷ true ∷ false ∷ false ∷ []
-unfolding loadsIn loadOf lines fields valueFrom some
+unfolding entriesIn entryIn lines fields valueFrom some
 read-back = refl
 
 -- ---- input: none, an empty line, a last line with and without its line feed, a line that is too long

@@ -4,6 +4,8 @@ use mathlib.Core.Path.{_≡_}
 use mathlib.Core.List.{List, [], _∷_, _++_}
 use lib.ListN.{length}
 use lib.Seq.{sets}
+use Rattle.tables.specs.declared.entry.Entry.{Entry}
+use Rattle.tables.specs.Limits.{maxStates, maxRules}
 use Rattle.lines.specs.declared.answer.Answer.{Answer}
 use Rattle.lines.specs.declared.answer.Answer.the-variants.{Accepted, Planned, Allowed, Refused}
 use Rattle.lines.specs.Text.{bytes, comma, lineFeed, field}
@@ -25,22 +27,12 @@ unfoldable pub planLine : (worth power n : ℕ) → List ℕ
 planLine v w n = bytes "plan," ++ field v comma ++ field w comma ++ field n lineFeed
 
 -- "and then for each load `number,mark,state,load rule,row rule`"
-pub record LoadLine : Type 0 where
-  pub number : ℕ
-  pub mark : ℕ
-  pub state : ℕ
-  pub loadRule : ℕ
-  pub rowRule : ℕ
+unfoldable pub entryLine : Entry → List ℕ
+entryLine e = field (e .number) comma ++ field (e .mark) comma ++ field (e .state) comma ++ field (e .rule) comma ++ field (e .row) lineFeed
 
-unfoldable pub loadLine : LoadLine → List ℕ
-loadLine l = field (l .number) comma ++ field (l .mark) comma ++ field (l .state) comma ++ field (l .loadRule) comma ++ field (l .rowRule) lineFeed
-
-unfoldable pub loadLines : List LoadLine → List ℕ
-loadLines [] = []
-loadLines (l ∷ ls) = loadLine l ++ loadLines ls
-
-abbrev pub load : (number mark state loadRule rowRule : ℕ) → LoadLine
-load k m q i j = record { number = k; mark = m; state = q; loadRule = i; rowRule = j }
+unfoldable pub entryLines : List Entry → List ℕ
+entryLines [] = []
+entryLines (e ∷ es) = entryLine e ++ entryLines es
 
 -- ---- an answer: for each of its cases the paper's number and text. "A call on a line returns its number, 0 if accepted"
 abbrev pub numberOf : Answer → ℕ
@@ -50,11 +42,11 @@ numberOf Allowed = 0
 numberOf (Refused n) = n
 
 -- its text, with the lines of the run beside it
-abbrev pub textOf : Answer → List LoadLine → List ℕ
-textOf Accepted ls = ok
-textOf (Planned v w n) ls = planLine v w n ++ loadLines ls
-textOf Allowed ls = yes ++ loadLines ls
-textOf (Refused n) ls = refused n
+abbrev pub textOf : Answer → List Entry → List ℕ
+textOf Accepted es = ok
+textOf (Planned v w n) es = planLine v w n ++ entryLines es
+textOf Allowed es = yes ++ entryLines es
+textOf (Refused n) es = refused n
 
 -- the answer of a change with this number
 abbrev pub answerOf : ℕ → Answer
@@ -66,16 +58,16 @@ abbrev pub freeBytes : ℕ
 freeBytes = 1024
 
 -- the figures of a line are in the ranges of "Loads and book": 8 states, 32 rules of each sort, and loads of at most three digits
-pub record Ranged (l : LoadLine) : Type 0 where
-  pub numbered : l .number < 1000
-  pub marked : l .mark ≤ 1
-  pub inState : l .state ≤ 8
-  pub byLoadRule : l .loadRule ≤ 32
-  pub byRowRule : l .rowRule ≤ 32
+pub record Ranged (e : Entry) : Type 0 where
+  pub number : e .number < 1000
+  pub mark : e .mark ≤ 1
+  pub state : e .state ≤ maxStates
+  pub rule : e .rule ≤ maxRules
+  pub row : e .row ≤ maxRules
 
-abbrev pub AllRanged : List LoadLine → Type 0
+abbrev pub AllRanged : List Entry → Type 0
 AllRanged [] = Unit {0}
-AllRanged (l ∷ ls) = Ranged l × AllRanged ls
+AllRanged (e ∷ es) = Ranged e × AllRanged es
 
 -- bytes were written from a place on, all other bytes keep their values, and the next place is the one after them
 pub record Wrote (before after : List ℕ) (at next : ℕ) (text : List ℕ) : Type 0 where

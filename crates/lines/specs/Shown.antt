@@ -5,8 +5,8 @@ use mathlib.Core.List.{List, [], map}
 use lib.Dec.{eqb}
 use lib.ListN.{getD, drop}
 use Rattle.lists.specs.Tests.{some}
+use Rattle.tables.specs.declared.entry.Entry.{Entry}
 use Rattle.lines.specs.Grammar.{fields, value}
-use Rattle.lines.specs.Answers.{LoadLine, load}
 use Rattle.lines.specs.Input.{lines}
 
 -- a number of a line, by the place of its field
@@ -14,16 +14,16 @@ abbrev pub numberAt : List ℕ → ℕ → ℕ
 numberAt l i = value (getD (fields l) i [])
 
 -- a load line without its line feed
-unfoldable pub loadOf : List ℕ → LoadLine
-loadOf l = load (numberAt l 0) (numberAt l 1) (numberAt l 2) (numberAt l 3) (numberAt l 4)
+unfoldable pub entryIn : List ℕ → Entry
+entryIn l = record { number = numberAt l 0; mark = numberAt l 1; state = numberAt l 2; rule = numberAt l 3; row = numberAt l 4 }
 
--- the loads of a plan or of an allowed check: a line each, after the first line
-unfoldable pub loadsIn : List ℕ → List LoadLine
-loadsIn text = map loadOf (drop 1 (lines text))
+-- the entries of a plan or of an allowed check: a line each, after the first line
+unfoldable pub entriesIn : List ℕ → List Entry
+entriesIn text = map entryIn (drop 1 (lines text))
 
 -- "The set shown is the loads printed with mark 1."
-abbrev pub onIn : List LoadLine → ℕ → Bool
-onIn ls k = some (λ l. eqb (l .number) k && eqb (l .mark) 1) ls
+abbrev pub onIn : List Entry → ℕ → Bool
+onIn es k = some (λ e. eqb (e .number) k && eqb (e .mark) 1) es
 
 abbrev pub shown : List ℕ → ℕ → Bool
-shown text k = onIn (loadsIn text) k
+shown text k = onIn (entriesIn text) k

@@ -3,11 +3,12 @@
 use crate::COMMA;
 use crate::LINE_FEED;
 use crate::NOUGHT;
+use tables::entry::Entry;
 ghost use mathlib.Core.List.{[], _∷_};
 ghost use Prim.Native.Nat.{_+_, _≤_};
 ghost use lib.ListN.{length};
 ghost use Rattle.lines.specs.Text.{decimal, field};
-ghost use Rattle.lines.specs.Answers.{Wrote, ok, yes, refused, planLine, load, loadLine};
+ghost use Rattle.lines.specs.Answers.{Wrote, ok, yes, refused, planLine, entryLine};
 
 // One byte.
 fn put(out: &mut [u8], at: usize, b: u8) -> usize
@@ -89,21 +90,13 @@ pub fn write_plan(out: &mut [u8], at: usize, worth: u32, power: u32, n: u32) -> 
 }
 
 // The line of one load.
-pub fn write_load(
-    out: &mut [u8],
-    at: usize,
-    number: u32,
-    mark: u32,
-    state: u32,
-    load_rule: u32,
-    row_rule: u32,
-) -> usize
-    requires { ⌜ at + length (loadLine (load number mark state «load_rule» «row_rule»)) ≤ length (now out) ⌝ }
-    ensures { λ r. ⌜ Wrote (now (out .entry)) (now (out .exit)) at r (loadLine (load number mark state «load_rule» «row_rule»)) ⌝ }
+pub fn write_entry(out: &mut [u8], at: usize, e: Entry) -> usize
+    requires { ⌜ at + length (entryLine e) ≤ length (now out) ⌝ }
+    ensures { λ r. ⌜ Wrote (now (out .entry)) (now (out .exit)) at r (entryLine e) ⌝ }
 {
-    let a = put_field(&mut *out, at, number, COMMA);
-    let b = put_field(&mut *out, a, mark, COMMA);
-    let c = put_field(&mut *out, b, state, COMMA);
-    let d = put_field(&mut *out, c, load_rule, COMMA);
-    put_field(&mut *out, d, row_rule, LINE_FEED)
+    let a = put_field(&mut *out, at, e.number as u32, COMMA);
+    let b = put_field(&mut *out, a, e.mark as u32, COMMA);
+    let c = put_field(&mut *out, b, e.state as u32, COMMA);
+    let d = put_field(&mut *out, c, e.rule as u32, COMMA);
+    put_field(&mut *out, d, e.row as u32, LINE_FEED)
 }

@@ -6,7 +6,8 @@ use lib.ListN.{length}
 use Rattle.tables.specs.Tables.{Tables}
 use Rattle.tables.specs.Limits.{Limits}
 use Rattle.meaning.specs.Best.{bestPlan, bestCheck}
-use Rattle.meaning.specs.Choice.{Entry, inOrder, plan, check, planEntries, checkEntries, marksOf, assignedBy, shownSet}
+use Rattle.tables.specs.declared.entry.Entry.{Entry}
+use Rattle.meaning.specs.Choice.{inOrder, plan, check, planEntries, checkEntries, marksOf, assignedBy, shownSet}
 use Rattle.meaning.specs.Runs.{Assigned, TreeRun}
 use Rattle.meaning.specs.Sets.{treeOf, power, worth, Fits, Optimum}
 use Rattle.meaning.specs.Cell.{cell}

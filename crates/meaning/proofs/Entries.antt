@@ -13,7 +13,8 @@ use Rattle.lists.specs.Argmax.{guard}
 use Rattle.tables.specs.Tables.{Book, Tables}
 use Rattle.tables.specs.declared.load.Load.{Load}
 use Rattle.meaning.specs.Forest.{Item, Forest, nil, node, planned, checked, tree, IsTree, total, sum}
-use Rattle.meaning.specs.Choice.{Entry, choose, chooseTree, plan, check, noEntry, find, assigned, marksOf, assignedBy, Follows}
+use Rattle.tables.specs.declared.entry.Entry.{Entry}
+use Rattle.meaning.specs.Choice.{choose, chooseTree, plan, check, noEntry, find, assigned, marksOf, assignedBy, Follows}
 use Rattle.meaning.proofs.Tree.{Rooted, tree-rooted, tree-total}
 
 -- how often a number occurs

@@ -10,7 +10,8 @@ use lib.Dec.{eqb}
 use lib.ListN.{length}
 use Rattle.lists.specs.Argmax.{guard}
 use Rattle.lists.proofs.Bools.{below-or}
-use Rattle.meaning.specs.Choice.{Entry, noEntry, find, inOrder, assigned, assignedBy, marksOf, shownSet}
+use Rattle.tables.specs.declared.entry.Entry.{Entry}
+use Rattle.meaning.specs.Choice.{noEntry, find, inOrder, assigned, assignedBy, marksOf, shownSet}
 use Rattle.meaning.specs.Claims.{Numbered}
 use Rattle.meaning.proofs.Entries.{Listed}
 

@@ -16,7 +16,8 @@ use Rattle.meaning.specs.Runs.{isStart, isEnd, ruleAt, Assigned, rule, B
 use Rattle.meaning.specs.Forest.{Item, Forest, nil, node, total}
 use Rattle.meaning.specs.Cell.{empty, _⊕_, draw, score, drawn, scored}
 use Rattle.meaning.specs.Best.{bestRule, loadReach, rowReach, shares, loadRuleFor, rowRuleFor, branchCell, rowCell, best, startFor, bestTree}
-use Rattle.meaning.specs.Choice.{Entry, chooseBranch, choose, chooseTree, Follows}
+use Rattle.tables.specs.declared.entry.Entry.{Entry}
+use Rattle.meaning.specs.Choice.{chooseBranch, choose, chooseTree, Follows}
 use Rattle.meaning.proofs.Tree.{Rooted}
 use Rattle.meaning.proofs.Cell.{⊕-mono, ⊕-pos, ⊕-empty}
 

@@ -8,7 +8,8 @@ use Rattle.lists.proofs.Argmax.{argmax-within}
 use Rattle.tables.specs.Tables.{Book, Tables}
 use Rattle.meaning.specs.Forest.{Item, Forest, nil, node, planned, checked, tree}
 use Rattle.meaning.specs.Runs.{ruleAt}
-use Rattle.meaning.specs.Choice.{Entry, choose, chooseTree, plan, check, noEntry, find}
+use Rattle.tables.specs.declared.entry.Entry.{Entry}
+use Rattle.meaning.specs.Choice.{choose, chooseTree, plan, check, noEntry, find}
 
 -- a property of each entry
 data All (P : Entry → Type 0) : List Entry → Type 0 where
@@ -39,13 +40,13 @@ pub record Narrow (b : Book) : Type 0 where
 pub record Bounded (e : Entry) : Type 0 where
   pub mark : e .mark ≤ 1
   pub state : e .state ≤ 8
-  pub loadRule : e .loadRule ≤ 32
-  pub rowRule : e .rowRule ≤ 32
+  pub rule : e .rule ≤ 32
+  pub row : e .row ≤ 32
 
 module _ (b : Book) (w : Narrow b) where
   bounded : (k q j r : ℕ) → q ≤ 8 → suc j ≤ 32 → r ≤ 32
-      → Bounded (record { number = k; mark = ruleAt (b .loadRules) j .label; state = q; loadRule = suc j; rowRule = r })
-  bounded k q j r a d e = record { mark = w .marks j; state = a; loadRule = d; rowRule = e }
+      → Bounded (record { number = k; mark = ruleAt (b .loadRules) j .label; state = q; rule = suc j; row = r })
+  bounded k q j r a d e = record { mark = w .marks j; state = a; rule = d; row = e }
 
   abbrev BoundedFrom : Forest → Type 0
   BoundedFrom f = (g c : ℕ) → All Bounded (choose b f g c)
@@ -67,7 +68,7 @@ module _ (b : Book) (w : Narrow b) where
       more (bounded k _ _ 0 (argmax-within _ (b .states) 8 (w .states) (lit≤ tt)) (argmax-within _ (length (b .loadRules)) 32 (w .loadRules) (lit≤ tt)) zero-le) (bounded-choose below _ _)
 
 none-bounded : Bounded noEntry
-none-bounded = record { mark = zero-le; state = zero-le; loadRule = zero-le; rowRule = zero-le }
+none-bounded = record { mark = zero-le; state = zero-le; rule = zero-le; row = zero-le }
 
 pub plan-bounded : (t : Tables) → Narrow (t .book) → (n : ℕ) → Bounded (find (plan t) n)
 unfolding plan

@@ -9,7 +9,8 @@ use Rattle.tables.specs.declared.load.Load.{Load}
 use Rattle.tables.specs.Tables.{Book, Tables, noLoad}
 use Rattle.meaning.specs.Forest.{Item, after, rowAt}
 use Rattle.meaning.specs.Best.{best, branchCell}
-use Rattle.meaning.specs.Choice.{Entry, choose, chooseBranch}
+use Rattle.tables.specs.declared.entry.Entry.{Entry}
+use Rattle.meaning.specs.Choice.{choose, chooseBranch}
 
 -- how many a plan needs
 unfoldable pub cellsOf : Tables → ℕ

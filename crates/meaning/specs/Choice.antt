@@ -8,27 +8,21 @@ use lib.Dec.{eqb}
 use lib.ListN.{length}
 use Rattle.lists.specs.Argmax.{guard}
 use Rattle.tables.specs.Tables.{Book, Tables}
+use Rattle.tables.specs.declared.entry.Entry.{Entry}
 use Rattle.meaning.specs.Forest.{Item, Forest, nil, node, checked, tree}
 use Rattle.meaning.specs.Runs.{ruleAt, Assigned}
 use Rattle.meaning.specs.Sets.{treeOf}
 use Rattle.meaning.specs.Cell.{draw}
 use Rattle.meaning.specs.Best.{loadRuleFor, rowRuleFor, shares, startFor, branchCell, best}
 
--- a load's line of a plan: "number,mark,state,load rule,row rule"
-pub record Entry : Type 0 where
-  pub number : ℕ
-  pub mark : ℕ
-  pub state : ℕ
-  pub loadRule : ℕ
-  pub rowRule : ℕ
-
+-- an entry is a load's line of a plan: "number,mark,state,load rule,row rule"
 module _ (b : Book) where
   -- "A load takes the lowest load rule that still reaches the best for its allowance; its row gets the allowance less its power if on."
   abbrev pub chooseBranch : ℕ → Item → (ℕ → ℕ → ℕ) → (ℕ → ℕ → List Entry) → (r q c : ℕ) → List Entry
   chooseBranch k i below entries r q c =
       let j = loadRuleFor b i below q c .index in
       let t = ruleAt (b .loadRules) j in
-      record { number = k; mark = t .label; state = q; loadRule = suc j; rowRule = r } ∷ entries (t .to) (c - draw i (t .label))
+      record { number = k; mark = t .label; state = q; rule = suc j; row = r } ∷ entries (t .to) (c - draw i (t .label))
 
   -- "Each child in turn takes the lowest row rule that still reaches the best, then the smallest allowance for its own branch that does;
   -- what is left passes to the later children."
@@ -56,7 +50,7 @@ check t σ = chooseTree (t .book) (tree (checked σ) (t .loads)) 0
 
 -- the entry of a load
 abbrev pub noEntry : Entry
-noEntry = record { number = 0; mark = 0; state = 0; loadRule = 0; rowRule = 0 }
+noEntry = record { number = 0; mark = 0; state = 0; rule = 0; row = 0 }
 
 unfoldable pub find : List Entry → ℕ → Entry
 find [] n = noEntry
@@ -76,7 +70,7 @@ checkEntries t σ = inOrder (check t σ) 1 (length (t .loads))
 
 -- the assignment and the set that entries list. "The set shown is the loads printed with mark 1."
 abbrev pub assigned : Entry → Assigned
-assigned e = record { state = e .state; loadRule = e .loadRule; rowRule = e .rowRule }
+assigned e = record { state = e .state; loadRule = e .rule; rowRule = e .row }
 
 abbrev pub assignedBy : List Entry → ℕ → Assigned
 assignedBy es n = assigned (find es n)

@@ -13,7 +13,8 @@ use Rattle.meaning.specs.Runs.{Assigned, TreeRun}
 use Rattle.meaning.specs.Sets.{treeOf, power, worth, Allowed, Accepted, Fits, Optimum, NoneFits}
 use Rattle.meaning.specs.Cell.{cell}
 use Rattle.meaning.specs.Best.{bestPlan, bestCheck}
-use Rattle.meaning.specs.Choice.{Entry, planEntries, checkEntries, assignedBy, marksOf, shownSet}
+use Rattle.tables.specs.declared.entry.Entry.{Entry}
+use Rattle.meaning.specs.Choice.{planEntries, checkEntries, assignedBy, marksOf, shownSet}
 use Rattle.meaning.specs.Order.{_≼_, treeNumbers}
 use Rattle.meaning.specs.Judge.{judgeTree, ownMarks}
 

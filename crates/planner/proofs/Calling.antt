@@ -28,7 +28,7 @@ use Rattle.calls.proofs.Keeps.{text-fits}
 use Rattle.planner.specs.declared.Planner.{Planner}
 use Rattle.planner.specs.declared.search.Decided.{Decided}
 use Rattle.planner.specs.Planner.{held, stateIn}
-use Rattle.planner.specs.Answers.{linesTo}
+use Rattle.planner.specs.Answers.{entriesTo}
 use Rattle.planner.specs.Decided.{decidedBy, decided}
 use Rattle.planner.specs.Calls.{doneOf, turnedAway}
 use Rattle.planner.proofs.Commands.{load-count}
@@ -75,15 +75,15 @@ module _ (p : Planner) (h : Kept maxLoads (held p)) (c : Call) where
     unfolding decidedBy
     number-is = ap (λ (d : Decided). numberOf (d .answer)) is ∙ answered-number x rowNumber
 
-    text-is : textOf (d .answer) (linesTo (d .run) (p .tables .loads .count)) ≡ text rowNumber r
+    text-is : textOf (d .answer) (entriesTo (d .run) (p .tables .loads .count)) ≡ text rowNumber r
     unfolding decidedBy
     text-is =
-        ap (λ (n : ℕ). textOf (d .answer) (linesTo (d .run) n)) (load-count p h)
-        ∙ ap (λ (d : Decided). textOf (d .answer) (linesTo (d .run) (length (stateIn p .tables .loads)))) is
+        ap (λ (n : ℕ). textOf (d .answer) (entriesTo (d .run) n)) (load-count p h)
+        ∙ ap (λ (d : Decided). textOf (d .answer) (entriesTo (d .run) (length (stateIn p .tables .loads)))) is
         ∙ answered-text x (kept-within (held p) h) (places (p .tables) (h .tables)) rowNumber (λ e. e) (λ e. absurd (omega (arith, e, past-one x (omega (arith, e)))))
 
     -- it fits the free bytes
-    pub text-few : length (textOf (d .answer) (linesTo (d .run) (p .tables .loads .count))) ≤ bytesOf r
+    pub text-few : length (textOf (d .answer) (entriesTo (d .run) (p .tables .loads .count))) ≤ bytesOf r
     text-few = rw text-is (text-fits (stateIn p) (kept-within (held p) h) (length (c .work)) rowNumber x (go (eq-zero-or-pos rowNumber)) (λ e. e))
       where
         go : (rowNumber ≡ 0) ⊎ (0 < rowNumber) → rowNumber ≤ 10
@@ -91,7 +91,7 @@ module _ (p : Planner) (h : Kept maxLoads (held p)) (c : Call) where
         go (inr l) = past-one x l .1
 
     pub written : c .place + bytesOf r ≤ length (c .output) → (m w : List ℕ) (i n : ℕ) → i ≡ numberOf (d .answer)
-        → Wrote (take (length (c .output) - c .place) (drop (c .place) (c .output))) m 0 n (textOf (d .answer) (linesTo (d .run) (p .tables .loads .count)))
+        → Wrote (take (length (c .output) - c .place) (drop (c .place) (c .output))) m 0 n (textOf (d .answer) (entriesTo (d .run) (p .tables .loads .count)))
         → w ≡ workAfter (numberOf (d .answer)) r (c .work)
         → doneOf (record { planner = d .planner; number = i; count = n }) (putMid (c .place) (length (c .output) - c .place) (c .output) m) w ≡ called (held p) c
     unfolding decidedBy

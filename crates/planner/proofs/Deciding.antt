@@ -17,7 +17,7 @@ use Rattle.engine.specs.Shown.{runOf}
 use Rattle.planner.specs.declared.changes.Changed.{Changed}
 use Rattle.planner.specs.declared.search.Decided.{Decided}
 use Rattle.planner.specs.Planner.{plannerOf}
-use Rattle.planner.specs.Answers.{linesTo}
+use Rattle.planner.specs.Answers.{entriesTo}
 use Rattle.planner.specs.Changes.{changedBy}
 use Rattle.planner.specs.Decided.{unshown, decidedBy}
 use Rattle.planner.proofs.RunLines.{shown-lines}
@@ -30,7 +30,7 @@ module _ {s : State} {cells : ℕ} {r : Row} (x : Right s cells r) where
 
   -- 0 is given only where no cause applies, and 1 is not given here
   pub answered-text : Within s → s .tables .places ≡ maxLoads → (n : ℕ) → (n ≡ 0 → lowest (causesOf cells r) ≡ 0) → (n ≡ 1 → ⊥)
-      → textOf (shownBy n r .answer) (linesTo (runOf (shownBy n r .entries)) (length (s .tables .loads))) ≡ text n r
+      → textOf (shownBy n r .answer) (entriesTo (runOf (shownBy n r .entries)) (length (s .tables .loads))) ≡ text n r
   unfolding text
   answered-text h places zero e d = shown-lines (s .tables) (h .tables) places (shownBy 0 r) (x .shown h (e refl) .lists)
   answered-text h places (suc zero) e d = absurd (d refl)

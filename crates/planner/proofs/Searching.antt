@@ -17,7 +17,8 @@ use Rattle.tables.proofs.Parts.{limits-parts}
 use Rattle.tables.proofs.Stored.{stored-keeps}
 use Rattle.meaning.specs.Sets.{power, worth}
 use Rattle.meaning.specs.Best.{bestPlan, bestCheck}
-use Rattle.meaning.specs.Choice.{Entry, planEntries, checkEntries}
+use Rattle.tables.specs.declared.entry.Entry.{Entry}
+use Rattle.meaning.specs.Choice.{planEntries, checkEntries}
 use Rattle.meaning.proofs.Limits.{lawful as lawful-tree}
 use Rattle.meaning.specs.Cells.{cellsOf}
 use Rattle.calls.specs.State.{State, storedState, Kept}

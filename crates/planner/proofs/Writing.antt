@@ -6,30 +6,31 @@ use native.Mathlib.Omega.{arith}
 use lib.ListN.{length, length-append}
 use Rattle.lines.specs.declared.answer.Answer.{Answer}
 use Rattle.lines.specs.declared.answer.Answer.the-variants.{Planned, Allowed}
-use Rattle.lines.specs.Answers.{yes, planLine, LoadLine, loadLines, textOf, Wrote}
+use Rattle.tables.specs.declared.entry.Entry.{Entry}
+use Rattle.lines.specs.Answers.{yes, planLine, entryLines, textOf, Wrote}
 use Rattle.lines.proofs.Wrote.{wrote-then, wrote-length}
 
 -- the room that the first part leaves
 rest-room : {l m : List ℕ} {at : ℕ} {a : List ℕ} (b : List ℕ) → Wrote l m 0 at a → length (a ++ b) ≤ length l → at + length b ≤ length m
 rest-room {l} {m} {at} {a} b w h = omega (arith, w .end, wrote-length w, length-append a b)
 
-module _ (a : Answer) (ls : List LoadLine) where
+module _ (a : Answer) (es : List Entry) where
   module _ {v w n : ℕ} (told : a ≡ Planned v w n) where
-    pub plan-room : {m : ℕ} → length (textOf a ls) ≤ m → 0 + length (planLine v w n) ≤ m
-    plan-room h = omega (arith, length-append (planLine v w n) (loadLines ls), rw told at h)
+    pub plan-room : {m : ℕ} → length (textOf a es) ≤ m → 0 + length (planLine v w n) ≤ m
+    plan-room h = omega (arith, length-append (planLine v w n) (entryLines es), rw told at h)
 
-    pub plan-rest : {l m : List ℕ} {at : ℕ} → Wrote l m 0 at (planLine v w n) → length (textOf a ls) ≤ length l → at + length (loadLines ls) ≤ length m
-    plan-rest p h = rest-room (loadLines ls) p (rw told at h)
+    pub plan-rest : {l m : List ℕ} {at : ℕ} → Wrote l m 0 at (planLine v w n) → length (textOf a es) ≤ length l → at + length (entryLines es) ≤ length m
+    plan-rest p h = rest-room (entryLines es) p (rw told at h)
 
-    pub plan-wrote : {l m k : List ℕ} {i j : ℕ} → Wrote l m 0 i (planLine v w n) → Wrote m k i j (loadLines ls) → Wrote l k 0 j (textOf a ls)
+    pub plan-wrote : {l m k : List ℕ} {i j : ℕ} → Wrote l m 0 i (planLine v w n) → Wrote m k i j (entryLines es) → Wrote l k 0 j (textOf a es)
     plan-wrote p q = rw told (wrote-then p q)
 
   module _ (told : a ≡ Allowed) where
-    pub check-room : {m : ℕ} → length (textOf a ls) ≤ m → 0 + length yes ≤ m
-    check-room h = omega (arith, length-append yes (loadLines ls), rw told at h)
+    pub check-room : {m : ℕ} → length (textOf a es) ≤ m → 0 + length yes ≤ m
+    check-room h = omega (arith, length-append yes (entryLines es), rw told at h)
 
-    pub check-rest : {l m : List ℕ} {at : ℕ} → Wrote l m 0 at yes → length (textOf a ls) ≤ length l → at + length (loadLines ls) ≤ length m
-    check-rest p h = rest-room (loadLines ls) p (rw told at h)
+    pub check-rest : {l m : List ℕ} {at : ℕ} → Wrote l m 0 at yes → length (textOf a es) ≤ length l → at + length (entryLines es) ≤ length m
+    check-rest p h = rest-room (entryLines es) p (rw told at h)
 
-    pub check-wrote : {l m k : List ℕ} {i j : ℕ} → Wrote l m 0 i yes → Wrote m k i j (loadLines ls) → Wrote l k 0 j (textOf a ls)
+    pub check-wrote : {l m k : List ℕ} {i j : ℕ} → Wrote l m 0 i yes → Wrote m k i j (entryLines es) → Wrote l k 0 j (textOf a es)
     check-wrote p q = rw told (wrote-then p q)

@@ -1,7 +1,7 @@
 -- `write_answer` meets its contract: a case for each answer. Assumes nothing.
 use native.Mathlib.Omega.{arith}
 use borrow.Author.Needs.{needs}
-use Rattle.planner.specs.Answers.{linesTo}
+use Rattle.planner.specs.Answers.{entriesTo}
 use Rattle.planner.proofs.Writing.{plan-room, plan-rest, plan-wrote, check-room, check-rest, check-wrote}
 use Rattle.planner.proofs.answers.write_answer.Statement.{statement}
 use Rattle.planner.proofs.answers.write_answer.Tie as tie
@@ -13,26 +13,26 @@ write-plan-requires : tie.Need-write-plan-requires
 write-plan-requires c κs =
     let k = c .before .before in
     let e = k .before .before .before in
-    plan-room (e .args .a) (linesTo (e .args .run) (e .args .n)) (k .a .given .1) (e .pre .1)
+    plan-room (e .args .a) (entriesTo (e .args .run) (e .args .n)) (k .a .given .1) (e .pre .1)
 
 write-run-requires : tie.Need-write-run-requires
 write-run-requires c κs =
     let w = c .before .before .before in
     let k = w .before .before .before in
     let e = k .before .before .before in
-    (e .pre .0, plan-rest (e .args .a) (linesTo (e .args .run) (e .args .n)) (k .a .given .1) (w .write-plan .ensures) (e .pre .1))
+    (e .pre .0, plan-rest (e .args .a) (entriesTo (e .args .run) (e .args .n)) (k .a .given .1) (w .write-plan .ensures) (e .pre .1))
 
 write-yes-requires : tie.Need-write-yes-requires
 write-yes-requires c κs =
     let e = c .before .before .before .before in
-    check-room (e .args .a) (linesTo (e .args .run) (e .args .n)) (c .before .enum-told2 .given .1) (e .pre .1)
+    check-room (e .args .a) (entriesTo (e .args .run) (e .args .n)) (c .before .enum-told2 .given .1) (e .pre .1)
 
 write-run-requires-2 : tie.Need-write-run-requires-2
 write-run-requires-2 c κs =
     let w = c .before .before .before in
     let k = w .before .before in
     let e = k .before .before .before in
-    (e .pre .0, check-rest (e .args .a) (linesTo (e .args .run) (e .args .n)) (k .enum-told2 .given .1) (w .write-yes .ensures) (e .pre .1))
+    (e .pre .0, check-rest (e .args .a) (entriesTo (e .args .run) (e .args .n)) (k .enum-told2 .given .1) (w .write-yes .ensures) (e .pre .1))
 
 write-no-requires : tie.Need-write-no-requires
 write-no-requires c κs =
@@ -49,7 +49,7 @@ returns-2 c =
     let w = r .before .before .before .before in
     let k = w .before .before .before in
     let e = k .before .before .before in
-    plan-wrote (e .args .a) (linesTo (e .args .run) (e .args .n)) (k .a .given .1) (w .write-plan .ensures) (r .write-run .ensures)
+    plan-wrote (e .args .a) (entriesTo (e .args .run) (e .args .n)) (k .a .given .1) (w .write-plan .ensures) (r .write-run .ensures)
 
 returns-3 : tie.Need-returns-3
 returns-3 c =
@@ -57,7 +57,7 @@ returns-3 c =
     let w = r .before .before .before .before in
     let k = w .before .before in
     let e = k .before .before .before in
-    check-wrote (e .args .a) (linesTo (e .args .run) (e .args .n)) (k .enum-told2 .given .1) (w .write-yes .ensures) (r .write-run2 .ensures)
+    check-wrote (e .args .a) (entriesTo (e .args .run) (e .args .n)) (k .enum-told2 .given .1) (w .write-yes .ensures) (r .write-run2 .ensures)
 
 returns-4 : tie.Need-returns-4
 returns-4 c = let w = c .before .before in rw (w .before .before .before .a2 .given .1) (w .write-no .ensures)

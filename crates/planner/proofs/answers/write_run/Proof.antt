@@ -1,15 +1,15 @@
 -- `write_run` meets its contract. The invariant: the lines of the first i loads are written. Assumes nothing.
 use Prim.Native.Nat.{_-_, _≤_}
 use native.Mathlib.Omega.{arith}
-use Rattle.lines.specs.Answers.{loadLines, Wrote}
+use Rattle.lines.specs.Answers.{entryLines, Wrote}
 use Rattle.lines.proofs.Wrote.{wrote-length}
-use Rattle.planner.specs.Answers.{linesTo}
+use Rattle.planner.specs.Answers.{entriesTo}
 use Rattle.planner.proofs.RunLines.{lines-room, lines-none, lines-next, lines-all}
 use Rattle.planner.proofs.answers.write_run.Statement.{statement}
 use Rattle.planner.proofs.answers.write_run.Tie as tie
 
 abbrev Inv-loop : tie.InvT-loop
-Inv-loop out₀ at run n next₀ i₀ out next i = (i ≤ n) × Wrote out₀ out at next (loadLines (linesTo run i))
+Inv-loop out₀ at run n next₀ i₀ out next i = (i ≤ n) × Wrote out₀ out at next (entryLines (entriesTo run i))
 
 abbrev μ-loop : tie.MeasureT-loop
 μ-loop out₀ at run n next₀ i₀ out next i = n - i
@@ -17,17 +17,22 @@ abbrev μ-loop : tie.MeasureT-loop
 loop-holds : tie.Need-loop-holds Inv-loop μ-loop
 loop-holds c = (omega arith, lines-none _ _ _)
 
-write-line-requires : tie.Need-write-line-requires Inv-loop μ-loop
-write-line-requires c κs =
-    let l = c .before .before in
+entry-at-requires : tie.Need-entry-at-requires Inv-loop μ-loop
+entry-at-requires c κs = omega (arith, c .before .loop-test .taken, c .before .before .before .before .pre .0)
+
+write-entry-requires : tie.Need-write-entry-requires Inv-loop μ-loop
+write-entry-requires c κs =
+    let t = c .before .before in
+    let l = t .before in
     let s = l .before .before in
-    (omega (arith, s .pre .0), omega (arith, s .pre .1, l .loop .inv .1 .end, wrote-length (l .loop .inv .1), lines-room (s .args .run) (s .args .n) (l .loop .i) (c .before .loop-test .taken)))
+    rw (c .entry-at .ensures) (omega (arith, s .pre .1, l .loop .inv .1 .end, wrote-length (l .loop .inv .1), lines-room (s .args .run) (s .args .n) (l .loop .i) (t .loop-test .taken)))
 
 loop-again : tie.Need-loop-again Inv-loop μ-loop
 loop-again c =
     let w = c .before .before in
-    let l = w .before .before .before in
-    (omega arith, lines-next _ _ _ _ _ _ _ _ (l .loop .inv .1) (w .write-line .ensures))
+    let e = w .before in
+    let l = e .before .before .before in
+    (omega (arith, e .before .before .loop-test .taken), lines-next _ _ _ _ _ _ _ _ (l .loop .inv .1) (rw (e .entry-at .ensures) at (w .write-entry .ensures)))
 
 same-length : tie.Need-same-length Inv-loop μ-loop
 same-length c = wrote-length (c .before .loop .inv .1)
@@ -42,7 +47,8 @@ write-run-spec =
     Inv-loop
     μ-loop
     loop-holds
-    write-line-requires
+    entry-at-requires
+    write-entry-requires
     (λ c. omega arith)
     (λ c. omega arith)
     loop-again

@@ -10,4 +10,4 @@ unfolding passedLoad
 returns c = ap₂ (λ r s. record { run = r; rows = s }) (c .before .with .ensures) (c .with2 .ensures)
 
 pub with-spec : {M : Type 1} → statement M
-with-spec = tie.close (tie.spec (λ c κs. search needs) (λ c κs. search needs) returns)
+with-spec = tie.close (tie.spec (λ c. search needs) (λ c κs. search needs) (λ c κs. search needs) returns)

@@ -14,4 +14,4 @@ unfolding withEntry
 returns-2 c = rw (ne-eqb _ 1 (c .if1 .left))
 
 pub with-spec : {M : Type 1} → statement M
-with-spec = tie.close (tie.spec (λ c. search needs) (λ c. search needs) (λ c. search needs) (λ c. search needs) (λ c κs. search needs) returns returns-2)
+with-spec = tie.close (tie.spec (λ c. search needs) (λ c. search needs) (λ c. search needs) (λ c. search needs) (λ c. search needs) (λ c κs. search needs) returns returns-2)
