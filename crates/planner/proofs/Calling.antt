@@ -1,4 +1,4 @@
--- A call, way out by way out: turned away with number 1, or decided and written. Assumes nothing.
+-- A call, way out by way out: turned away, or decided and written. Assumes nothing.
 use Prim.Native.Nat.{ℕ, _+_, _-_, _≤_, _<_}
 use mathlib.Core.Path.{_≡_, refl, sym, ap, _∙_}
 use mathlib.Core.Bool.{Bool, false}
@@ -11,6 +11,7 @@ use lib.ListN.{length, take, drop}
 use lib.Seq.{sets}
 use Rattle.lines.specs.Answers.{numberOf, textOf, Wrote}
 use Rattle.lines.proofs.Wrote.{free-back}
+use Rattle.tables.specs.Refusals as no
 use Rattle.tables.specs.Limits.{maxLoads}
 use Rattle.calls.specs.State.{StoredState, storedState, keeps, Kept}
 use Rattle.calls.specs.Rows.{Row, bytesOf, causesOf}
@@ -60,10 +61,10 @@ module _ (p : Planner) (h : Kept maxLoads (held p)) (c : Call) where
   pub turned : length (c .output) < c .place + bytesOf r → doneOf (turnedAway p) (c .output) (c .work) ≡ called (held p) c
   unfolding text
   turned less =
-      let one = numbered 1 (no-room (length (c .work)) (length (c .output)) (c .place) r less) in
+      let one = numbered no.unusable (no-room (length (c .work)) (length (c .output)) (c .place) r less) in
       let state = kept-stored (held p) h in
-      let work = sym (unsearched 1 r (c .work) refl) in
-      (λ i. record { state = state i; reply = record { number = 1; count = 0; output = c .output; work = work i } }) ∙ sym one
+      let work = sym (unsearched no.unusable r (c .work) refl) in
+      (λ i. record { state = state i; reply = record { number = no.unusable; count = 0; output = c .output; work = work i } }) ∙ sym one
 
   -- the number of a row where there is room
   abbrev pub rowNumber : ℕ
@@ -86,7 +87,7 @@ module _ (p : Planner) (h : Kept maxLoads (held p)) (c : Call) where
     pub text-few : length (textOf (d .answer) (entriesTo (d .run) (p .tables .loads .count))) ≤ bytesOf r
     text-few = rw text-is (text-fits (stateIn p) (kept-within (held p) h) (length (c .work)) rowNumber x (go (eq-zero-or-pos rowNumber)) (λ e. e))
       where
-        go : (rowNumber ≡ 0) ⊎ (0 < rowNumber) → rowNumber ≤ 10
+        go : (rowNumber ≡ 0) ⊎ (0 < rowNumber) → rowNumber ≤ no.greatest
         go (inl e) = omega (arith, e)
         go (inr l) = past-one x l .1
 

@@ -11,6 +11,7 @@ use Rattle.marks.specs.Sets.{sizeOf, markIn}
 use Rattle.lines.specs.declared.Command.the-variants.{Plan, Check}
 use Rattle.lines.specs.declared.answer.Answer.the-variants.{Planned, Allowed, Refused}
 use Rattle.tables.specs.declared.tables.StoredTables.{StoredTables}
+use Rattle.tables.specs.Refusals as no
 use Rattle.tables.specs.Limits.{maxLoads}
 use Rattle.tables.specs.Stored.{bookOf, tablesOf, keepsLimits, Holds}
 use Rattle.tables.proofs.Parts.{limits-parts}
@@ -50,18 +51,18 @@ some-found (suc v) es is e = (λ z. omega arith, ap (λ (o : Outcome). o .run) i
 
 -- ---- the numbers of `plan`
 module _ (s : State) (cells : ℕ) where
-  pub plan-four : length (s .tables .loads) ≡ 0 → lowest (causesOf cells (row s Plan)) ≡ 4
+  pub plan-no-loads : length (s .tables .loads) ≡ 0 → lowest (causesOf cells (row s Plan)) ≡ no.noLoads
   unfolding row lowest
-  plan-four e = rw (eq-eqb (length (s .tables .loads)) 0 e)
+  plan-no-loads e = rw (eq-eqb (length (s .tables .loads)) 0 e)
 
   module _ (some : length (s .tables .loads) ≡ 0 → ⊥) where
-    pub plan-eight : cells < cellsOf (s .tables) → lowest (causesOf cells (row s Plan)) ≡ 8
+    pub plan-too-few : cells < cellsOf (s .tables) → lowest (causesOf cells (row s Plan)) ≡ no.tooFewCells
     unfolding row lowest
-    plan-eight l = rw (ne-eqb (length (s .tables .loads)) 0 some, lt-ltb cells (cellsOf (s .tables)) l)
+    plan-too-few l = rw (ne-eqb (length (s .tables .loads)) 0 some, lt-ltb cells (cellsOf (s .tables)) l)
 
-    pub plan-nine : cellsOf (s .tables) ≤ cells → bestPlan (s .tables) ≡ 0 → lowest (causesOf cells (row s Plan)) ≡ 9
+    pub plan-none-fits : cellsOf (s .tables) ≤ cells → bestPlan (s .tables) ≡ 0 → lowest (causesOf cells (row s Plan)) ≡ no.noneFits
     unfolding row lowest noneFits
-    plan-nine l e = rw (ne-eqb (length (s .tables .loads)) 0 some, le-ltb cells (cellsOf (s .tables)) l, eq-eqb (bestPlan (s .tables)) 0 e)
+    plan-none-fits l e = rw (ne-eqb (length (s .tables .loads)) 0 some, le-ltb cells (cellsOf (s .tables)) l, eq-eqb (bestPlan (s .tables)) 0 e)
 
     pub plan-accepted : cellsOf (s .tables) ≤ cells → (bestPlan (s .tables) ≡ 0 → ⊥) → lowest (causesOf cells (row s Plan)) ≡ 0
     unfolding row lowest noneFits
@@ -69,18 +70,18 @@ module _ (s : State) (cells : ℕ) where
 
 -- ---- the numbers of `check`
 module _ (s : State) (σ : LoadSet) (n : ℕ) where
-  pub check-four : length (s .tables .loads) ≡ 0 → lowest (causesOf 0 (row s (Check σ n))) ≡ 4
+  pub check-no-loads : length (s .tables .loads) ≡ 0 → lowest (causesOf 0 (row s (Check σ n))) ≡ no.noLoads
   unfolding row lowest
-  check-four e = rw (eq-eqb (length (s .tables .loads)) 0 e)
+  check-no-loads e = rw (eq-eqb (length (s .tables .loads)) 0 e)
 
   module _ (some : length (s .tables .loads) ≡ 0 → ⊥) where
-    pub check-five : (n ≡ length (s .tables .loads) → ⊥) → lowest (causesOf 0 (row s (Check σ n))) ≡ 5
+    pub check-out-of-range : (n ≡ length (s .tables .loads) → ⊥) → lowest (causesOf 0 (row s (Check σ n))) ≡ no.outOfRange
     unfolding row lowest
-    check-five d = rw (ne-eqb (length (s .tables .loads)) 0 some, ne-eqb n (length (s .tables .loads)) d)
+    check-out-of-range d = rw (ne-eqb (length (s .tables .loads)) 0 some, ne-eqb n (length (s .tables .loads)) d)
 
-    pub check-ten : n ≡ length (s .tables .loads) → bestCheck (s .tables) (markIn σ) ≡ 0 → lowest (causesOf 0 (row s (Check σ n))) ≡ 10
+    pub check-not-allowed : n ≡ length (s .tables .loads) → bestCheck (s .tables) (markIn σ) ≡ 0 → lowest (causesOf 0 (row s (Check σ n))) ≡ no.notAllowed
     unfolding row lowest notAllowed
-    check-ten q e = rw (ne-eqb (length (s .tables .loads)) 0 some, eq-eqb n (length (s .tables .loads)) q, eq-eqb (bestCheck (s .tables) (markIn σ)) 0 e)
+    check-not-allowed q e = rw (ne-eqb (length (s .tables .loads)) 0 some, eq-eqb n (length (s .tables .loads)) q, eq-eqb (bestCheck (s .tables) (markIn σ)) 0 e)
 
     pub check-accepted : n ≡ length (s .tables .loads) → (bestCheck (s .tables) (markIn σ) ≡ 0 → ⊥) → lowest (causesOf 0 (row s (Check σ n))) ≡ 0
     unfolding row lowest notAllowed
@@ -100,9 +101,10 @@ module _ (p : Planner) (h : Kept maxLoads (held p)) where
   is-held = ap plannerOf (kept-stored (held p) h)
 
   -- refused: the planner is as it was
-  pub refuses : (r : Row) (n m : ℕ) {d : Decided} → d ≡ unshown (Refused (suc m)) p → n ≡ suc m → d ≡ decidedBy (stateIn p) n r
+  pub refuses : (r : Row) (n k : ℕ) {d : Decided} → 0 < k → d ≡ unshown (Refused k) p → n ≡ k → d ≡ decidedBy (stateIn p) n r
   unfolding decidedBy
-  refuses r n m is e = is ∙ rw e (λ i. record { answer = Refused (suc m); run = runOf []; planner = is-held i })
+  refuses r n zero l is e = absurd (omega arith)
+  refuses r n (suc m) l is e = is ∙ rw e (λ i. record { answer = Refused (suc m); run = runOf []; planner = is-held i })
 
   -- a plan was found
   pub plans : (n : ℕ) → n ≡ 0 → (r : Run) → r ≡ runOf (planEntries (stateIn p .tables)) → (v w k : ℕ)

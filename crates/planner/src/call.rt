@@ -7,6 +7,9 @@ use crate::search::unshown;
 use lines::Command;
 use lines::reading::read;
 use lines::reading::too_long;
+use tables::refusal::BROKEN;
+use tables::refusal::TOO_LONG;
+use tables::refusal::UNUSABLE;
 ghost use mathlib.Core.Path.{_≡_};
 ghost use mathlib.Core.Bool.{true};
 ghost use lib.ListN.{length};
@@ -22,10 +25,6 @@ ghost use Rattle.planner.specs.Calls.{callOf, doneOf, turnedAway};
 
 // "1,024 bytes must be free from there."
 const FREE_BYTES: usize = 1024;
-
-const TOO_LONG: u8 = 2;
-
-const BROKEN: u8 = 3;
 
 // What a call returns: the next planner, the number, 0 if accepted, and the count of bytes written.
 pub struct Called {
@@ -85,13 +84,13 @@ impl Planner {
         FREE_BYTES
     }
 
-    // Number 1: nothing is written, and everything is left as it was.
+    // Nothing is written, and everything is left as it was.
     fn turned_away(self) -> Called
         ensures { λ r. ⌜ r ≡ turnedAway self ⌝ }
     {
         Called {
             planner: self,
-            number: 1,
+            number: UNUSABLE,
             count: 0,
         }
     }

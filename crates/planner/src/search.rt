@@ -7,6 +7,11 @@ use engine::figures::figures_of;
 use engine::run::Run;
 use lines::answer::Answer;
 use marks::LoadSet;
+use tables::refusal::NO_LOADS;
+use tables::refusal::NONE_FITS;
+use tables::refusal::NOT_ALLOWED;
+use tables::refusal::OUT_OF_RANGE;
+use tables::refusal::TOO_FEW_CELLS;
 use tables::tables::StoredTables;
 ghost use mathlib.Core.Path.{_≡_};
 ghost use lib.ListN.{length};
@@ -20,17 +25,6 @@ ghost use Rattle.calls.specs.Rows.{row};
 ghost use Rattle.calls.specs.Printing.{workAfter};
 ghost use Rattle.planner.specs.Planner.{held, stateIn};
 ghost use Rattle.planner.specs.Decided.{unshown, decided};
-
-// The numbers of "no loads", "bits not one for each load", "too few cells", "no allowed set fits" and "checked set not allowed".
-const NO_LOADS: u8 = 4;
-
-const NOT_ONE_EACH: u8 = 5;
-
-const TOO_FEW_CELLS: u8 = 8;
-
-const NONE_FITS: u8 = 9;
-
-const NOT_ALLOWED: u8 = 10;
 
 // The answer to a line, the run that it shows, and the next planner. Where no run is shown, it is empty.
 pub struct Decided {
@@ -105,7 +99,7 @@ impl Planner {
             return self.refused(NO_LOADS);
         }
         if count != tables.loads.count {
-            return self.refused(NOT_ONE_EACH);
+            return self.refused(OUT_OF_RANGE);
         }
         let outcome = engine::plan::check(tables, set);
         if !outcome.found {

@@ -3,6 +3,8 @@ use mathlib.Core.Path.{_≡_, sym, _∙_}
 use borrow.Author.Needs.{needs}
 use borrow.Author.Tests.{not-true, not-false}
 use lib.ListN.{length}
+use lib.Dec.{lit<}
+use Rattle.tables.specs.Refusals as no
 use Rattle.marks.specs.Sets.{markIn}
 use Rattle.lines.specs.declared.Command.the-variants.{Check}
 use Rattle.tables.specs.Stored.{tablesOf}
@@ -12,7 +14,7 @@ use Rattle.calls.specs.Rows.{row}
 use Rattle.calls.proofs.Answers.{positive}
 use Rattle.planner.specs.Planner.{stateIn}
 use Rattle.planner.proofs.Commands.{load-count}
-use Rattle.planner.proofs.Searching.{none-found, some-found, check-four, check-five, check-ten, check-accepted, kept, refuses, allows}
+use Rattle.planner.proofs.Searching.{none-found, some-found, check-no-loads, check-out-of-range, check-not-allowed, check-accepted, kept, refuses, allows}
 use Rattle.planner.proofs.Planner.check.Statement.{statement}
 use Rattle.planner.proofs.Planner.check.Tie as tie
 
@@ -27,16 +29,16 @@ returns : tie.Need-returns
 returns c =
     let e = c .before .before .before .before in
     let s = e .args .self .tables in
-    refuses (e .args .self) (e .pre) (row (stateIn (e .args .self)) (Check (e .args .set) (e .args .count))) _ 3 (c .refused .ensures)
-    (check-four (stateIn (e .args .self)) (e .args .set) (e .args .count) (sym (load-count (e .args .self) (e .pre)) ∙ c .before .if1 .taken))
+    refuses (e .args .self) (e .pre) (row (stateIn (e .args .self)) (Check (e .args .set) (e .args .count))) _ no.noLoads (lit< tt) (c .refused .ensures)
+    (check-no-loads (stateIn (e .args .self)) (e .args .set) (e .args .count) (sym (load-count (e .args .self) (e .pre)) ∙ c .before .if1 .taken))
 
 returns-2 : tie.Need-returns-2
 returns-2 c =
     let k = c .before .before .before in
     let e = k .before .before .before in
     let s = e .args .self .tables in
-    refuses (e .args .self) (e .pre) (row (stateIn (e .args .self)) (Check (e .args .set) (e .args .count))) _ 4 (c .refused2 .ensures)
-    (check-five (stateIn (e .args .self)) (e .args .set) (e .args .count) (some-loads k) (λ q. c .before .if2 .taken (q ∙ sym (load-count (e .args .self) (e .pre)))))
+    refuses (e .args .self) (e .pre) (row (stateIn (e .args .self)) (Check (e .args .set) (e .args .count))) _ no.outOfRange (lit< tt) (c .refused2 .ensures)
+    (check-out-of-range (stateIn (e .args .self)) (e .args .set) (e .args .count) (some-loads k) (λ q. c .before .if2 .taken (q ∙ sym (load-count (e .args .self) (e .pre)))))
 
 check-requires : tie.Need-check-requires
 check-requires c κs =
@@ -50,8 +52,8 @@ returns-3 c =
     let k = o .before .before .before in
     let e = k .before .before .before in
     let s = e .args .self .tables in
-    refuses (e .args .self) (e .pre) (row (stateIn (e .args .self)) (Check (e .args .set) (e .args .count))) _ 9 (c .refused3 .ensures)
-    (check-ten (stateIn (e .args .self)) (e .args .set) (e .args .count) (some-loads k) (each-load (o .before)) (none-found (bestCheck (tablesOf s) (markIn (e .args .set))) (checkEntries (tablesOf s) (markIn (e .args .set))) (o .check .ensures) (not-true _ (c .before .if3 .taken))))
+    refuses (e .args .self) (e .pre) (row (stateIn (e .args .self)) (Check (e .args .set) (e .args .count))) _ no.notAllowed (lit< tt) (c .refused3 .ensures)
+    (check-not-allowed (stateIn (e .args .self)) (e .args .set) (e .args .count) (some-loads k) (each-load (o .before)) (none-found (bestCheck (tablesOf s) (markIn (e .args .set))) (checkEntries (tablesOf s) (markIn (e .args .set))) (o .check .ensures) (not-true _ (c .before .if3 .taken))))
 
 returns-4 : tie.Need-returns-4
 returns-4 c =

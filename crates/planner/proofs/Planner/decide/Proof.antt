@@ -1,6 +1,8 @@
 -- `Planner::decide` meets its contract: a case for each sort of command. Assumes nothing.
 use mathlib.Core.Path.{refl, sym}
 use borrow.Author.Needs.{needs}
+use lib.Dec.{lit<}
+use Rattle.tables.specs.Refusals as no
 use Rattle.lines.specs.declared.Command.the-variants.{Broken}
 use Rattle.calls.specs.Rows.{row}
 use Rattle.calls.specs.Causes.{lowest}
@@ -29,7 +31,7 @@ returns-4 : tie.Need-returns-4
 unfolding row lowest
 returns-4 x =
     let e = x .before .before .before .before in
-    rw (x .before .enum-told2 .given .1) (refuses (e .args .self) (e .pre) (row (stateIn (e .args .self)) Broken) _ 2 (x .refused .ensures) refl, sym (no-cells _ _ _ refl))
+    rw (x .before .enum-told2 .given .1) (refuses (e .args .self) (e .pre) (row (stateIn (e .args .self)) Broken) _ no.broken (lit< tt) (x .refused .ensures) refl, sym (no-cells _ _ _ refl))
 
 pub decide-spec : {M : Type 1} → statement M
 decide-spec =

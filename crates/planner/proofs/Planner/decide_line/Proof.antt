@@ -5,6 +5,8 @@ use mathlib.Core.List.{List}
 use Prim.Native.Nat.{ℕ}
 use borrow.Author.Needs.{needs}
 use lib.ListN.{length}
+use lib.Dec.{lit<}
+use Rattle.tables.specs.Refusals as no
 use Rattle.lines.specs.declared.Command.{Command}
 use Rattle.lines.specs.Length.{tooLong}
 use Rattle.lines.specs.Grammar.{parse}
@@ -21,7 +23,7 @@ use Rattle.planner.proofs.Searching.{refuses}
 use Rattle.planner.proofs.Planner.decide_line.Statement.{statement}
 use Rattle.planner.proofs.Planner.decide_line.Tie as tie
 
-long : (s : State) (n : ℕ) (l : List ℕ) → tooLong l ≡ true → lowest (causesOf n (lineRow s l)) ≡ 2
+long : (s : State) (n : ℕ) (l : List ℕ) → tooLong l ≡ true → lowest (causesOf n (lineRow s l)) ≡ no.tooLong
 unfolding lineRow lowest
 long s n l e = rw e
 
@@ -35,7 +37,7 @@ returns c =
     let s = stateIn (e .args .self) in
     let line = e .args .line .now in
     let r = c .refused .ensures in
-    (refuses (e .args .self) (e .pre) (lineRow s line) _ 1 r (long s _ line (sym (c .before .before .too-long .ensures) ∙ c .before .if1 .taken)), sym (unsearched _ (lineRow s line) (e .args .work .now) (ap (λ (d : Decided). searched (numberOf (d .answer))) r)))
+    (refuses (e .args .self) (e .pre) (lineRow s line) _ no.tooLong (lit< tt) r (long s _ line (sym (c .before .before .too-long .ensures) ∙ c .before .if1 .taken)), sym (unsearched _ (lineRow s line) (e .args .work .now) (ap (λ (d : Decided). searched (numberOf (d .answer))) r)))
 
 returns-2 : tie.Need-returns-2
 returns-2 c =

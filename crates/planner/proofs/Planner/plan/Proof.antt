@@ -7,6 +7,8 @@ use native.Mathlib.Omega.{arith}
 use borrow.Author.Needs.{needs}
 use borrow.Author.Tests.{not-true, not-false}
 use lib.ListN.{length, replicate, drop}
+use lib.Dec.{lit<}
+use Rattle.tables.specs.Refusals as no
 use Rattle.lines.specs.declared.Command.the-variants.{Plan}
 use Rattle.lines.specs.Answers.{numberOf}
 use Rattle.tables.specs.Stored.{tablesOf}
@@ -22,7 +24,7 @@ use Rattle.planner.specs.declared.Planner.{Planner}
 use Rattle.planner.specs.declared.search.Decided.{Decided}
 use Rattle.planner.specs.Planner.{stateIn}
 use Rattle.planner.proofs.Commands.{load-count, few}
-use Rattle.planner.proofs.Searching.{none-found, some-found, plan-four, plan-eight, plan-nine, plan-accepted, kept, refuses, plans}
+use Rattle.planner.proofs.Searching.{none-found, some-found, plan-no-loads, plan-too-few, plan-none-fits, plan-accepted, kept, refuses, plans}
 use Rattle.planner.proofs.Planner.plan.Statement.{statement}
 use Rattle.planner.proofs.Planner.plan.Tie as tie
 
@@ -43,7 +45,7 @@ returns c =
     let e = c .before .before .before .before .before in
     let s = e .args .self .tables in
     let r = c .refused .ensures in
-    (refuses (e .args .self) (e .pre) (row (stateIn (e .args .self)) Plan) _ 3 r (plan-four (stateIn (e .args .self)) (length (e .args .work .now)) (sym (load-count (e .args .self) (e .pre)) ∙ c .before .if1 .taken)), sym (unsearched _ (row (stateIn (e .args .self)) Plan) (e .args .work .now) (ap (λ (d : Decided). searched (numberOf (d .answer))) r)))
+    (refuses (e .args .self) (e .pre) (row (stateIn (e .args .self)) Plan) _ no.noLoads (lit< tt) r (plan-no-loads (stateIn (e .args .self)) (length (e .args .work .now)) (sym (load-count (e .args .self) (e .pre)) ∙ c .before .if1 .taken)), sym (unsearched _ (row (stateIn (e .args .self)) Plan) (e .args .work .now) (ap (λ (d : Decided). searched (numberOf (d .answer))) r)))
 
 returns-2 : tie.Need-returns-2
 returns-2 c =
@@ -51,7 +53,7 @@ returns-2 c =
     let e = k .before .before .before .before in
     let s = e .args .self .tables in
     let r = c .refused2 .ensures in
-    (refuses (e .args .self) (e .pre) (row (stateIn (e .args .self)) Plan) _ 7 r (plan-eight (stateIn (e .args .self)) (length (e .args .work .now)) (some-loads k) (omega (arith, c .before .if2 .taken, c .before .before .cells-of .ensures))), sym (unsearched _ (row (stateIn (e .args .self)) Plan) (e .args .work .now) (ap (λ (d : Decided). searched (numberOf (d .answer))) r)))
+    (refuses (e .args .self) (e .pre) (row (stateIn (e .args .self)) Plan) _ no.tooFewCells (lit< tt) r (plan-too-few (stateIn (e .args .self)) (length (e .args .work .now)) (some-loads k) (omega (arith, c .before .if2 .taken, c .before .before .cells-of .ensures))), sym (unsearched _ (row (stateIn (e .args .self)) Plan) (e .args .work .now) (ap (λ (d : Decided). searched (numberOf (d .answer))) r)))
 
 plan-requires : tie.Need-plan-requires
 plan-requires c κs =
@@ -69,7 +71,7 @@ returns-3 c =
     let s = e .args .self .tables in
     let r = c .refused3 .ensures in
     let none = none-found (bestPlan (tablesOf s)) (planEntries (tablesOf s)) (o .plan .ensures .0) (not-true _ (c .before .if3 .taken)) in
-    (refuses (e .args .self) (e .pre) (row (stateIn (e .args .self)) Plan) _ 8 r (plan-nine (stateIn (e .args .self)) (length (e .args .work .now)) (some-loads k) (enough f) none), cleared (e .args .self) _ (e .args .work .now) _ (ap (λ (d : Decided). searched (numberOf (d .answer))) r) (o .plan .ensures .1))
+    (refuses (e .args .self) (e .pre) (row (stateIn (e .args .self)) Plan) _ no.noneFits (lit< tt) r (plan-none-fits (stateIn (e .args .self)) (length (e .args .work .now)) (some-loads k) (enough f) none), cleared (e .args .self) _ (e .args .work .now) _ (ap (λ (d : Decided). searched (numberOf (d .answer))) r) (o .plan .ensures .1))
 
 figures-of-requires : tie.Need-figures-of-requires
 figures-of-requires c κs =
