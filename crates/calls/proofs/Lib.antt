@@ -9,6 +9,7 @@ pub mod Refusals
 pub mod Keeps
 pub mod Printed
 pub mod Demand1
+pub mod ByCommand
 pub mod Demand2
 pub mod Demand3
 pub mod Full

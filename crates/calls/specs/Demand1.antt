@@ -8,8 +8,11 @@ use mathlib.Core.Path.{_≡_}
 use mathlib.Core.Bool.{true, false, not}
 use mathlib.Core.List.{List, _∷_}
 use lib.ListN.{length, take, drop}
-use Rattle.lines.specs.Answers.{refused}
+use Rattle.lines.specs.declared.Command.the-variants.{Plan}
+use Rattle.lines.specs.Grammar.{parse}
+use Rattle.lines.specs.Answers.{refused, freeBytes}
 use Rattle.tables.specs.Refusals as no
+use Rattle.meaning.specs.Cells.{cellsOf}
 use Rattle.calls.specs.State.{StoredState, stateOf, keeps}
 use Rattle.calls.specs.Rows.{Cause, _if_, bytesOf, cellsFor}
 use Rattle.calls.specs.Causes.{allCauses, Lowest}
@@ -38,3 +41,14 @@ pub record Demand1 (p : StoredState) (c : Call) (d : Done) : Type 0 where
   -- "After a plan or refusal 9 those cells are 0; all other cells, and all cells after any other call, are unchanged."
   pub cleared : searched (d .reply .number) ≡ true → d .reply .work ≡ zeroed (cellsFor (rowFor (stateOf p) c)) (c .work)
   pub unchanged : searched (d .reply .number) ≡ false → d .reply .work ≡ c .work
+
+-- the same of tables, output and work, by the command that a line asks for and not by its row
+pub record ByCommand (p : StoredState) (c : Call) (d : Done) : Type 0 where
+  -- "an accepted line changes them as its row below says, a refused one not at all"
+  pub tables : 0 < d .reply .number → d .state .tables ≡ p .tables
+  -- "1,024 bytes must be free from there"
+  pub fits : d .reply .count ≤ freeBytes
+  -- "After a plan or refusal 9 those cells are 0"
+  pub cleared : parse (c .line) ≡ Plan → searched (d .reply .number) ≡ true → d .reply .work ≡ zeroed (cellsOf (stateOf p .tables)) (c .work)
+  -- ".. and all cells after any other call, are unchanged"
+  pub unchanged : (parse (c .line) ≡ Plan → searched (d .reply .number) ≡ true → ⊥) → d .reply .work ≡ c .work
