@@ -1,16 +1,16 @@
 -- What a decided answer has: the number that was given, and the text of paper 01; and what a change decides. Assumes nothing.
 use Prim.Native.Nat.{ℕ, zero, suc}
-use mathlib.Core.Path.{_≡_, refl, sym, ap, _∙_}
+use mathlib.Core.Path.{_≡_, refl, sym, ap, subst, _∙_}
 use mathlib.Core.List.{List}
 use lib.ListN.{length}
 use Rattle.lines.specs.declared.Change.{Change}
 use Rattle.lines.specs.Answers.{numberOf, answerOf, textOf}
 use Rattle.tables.specs.Limits.{maxLoads}
 use Rattle.calls.specs.State.{State, storedState, Within}
-use Rattle.calls.specs.Rows.{Row, changes, changing, causesOf}
+use Rattle.calls.specs.Rows.{Row, changes, changing, causesOf, cellsFor}
 use Rattle.calls.specs.Causes.{lowest}
 use Rattle.calls.specs.Effects.{stateBy}
-use Rattle.calls.specs.Printing.{shownBy, text, workAfter}
+use Rattle.calls.specs.Printing.{shownBy, text}
 use Rattle.calls.proofs.Rows.{Right}
 use Rattle.calls.proofs.Work.{no-cells}
 use Rattle.engine.specs.Shown.{runOf}
@@ -19,7 +19,7 @@ use Rattle.planner.specs.declared.search.Decided.{Decided}
 use Rattle.planner.specs.Planner.{plannerOf}
 use Rattle.planner.specs.Answers.{entriesTo}
 use Rattle.planner.specs.Changes.{changedBy}
-use Rattle.planner.specs.Decided.{unshown, decidedBy}
+use Rattle.planner.specs.Decided.{unshown, decidedBy, decided, Decides}
 use Rattle.planner.proofs.RunLines.{shown-lines}
 
 -- ---- the answer
@@ -36,13 +36,21 @@ module _ {s : State} {cells : ℕ} {r : Row} (x : Right s cells r) where
   answered-text h places (suc zero) e d = absurd (d refl)
   answered-text h places (suc (suc n)) e d = refl
 
--- ---- a change: it shows nothing but `ok`, and leaves the work as it was
+-- ---- what is decided of a row is decided of an equal one
+pub along : {s : State} {q r : Row} {w v : List ℕ} {d : Decided} → q ≡ r → Decides s q w v d → Decides s r w v d
+along {s} {w = w} {v = v} {d = d} e = subst (λ (r : Row). Decides s r w v d) e
+
+-- ---- a row that works in no cells leaves the work as it was
+pub works-in-none : (s : State) (r : Row) (w : List ℕ) {d : Decided} → cellsFor r ≡ 0 → d ≡ decided s (length w) r → Decides s r w w d
+works-in-none s r w e is = record { answer = is; work = sym (no-cells _ r w e) }
+
+-- a change: it shows nothing but `ok`
 pub change-done : (s : State) (c : Change) (w : List ℕ) {x : Changed} {d : Decided} → x ≡ changedBy s c → d ≡ unshown (x .answer) (x .planner)
-    → let r = changes (changing (s .tables) c) in (d ≡ decidedBy s (lowest (causesOf (length w) r)) r) × (w ≡ workAfter (numberOf (d .answer)) r w)
+    → Decides s (changes (changing (s .tables) c)) w w d
 unfolding changedBy decidedBy
-change-done s c w {x} {d} is-x is-d =
-    let decided = is-d ∙ ap (λ (x : Changed). unshown (x .answer) (x .planner)) is-x ∙ go (lowest (changing (s .tables) c .causes)) in
-    (decided, sym (no-cells (numberOf (d .answer)) (changes (changing (s .tables) c)) w refl))
+change-done s c w is-x is-d =
+    works-in-none s (changes (changing (s .tables) c)) w refl
+    (is-d ∙ ap (λ (x : Changed). unshown (x .answer) (x .planner)) is-x ∙ go (lowest (changing (s .tables) c .causes)))
   where
     go : (n : ℕ) → unshown (answerOf n) (plannerOf (storedState (stateBy s n (changes (changing (s .tables) c))))) ≡ decidedBy s n (changes (changing (s .tables) c))
     go zero = refl

@@ -1,6 +1,6 @@
 -- The ways out of `plan` and `check`: a refusal, or what was found. Assumes nothing.
 use Prim.Native.Nat.{ℕ, zero, suc, _+_, _*_, _≤_, _<_}
-use mathlib.Core.Path.{_≡_, refl, ap, _∙_}
+use mathlib.Core.Path.{_≡_, refl, sym, ap, _∙_}
 use mathlib.Core.Bool.{true, false}
 use mathlib.Core.List.{List, []}
 use native.Mathlib.Omega.{arith}
@@ -10,6 +10,7 @@ use Rattle.marks.specs.declared.LoadSet.{LoadSet}
 use Rattle.marks.specs.Sets.{sizeOf, markIn}
 use Rattle.lines.specs.declared.Command.the-variants.{Plan, Check}
 use Rattle.lines.specs.declared.answer.Answer.the-variants.{Planned, Allowed, Refused}
+use Rattle.lines.specs.Answers.{numberOf}
 use Rattle.tables.specs.declared.tables.StoredTables.{StoredTables}
 use Rattle.tables.specs.Refusals as no
 use Rattle.tables.specs.Limits.{maxLoads}
@@ -23,9 +24,11 @@ use Rattle.meaning.specs.Choice.{planEntries, checkEntries}
 use Rattle.meaning.proofs.Limits.{lawful as lawful-tree}
 use Rattle.meaning.specs.Cells.{cellsOf}
 use Rattle.calls.specs.State.{State, storedState, Kept}
-use Rattle.calls.specs.Rows.{Row, noneFits, notAllowed, row, causesOf}
+use Rattle.calls.specs.Rows.{Row, noneFits, notAllowed, row, causesOf, cellsFor}
 use Rattle.calls.specs.Causes.{lowest}
+use Rattle.calls.specs.Printing.{zeroed, searched}
 use Rattle.calls.proofs.State.{places, kept-within, kept-stored}
+use Rattle.calls.proofs.Work.{unsearched, row-zeroed}
 use Rattle.cells.specs.Problem.{planProblem, shapeOf}
 use Rattle.cells.specs.Work.{cellsNeeded}
 use Rattle.engine.specs.declared.run.Run.{Run}
@@ -35,7 +38,7 @@ use Rattle.engine.proofs.Answers.{plan-set, plan-size}
 use Rattle.planner.specs.declared.Planner.{Planner}
 use Rattle.planner.specs.declared.search.Decided.{Decided}
 use Rattle.planner.specs.Planner.{held, plannerOf, stateIn}
-use Rattle.planner.specs.Decided.{unshown, decidedBy}
+use Rattle.planner.specs.Decided.{unshown, decidedBy, decided, Decides}
 use Rattle.planner.proofs.Commands.{tables-count}
 
 -- ---- what a search found
@@ -105,6 +108,19 @@ module _ (p : Planner) (h : Kept maxLoads (held p)) where
   unfolding decidedBy
   refuses r n zero l is e = absurd (omega arith)
   refuses r n (suc m) l is e = is ∙ rw e (λ i. record { answer = Refused (suc m); run = runOf []; planner = is-held i })
+
+  -- before anything was searched: the work is as it was
+  pub turns-down : (r : Row) (k : ℕ) (w : List ℕ) {d : Decided} → 0 < k → searched k ≡ false → d ≡ unshown (Refused k) p
+      → lowest (causesOf (length w) r) ≡ k → Decides (stateIn p) r w w d
+  turns-down r k w l e is n = record {
+    answer = refuses r (lowest (causesOf (length w) r)) k l is n;
+    work = sym (unsearched _ r w (ap (λ (d : Decided). searched (numberOf (d .answer))) is ∙ e));
+  }
+
+  -- after a search: its cells are 0
+  pub has-searched : (r : Row) (k : ℕ) (w v : List ℕ) {d : Decided} → searched k ≡ true → numberOf (d .answer) ≡ k → v ≡ zeroed (cellsFor r) w
+      → d ≡ decided (stateIn p) (length w) r → Decides (stateIn p) r w v d
+  has-searched r k w v e n is a = record { answer = a; work = is ∙ sym (row-zeroed _ r w (ap searched n ∙ e)) }
 
   -- a plan was found
   pub plans : (n : ℕ) → n ≡ 0 → (r : Run) → r ≡ runOf (planEntries (stateIn p .tables)) → (v w k : ℕ)

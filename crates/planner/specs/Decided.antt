@@ -2,13 +2,16 @@
 -- It stands for "An accepted change prints `ok`. A plan prints .. An allowed check prints `yes` and the same load lines." of paper 01.
 -- Assumes nothing.
 use Prim.Native.Nat.{ℕ}
-use mathlib.Core.List.{[]}
+use mathlib.Core.Path.{_≡_}
+use mathlib.Core.List.{List, []}
+use lib.ListN.{length}
 use Rattle.lines.specs.declared.answer.Answer.{Answer}
+use Rattle.lines.specs.Answers.{numberOf}
 use Rattle.calls.specs.State.{State, storedState}
 use Rattle.calls.specs.Rows.{Row, causesOf}
 use Rattle.calls.specs.Causes.{lowest}
 use Rattle.calls.specs.Effects.{stateBy}
-use Rattle.calls.specs.Printing.{shownBy}
+use Rattle.calls.specs.Printing.{shownBy, workAfter}
 use Rattle.engine.specs.Shown.{runOf}
 use Rattle.planner.specs.declared.Planner.{Planner}
 use Rattle.planner.specs.declared.search.Decided.{Decided}
@@ -26,3 +29,8 @@ decidedBy s n r =
 -- of a row, where there is room for the answer: rows 2 to 10 of "Causes and numbers"
 abbrev pub decided : State → (cells : ℕ) → Row → Decided
 decided s m r = decidedBy s (lowest (causesOf m r)) r
+
+-- a row was answered so, and the work before it became the work after it
+pub record Decides (s : State) (r : Row) (before after : List ℕ) (d : Decided) : Type 0 where
+  pub answer : d ≡ decided s (length before) r
+  pub work : after ≡ workAfter (numberOf (d .answer)) r before

@@ -12,15 +12,12 @@ use tables::refusal::TOO_LONG;
 use tables::refusal::UNUSABLE;
 ghost use mathlib.Core.Path.{_≡_};
 ghost use mathlib.Core.Bool.{true};
-ghost use lib.ListN.{length};
-ghost use Rattle.lines.specs.Answers.{numberOf};
 ghost use Rattle.tables.specs.Limits.{maxLoads};
 ghost use Rattle.calls.specs.State.{keeps, Kept};
 ghost use Rattle.calls.specs.Rows.{row, lineRow, bytesOf};
-ghost use Rattle.calls.specs.Printing.{workAfter};
 ghost use Rattle.calls.specs.Calls.{called};
 ghost use Rattle.planner.specs.Planner.{held, stateIn};
-ghost use Rattle.planner.specs.Decided.{unshown, decided};
+ghost use Rattle.planner.specs.Decided.{unshown, Decides};
 ghost use Rattle.planner.specs.Calls.{callOf, doneOf, turnedAway};
 
 // "1,024 bytes must be free from there."
@@ -46,8 +43,7 @@ impl Planner {
     // What a command answers.
     fn decide(self, c: Command, work: &mut [u32]) -> Decided
         requires { ⌜ Kept maxLoads (held self) ⌝ }
-        ensures answer { λ r. ⌜ r ≡ decided (stateIn self) (length (now (work .entry))) (row (stateIn self) c) ⌝ }
-        ensures cells { λ r. ⌜ now (work .exit) ≡ workAfter (numberOf (r .answer)) (row (stateIn self) c) (now (work .entry)) ⌝ }
+        ensures { λ r. ⌜ Decides (stateIn self) (row (stateIn self) c) (now (work .entry)) (now (work .exit)) r ⌝ }
     {
         match c {
             Command::Change { change } => changed(self.change(change)),
@@ -60,8 +56,7 @@ impl Planner {
     // What a line is answered, where there is room for the answer.
     fn decide_line(self, line: &[u8], work: &mut [u32]) -> Decided
         requires { ⌜ Kept maxLoads (held self) ⌝ }
-        ensures answer { λ r. ⌜ r ≡ decided (stateIn self) (length (now (work .entry))) (lineRow (stateIn self) (now (line .entry))) ⌝ }
-        ensures cells { λ r. ⌜ now (work .exit) ≡ workAfter (numberOf (r .answer)) (lineRow (stateIn self) (now (line .entry))) (now (work .entry)) ⌝ }
+        ensures { λ r. ⌜ Decides (stateIn self) (lineRow (stateIn self) (now (line .entry))) (now (work .entry)) (now (work .exit)) r ⌝ }
     {
         if too_long(line) {
             return self.refused(TOO_LONG);

@@ -14,17 +14,14 @@ use tables::refusal::OUT_OF_RANGE;
 use tables::refusal::TOO_FEW_CELLS;
 use tables::tables::StoredTables;
 ghost use mathlib.Core.Path.{_≡_};
-ghost use lib.ListN.{length};
 ghost use Rattle.lines.specs.declared.Command.the-variants as line;
 ghost use Rattle.tables.specs.Limits.{maxLoads};
 ghost use Rattle.tables.specs.Stored.{tablesOf, Holds};
 ghost use Rattle.meaning.specs.Cells.{cellsOf};
-ghost use Rattle.lines.specs.Answers.{numberOf};
 ghost use Rattle.calls.specs.State.{Kept};
 ghost use Rattle.calls.specs.Rows.{row};
-ghost use Rattle.calls.specs.Printing.{workAfter};
 ghost use Rattle.planner.specs.Planner.{held, stateIn};
-ghost use Rattle.planner.specs.Decided.{unshown, decided};
+ghost use Rattle.planner.specs.Decided.{unshown, decided, Decides};
 
 // The answer to a line, the run that it shows, and the next planner. Where no run is shown, it is empty.
 pub struct Decided {
@@ -61,8 +58,7 @@ impl Planner {
 
     pub(crate) fn plan(self, work: &mut [u32]) -> Decided
         requires { ⌜ Kept maxLoads (held self) ⌝ }
-        ensures answer { λ r. ⌜ r ≡ decided (stateIn self) (length (now (work .entry))) (row (stateIn self) line.Plan) ⌝ }
-        ensures cells { λ r. ⌜ now (work .exit) ≡ workAfter (numberOf (r .answer)) (row (stateIn self) line.Plan) (now (work .entry)) ⌝ }
+        ensures { λ r. ⌜ Decides (stateIn self) (row (stateIn self) line.Plan) (now (work .entry)) (now (work .exit)) r ⌝ }
     {
         let tables = self.tables;
         if tables.loads.count == 0 {

@@ -68,7 +68,7 @@ write-answer-requires c κs =
     let e = k .before .before .before .before .before in
     let s = e .args .self in (
       few s (kept k),
-      omega (arith, text-few s (kept k) (made e) (d .decide-line .result) (d .decide-line .ensures .0), free-length (e .args .place) (e .args .out .now), free f),
+      omega (arith, text-few s (kept k) (made e) (d .decide-line .result) (d .decide-line .ensures .answer), free-length (e .args .place) (e .args .out .now), free f),
     )
 
 returns-4 : tie.Need-returns-4
@@ -79,8 +79,8 @@ returns-4 c =
     let f = d .before .before in
     let k = f .before .before .before in
     let e = k .before .before .before .before .before in
-    written (e .args .self) (kept k) (made e) (d .decide-line .result) (d .decide-line .ensures .0) (free f)
-    _ _ _ _ (c .number .ensures) (w .write-answer .ensures) (d .decide-line .ensures .1)
+    written (e .args .self) (kept k) (made e) (d .decide-line .result) (d .decide-line .ensures .answer) (free f)
+    _ _ _ _ (c .number .ensures) (w .write-answer .ensures) (d .decide-line .ensures .work)
 
 pub call-spec : {M : Type 1} → statement M
 call-spec =

@@ -1,15 +1,14 @@
 -- `Planner::decide` meets its contract: a case for each sort of command. Assumes nothing.
-use mathlib.Core.Path.{refl, sym}
+use mathlib.Core.Path.{refl}
 use borrow.Author.Needs.{needs}
 use lib.Dec.{lit<}
 use Rattle.tables.specs.Refusals as no
 use Rattle.lines.specs.declared.Command.the-variants.{Broken}
 use Rattle.calls.specs.Rows.{row}
 use Rattle.calls.specs.Causes.{lowest}
-use Rattle.calls.proofs.Work.{no-cells}
 use Rattle.planner.specs.Planner.{stateIn}
-use Rattle.planner.proofs.Searching.{refuses}
-use Rattle.planner.proofs.Deciding.{change-done}
+use Rattle.planner.proofs.Searching.{turns-down}
+use Rattle.planner.proofs.Deciding.{works-in-none, change-done}
 use Rattle.planner.proofs.Planner.decide.Statement.{statement}
 use Rattle.planner.proofs.Planner.decide.Tie as tie
 
@@ -25,13 +24,14 @@ returns-2 x = let p = x .before .before in rw (p .before .before .enum-told .giv
 
 returns-3 : tie.Need-returns-3
 unfolding row
-returns-3 x = rw (x .before .before .c2 .given .1) (x .check .ensures, sym (no-cells _ _ _ refl))
+returns-3 x = rw (x .before .before .c2 .given .1) (works-in-none _ _ _ refl (x .check .ensures))
 
 returns-4 : tie.Need-returns-4
 unfolding row lowest
 returns-4 x =
     let e = x .before .before .before .before in
-    rw (x .before .enum-told2 .given .1) (refuses (e .args .self) (e .pre) (row (stateIn (e .args .self)) Broken) _ no.broken (lit< tt) (x .refused .ensures) refl, sym (no-cells _ _ _ refl))
+    let p = e .args .self in
+    rw (x .before .enum-told2 .given .1) (turns-down p (e .pre) (row (stateIn p) Broken) no.broken (e .args .work .now) (lit< tt) refl (x .refused .ensures) refl)
 
 pub decide-spec : {M : Type 1} → statement M
 decide-spec =

@@ -1,6 +1,5 @@
 -- `Planner::plan` meets its contract. Assumes nothing.
 use Prim.Native.Nat.{ℕ, _≤_}
-use mathlib.Core.Bool.{true}
 use mathlib.Core.List.{List, _++_}
 use mathlib.Core.Path.{_≡_, refl, sym, ap, _∙_}
 use native.Mathlib.Omega.{arith}
@@ -15,23 +14,25 @@ use Rattle.tables.specs.Stored.{tablesOf}
 use Rattle.meaning.specs.Best.{bestPlan}
 use Rattle.meaning.specs.Choice.{planEntries}
 use Rattle.meaning.specs.Cells.{cellsOf}
-use Rattle.calls.specs.Rows.{row}
-use Rattle.calls.specs.Printing.{searched, zeroed, workAfter}
+use Rattle.calls.specs.Rows.{Row, row, cellsFor}
+use Rattle.calls.specs.Printing.{zeroed}
 use Rattle.calls.proofs.Answers.{positive}
-use Rattle.calls.proofs.Work.{unsearched, row-zeroed}
 use Rattle.engine.specs.declared.figures.Figures.{Figures}
 use Rattle.planner.specs.declared.Planner.{Planner}
 use Rattle.planner.specs.declared.search.Decided.{Decided}
 use Rattle.planner.specs.Planner.{stateIn}
 use Rattle.planner.proofs.Commands.{load-count, few}
-use Rattle.planner.proofs.Searching.{none-found, some-found, plan-no-loads, plan-too-few, plan-none-fits, plan-accepted, kept, refuses, plans}
+use Rattle.planner.proofs.Searching.{none-found, some-found, plan-no-loads, plan-too-few, plan-none-fits, plan-accepted, kept, refuses, turns-down, has-searched, plans}
 use Rattle.planner.proofs.Planner.plan.Statement.{statement}
 use Rattle.planner.proofs.Planner.plan.Tie as tie
 
--- the cells after a search
-cleared : (p : Planner) (n : ℕ) (w v : List ℕ) → searched n ≡ true → v ≡ replicate (cellsOf (tablesOf (p .tables))) 0 ++ drop (cellsOf (tablesOf (p .tables))) w → v ≡ workAfter n (row (stateIn p) Plan) w
+-- the row of a plan, and the cells after it
+abbrev planRow : Planner → Row
+planRow p = row (stateIn p) Plan
+
+cleared : (p : Planner) (w v : List ℕ) → v ≡ replicate (cellsOf (tablesOf (p .tables))) 0 ++ drop (cellsOf (tablesOf (p .tables))) w → v ≡ zeroed (cellsFor (planRow p)) w
 unfolding zeroed row
-cleared p n w v e is = is ∙ sym (row-zeroed n (row (stateIn p) Plan) w e)
+cleared p w v is = is
 
 -- there are loads, and enough cells
 some-loads : (c : tie.Else1) → length (tablesOf (c .before .before .before .before .args .self .tables) .loads) ≡ 0 → ⊥
@@ -43,17 +44,17 @@ enough c = omega (arith, c .if2 .left, c .before .cells-of .ensures)
 returns : tie.Need-returns
 returns c =
     let e = c .before .before .before .before .before in
-    let s = e .args .self .tables in
-    let r = c .refused .ensures in
-    (refuses (e .args .self) (e .pre) (row (stateIn (e .args .self)) Plan) _ no.noLoads (lit< tt) r (plan-no-loads (stateIn (e .args .self)) (length (e .args .work .now)) (sym (load-count (e .args .self) (e .pre)) ∙ c .before .if1 .taken)), sym (unsearched _ (row (stateIn (e .args .self)) Plan) (e .args .work .now) (ap (λ (d : Decided). searched (numberOf (d .answer))) r)))
+    let p = e .args .self in
+    turns-down p (e .pre) (planRow p) no.noLoads (e .args .work .now) (lit< tt) refl (c .refused .ensures)
+    (plan-no-loads (stateIn p) (length (e .args .work .now)) (sym (load-count p (e .pre)) ∙ c .before .if1 .taken))
 
 returns-2 : tie.Need-returns-2
 returns-2 c =
     let k = c .before .before .before in
     let e = k .before .before .before .before in
-    let s = e .args .self .tables in
-    let r = c .refused2 .ensures in
-    (refuses (e .args .self) (e .pre) (row (stateIn (e .args .self)) Plan) _ no.tooFewCells (lit< tt) r (plan-too-few (stateIn (e .args .self)) (length (e .args .work .now)) (some-loads k) (omega (arith, c .before .if2 .taken, c .before .before .cells-of .ensures))), sym (unsearched _ (row (stateIn (e .args .self)) Plan) (e .args .work .now) (ap (λ (d : Decided). searched (numberOf (d .answer))) r)))
+    let p = e .args .self in
+    turns-down p (e .pre) (planRow p) no.tooFewCells (e .args .work .now) (lit< tt) refl (c .refused2 .ensures)
+    (plan-too-few (stateIn p) (length (e .args .work .now)) (some-loads k) (omega (arith, c .before .if2 .taken, c .before .before .cells-of .ensures)))
 
 plan-requires : tie.Need-plan-requires
 plan-requires c κs =
@@ -68,10 +69,12 @@ returns-3 c =
     let f = o .before .before in
     let k = f .before .before in
     let e = k .before .before .before .before in
-    let s = e .args .self .tables in
-    let r = c .refused3 .ensures in
-    let none = none-found (bestPlan (tablesOf s)) (planEntries (tablesOf s)) (o .plan .ensures .0) (not-true _ (c .before .if3 .taken)) in
-    (refuses (e .args .self) (e .pre) (row (stateIn (e .args .self)) Plan) _ no.noneFits (lit< tt) r (plan-none-fits (stateIn (e .args .self)) (length (e .args .work .now)) (some-loads k) (enough f) none), cleared (e .args .self) _ (e .args .work .now) _ (ap (λ (d : Decided). searched (numberOf (d .answer))) r) (o .plan .ensures .1))
+    let p = e .args .self in
+    let t = tablesOf (p .tables) in
+    let none = none-found (bestPlan t) (planEntries t) (o .plan .ensures .0) (not-true _ (c .before .if3 .taken)) in
+    has-searched p (e .pre) (planRow p) no.noneFits (e .args .work .now) _ refl (ap (λ (d : Decided). numberOf (d .answer)) (c .refused3 .ensures))
+    (cleared p (e .args .work .now) _ (o .plan .ensures .1))
+    (refuses p (e .pre) (planRow p) _ no.noneFits (lit< tt) (c .refused3 .ensures) (plan-none-fits (stateIn p) (length (e .args .work .now)) (some-loads k) (enough f) none))
 
 figures-of-requires : tie.Need-figures-of-requires
 figures-of-requires c κs =
@@ -85,9 +88,12 @@ returns-4 c =
     let f = o .before .before in
     let k = f .before .before in
     let e = k .before .before .before .before in
-    let s = e .args .self .tables in
-    let found = some-found (bestPlan (tablesOf s)) (planEntries (tablesOf s)) (o .plan .ensures .0) (not-false _ (w .before .before .before .if3 .left)) in
-    (plans (e .args .self) (e .pre) _ (plan-accepted (stateIn (e .args .self)) (length (e .args .work .now)) (some-loads k) (enough f) (found .0)) _ (found .1) _ _ _ (ap (λ (x : Figures). x .worth) (w .figures-of .ensures)) (ap (λ (x : Figures). x .power) (w .figures-of .ensures)) (c .count .ensures), cleared (e .args .self) 0 (e .args .work .now) _ refl (o .plan .ensures .1))
+    let p = e .args .self in
+    let t = tablesOf (p .tables) in
+    let found = some-found (bestPlan t) (planEntries t) (o .plan .ensures .0) (not-false _ (w .before .before .before .if3 .left)) in
+    has-searched p (e .pre) (planRow p) 0 (e .args .work .now) _ refl refl (cleared p (e .args .work .now) _ (o .plan .ensures .1))
+    (plans p (e .pre) _ (plan-accepted (stateIn p) (length (e .args .work .now)) (some-loads k) (enough f) (found .0)) _ (found .1)
+    _ _ _ (ap (λ (x : Figures). x .worth) (w .figures-of .ensures)) (ap (λ (x : Figures). x .power) (w .figures-of .ensures)) (c .count .ensures))
 
 pub plan-spec : {M : Type 1} → statement M
 plan-spec =
