@@ -13,9 +13,10 @@ use Rattle.lists.specs.Argmax.{guard}
 use Rattle.lists.proofs.Bools.{and-left, and-right}
 use Rattle.lines.specs.Answers.{freeBytes, AllRanged}
 use Rattle.lines.proofs.Answers.{plan-fits, check-fits}
+use Rattle.tables.specs.declared.load.Figure.the-variants as figure
 use Rattle.tables.specs.declared.load.Load.{Load}
 use Rattle.tables.specs.Tables.{Tables}
-use Rattle.tables.specs.Limits.{powerIn, worthIn, parentIn, loadIn, mostPlaces, Limits}
+use Rattle.tables.specs.Limits.{figureIn, parentIn, loadIn, mostPlaces, Limits}
 use Rattle.tables.proofs.Parts.{limits-parts}
 use Rattle.meaning.specs.Forest.{sum}
 use Rattle.meaning.specs.Sets.{counted, power, worth, numberOn}
@@ -62,7 +63,7 @@ counted-most (suc m) x b h = h
 
 worth-most : (l : Load) (k : ℕ) → loadIn k l ≡ true → l .worth ≤ 1000
 unfolding loadIn
-worth-most l k h = leb-true (l .worth) 1000 (and-right (parentIn k (l .parent) && powerIn (l .power)) (worthIn (l .worth)) h)
+worth-most l k h = leb-true (l .worth) 1000 (and-right (parentIn k (l .parent) && figureIn figure.Power (l .power)) (figureIn figure.Worth (l .worth)) h)
 
 one-most : (b : Bool) → guard b 1 ≤ 1
 one-most true = lit≤ tt

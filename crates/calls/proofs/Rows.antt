@@ -17,19 +17,23 @@ use Rattle.lines.specs.declared.Command.the-variants as line
 use Rattle.lines.specs.Length.{tooLong}
 use Rattle.lines.specs.Grammar.{parse}
 use Rattle.lines.specs.Answers.{freeBytes, AllRanged, numberOf, textOf}
+use Rattle.tables.specs.declared.rule.Sort.{Sort}
+use Rattle.tables.specs.declared.rule.Sort.the-variants as sort
+use Rattle.tables.specs.declared.load.Figure.{Figure}
+use Rattle.tables.specs.declared.load.Figure.the-variants as figure
 use Rattle.tables.specs.declared.rule.Transition.{Transition}
 use Rattle.tables.specs.Refusals as no
-use Rattle.tables.specs.Tables.{Tables}
-use Rattle.tables.specs.Limits.{between, bookSize, sameRule, maxRules, loadIn, powerIn, worthIn, budgetIn, Limits}
+use Rattle.tables.specs.Tables.{Tables, sizeFor, rulesFor}
+use Rattle.tables.specs.Limits.{between, bookSize, sameRule, maxRules, loadIn, figureIn, budgetIn, Limits}
 use Rattle.tables.proofs.Parts.{limits-parts}
-use Rattle.tables.proofs.Keeps.{fresh-limits, new-book-keeps, mark-start-keeps, mark-end-keeps, add-load-rule-keeps, add-row-rule-keeps, add-load-keeps, set-power-keeps, set-worth-keeps, set-budget-keeps}
+use Rattle.tables.proofs.Keeps.{fresh-limits, new-book-keeps, mark-keeps, add-rule-keeps, add-load-keeps, set-figure-keeps, set-budget-keeps}
 use Rattle.meaning.specs.Best.{bestPlan, bestCheck}
 use Rattle.tables.specs.declared.entry.Entry.{Entry}
 use Rattle.meaning.specs.Claims.{EachLoad}
 use Rattle.meaning.specs.Cells.{cellsOf}
 use Rattle.meaning.proofs.Claims.{claims}
 use Rattle.calls.specs.State.{State, Within}
-use Rattle.calls.specs.Rows.{Changing, Shown, shownText, Row, changes, shows, rule, load, isLoad, noneFits, notAllowed, ruleCauses, changing, refuses, row, lineRow, bytesOf, mostBytes, causesOf, effectOf, shownOf}
+use Rattle.calls.specs.Rows.{Changing, Shown, shownText, Row, changes, shows, rule, load, isLoad, noneFits, notAllowed, marking, ruleCauses, adding, setting, changing, refuses, row, lineRow, bytesOf, mostBytes, causesOf, effectOf, shownOf}
 use Rattle.calls.specs.Causes.{lowest}
 use Rattle.calls.proofs.Numbers.{passed, passed-not, Ascending}
 use Rattle.calls.proofs.Answers.{positive}
@@ -50,23 +54,32 @@ new-rule b r rs e =
     let q = passed no.full (leb maxRules (length rs)) _ (lit< tt) (p .1) in
     (p .0, leb-false maxRules (length rs) (q .0), passed no.sameRule (some (sameRule r) rs) [] (lit< tt) (q .1) .0)
 
+mark-sound : (t : Tables) (k : Sort) (q : ℕ) → Sound t (marking t k q)
+mark-sound t k q = is-sound (lit≤ tt, lit≤ tt) (λ h e. mark-keeps t h k q (passed-not no.outOfRange (between 1 (sizeFor (t .book) k) q) [] (lit< tt) e .0))
+
+add-sound : (t : Tables) (k : Sort) (r : Transition) → Sound t (adding t k r)
+add-sound t k r =
+    is-sound (lit≤ tt, (lit≤ tt, (lit≤ tt, lit≤ tt))) (λ h e. let p = new-rule _ r (rulesFor (t .book) k) e in add-rule-keeps t h k r (p .0) (p .1) (p .2))
+
+set-sound : (t : Tables) (f : Figure) (k x : ℕ) → Sound t (setting t f k x)
+set-sound t f k x =
+    is-sound (lit≤ tt, lit≤ tt) (λ h e. set-figure-keeps t h f k x (and-right (isLoad t k) (figureIn f x) (passed-not no.outOfRange (isLoad t k && figureIn f x) [] (lit< tt) e .0)))
+
 sound : (t : Tables) (c : Change) → Sound t (changing t c)
 unfolding changing
 sound t to.Clear = is-sound (lit≤ tt) (λ h e. fresh-limits (t .places) (limits-parts t h .places))
 sound t (to.Book s g) = is-sound (lit≤ tt, lit≤ tt) (λ h e. new-book-keeps t h s g (passed-not no.outOfRange (bookSize s g) [] (lit< tt) e .0))
-sound t (to.Start q) = is-sound (lit≤ tt, lit≤ tt) (λ h e. mark-start-keeps t h q (passed-not no.outOfRange (between 1 (t .book .states) q) [] (lit< tt) e .0))
-sound t (to.End g) = is-sound (lit≤ tt, lit≤ tt) (λ h e. mark-end-keeps t h g (passed-not no.outOfRange (between 1 (t .book .stages) g) [] (lit< tt) e .0))
-sound t (to.Rule q m g) =
-    is-sound (lit≤ tt, (lit≤ tt, (lit≤ tt, lit≤ tt))) (λ h e. let p = new-rule _ (rule q m g) (t .book .loadRules) e in add-load-rule-keeps t h (rule q m g) (p .0) (p .1) (p .2))
-sound t (to.Row g q k) =
-    is-sound (lit≤ tt, (lit≤ tt, (lit≤ tt, lit≤ tt))) (λ h e. let p = new-rule _ (rule g q k) (t .book .rowRules) e in add-row-rule-keeps t h (rule g q k) (p .0) (p .1) (p .2))
+sound t (to.Start q) = mark-sound t sort.Load q
+sound t (to.End g) = mark-sound t sort.Row g
+sound t (to.Rule q m g) = add-sound t sort.Load (rule q m g)
+sound t (to.Row g q h) = add-sound t sort.Row (rule g q h)
 sound t (to.Load p w v) =
     is-sound (lit≤ tt, (lit≤ tt, lit≤ tt)) (λ h e.
     let a = passed-not no.outOfRange (loadIn (suc (length (t .loads))) (load p w v)) _ (lit< tt) e in
     let b = passed no.full (leb (t .places) (length (t .loads))) [] (lit< tt) (a .1) in
     add-load-keeps t h (load p w v) (a .0) (leb-false (t .places) (length (t .loads)) (b .0)))
-sound t (to.Power k w) = is-sound (lit≤ tt, lit≤ tt) (λ h e. set-power-keeps t h k w (and-right (isLoad t k) (powerIn w) (passed-not no.outOfRange (isLoad t k && powerIn w) [] (lit< tt) e .0)))
-sound t (to.Worth k v) = is-sound (lit≤ tt, lit≤ tt) (λ h e. set-worth-keeps t h k v (and-right (isLoad t k) (worthIn v) (passed-not no.outOfRange (isLoad t k && worthIn v) [] (lit< tt) e .0)))
+sound t (to.Power k w) = set-sound t figure.Power k w
+sound t (to.Worth k v) = set-sound t figure.Worth k v
 sound t (to.Budget w) = is-sound (lit≤ tt, lit≤ tt) (λ h e. set-budget-keeps t h w (passed-not no.outOfRange (budgetIn w) [] (lit< tt) e .0))
 
 -- ---- rows

@@ -18,12 +18,16 @@ use Rattle.lines.specs.Length.{tooLong}
 use Rattle.lines.specs.Grammar.{parse}
 use Rattle.lines.specs.Answers.{freeBytes, textOf}
 use Rattle.tables.specs.declared.rule.Transition.{Transition}
+use Rattle.tables.specs.declared.rule.Sort.{Sort}
+use Rattle.tables.specs.declared.rule.Sort.the-variants as sort
+use Rattle.tables.specs.declared.load.Figure.{Figure}
+use Rattle.tables.specs.declared.load.Figure.the-variants as figure
 use Rattle.tables.specs.declared.load.Load.{Load}
 use Rattle.tables.specs.Refusals as no
 use Rattle.tables.specs.Tables as on-paper
-use Rattle.tables.specs.Tables.{Tables}
-use Rattle.tables.specs.Limits.{between, bookSize, ruleIn, loadRuleRange, rowRuleRange, sameRule, maxRules, loadIn, powerIn, worthIn, budgetIn}
-use Rattle.tables.specs.Changes.{newBook, markStart, markEnd, addLoadRule, addRowRule, addLoad, setPower, setWorth, setBudget}
+use Rattle.tables.specs.Tables.{Tables, sizeFor, rulesFor}
+use Rattle.tables.specs.Limits.{between, bookSize, ruleIn, rangeFor, sameRule, maxRules, loadIn, figureIn, budgetIn}
+use Rattle.tables.specs.Changes.{newBook, mark, addRule, addLoad, setFigure, setBudget}
 use Rattle.meaning.specs.Sets.{power, worth, numberOn}
 use Rattle.meaning.specs.Best.{bestPlan, bestCheck}
 use Rattle.tables.specs.declared.entry.Entry.{Entry}
@@ -98,23 +102,32 @@ notAllowed t σ = eqb (bestCheck t σ) 0
 abbrev pub unless : List Cause → Tables → Changing
 unless cs u = record { causes = cs; after = u }
 
--- a rule of either sort
-abbrev pub ruleCauses : Bool → Transition → List Transition → List Cause
+-- a state is marked, or a stage
+abbrev pub marking : Tables → Sort → (number : ℕ) → Changing
+marking t k q = unless ((no.outOfRange if not (between 1 (sizeFor (t .book) k) q)) ∷ []) (mark t k q)
+
+-- a rule of either sort is added
+abbrev pub ruleCauses : (fits : Bool) → Transition → List Transition → List Cause
 ruleCauses fits r rs = (no.outOfRange if not fits) ∷ (no.full if leb maxRules (length rs)) ∷ (no.sameRule if some (sameRule r) rs) ∷ []
+
+abbrev pub adding : Tables → Sort → Transition → Changing
+adding t k r = unless (ruleCauses (ruleIn (rangeFor (t .book) k) r) r (rulesFor (t .book) k)) (addRule t k r)
+
+-- a figure of a load is set
+abbrev pub setting : Tables → Figure → (number value : ℕ) → Changing
+setting t f k x = unless ((no.outOfRange if not (isLoad t k && figureIn f x)) ∷ []) (setFigure t f k x)
 
 unfoldable pub changing : Tables → Change → Changing
 changing t to.Clear = unless [] (on-paper.fresh (t .places))
 changing t (to.Book s g) = unless ((no.outOfRange if not (bookSize s g)) ∷ []) (newBook t s g)
-changing t (to.Start q) = unless ((no.outOfRange if not (between 1 (t .book .states) q)) ∷ []) (markStart t q)
-changing t (to.End g) = unless ((no.outOfRange if not (between 1 (t .book .stages) g)) ∷ []) (markEnd t g)
-changing t (to.Rule q m g) =
-    unless (ruleCauses (ruleIn (loadRuleRange (t .book .states) (t .book .stages)) (rule q m g)) (rule q m g) (t .book .loadRules)) (addLoadRule t (rule q m g))
-changing t (to.Row g q h) =
-    unless (ruleCauses (ruleIn (rowRuleRange (t .book .states) (t .book .stages)) (rule g q h)) (rule g q h) (t .book .rowRules)) (addRowRule t (rule g q h))
+changing t (to.Start q) = marking t sort.Load q
+changing t (to.End g) = marking t sort.Row g
+changing t (to.Rule q m g) = adding t sort.Load (rule q m g)
+changing t (to.Row g q h) = adding t sort.Row (rule g q h)
 changing t (to.Load p w v) =
     unless ((no.outOfRange if not (loadIn (suc (length (t .loads))) (load p w v))) ∷ (no.full if leb (t .places) (length (t .loads))) ∷ []) (addLoad t (load p w v))
-changing t (to.Power k w) = unless ((no.outOfRange if not (isLoad t k && powerIn w)) ∷ []) (setPower t k w)
-changing t (to.Worth k v) = unless ((no.outOfRange if not (isLoad t k && worthIn v)) ∷ []) (setWorth t k v)
+changing t (to.Power k w) = setting t figure.Power k w
+changing t (to.Worth k v) = setting t figure.Worth k v
 changing t (to.Budget b) = unless ((no.outOfRange if not (budgetIn b)) ∷ []) (setBudget t b)
 
 -- a line that has this number whatever the state

@@ -16,11 +16,13 @@ use Rattle.marks.specs.declared.LoadSet.{LoadSet}
 use Rattle.tables.specs.declared.rule.RuleRange.{RuleRange}
 use Rattle.tables.specs.declared.rule.Transition.{Transition}
 use Rattle.tables.specs.declared.rule.TransitionList.{TransitionList}
+use Rattle.tables.specs.declared.rule.Sort.the-variants as sort
+use Rattle.tables.specs.declared.load.Figure.the-variants as figure
 use Rattle.tables.specs.declared.load.Load.{Load}
 use Rattle.tables.specs.declared.load.LoadList.{LoadList}
 use Rattle.tables.specs.declared.tables.StoredTables.{StoredTables}
 use Rattle.tables.specs.Tables.{noRule, noLoad}
-use Rattle.tables.specs.Limits.{between, maxStates, maxRules, maxLoads, maxWorth, maxBudget, sizeIn, bookSize, ruleIn, sameRule, loadRuleRange, rowRuleRange, rulesIn, parentIn, powerIn, worthIn, loadIn}
+use Rattle.tables.specs.Limits.{between, maxStates, maxRules, maxLoads, maxPower, maxWorth, maxBudget, sizeIn, bookSize, ruleIn, sameRule, ruleRange, rulesIn, parentIn, figureIn, loadIn}
 use Rattle.tables.specs.Stored.{rulesOf, loadsOf, bookOf, tablesOf, keepsLimits}
 use Rattle.tables.proofs.Parts.{limits-parts}
 use Rattle.tables.proofs.Kept.{kept}
@@ -62,12 +64,12 @@ fit : (k : ℕ) (l : Load) → loadIn k l ≡ true → Fit k l
 unfolding loadIn
 fit k l h =
     let p = parentIn k (l .parent) in
-    let w = and-left (p && powerIn (l .power)) (worthIn (l .worth)) h in
-    let b = leb-true (l .power) 500 (and-right p (powerIn (l .power)) w) in
+    let w = and-left (p && figureIn figure.Power (l .power)) (figureIn figure.Worth (l .worth)) h in
+    let b = leb-true (l .power) maxPower (and-right p (figureIn figure.Power (l .power)) w) in
     record {
-      parent = and-left p (powerIn (l .power)) w;
+      parent = and-left p (figureIn figure.Power (l .power)) w;
       power = omega arith;
-      worth = leb-true (l .worth) maxWorth (and-right (p && powerIn (l .power)) (worthIn (l .worth)) h);
+      worth = leb-true (l .worth) maxWorth (and-right (p && figureIn figure.Power (l .power)) (figureIn figure.Worth (l .worth)) h);
     }
 
 parent-low : (j p : ℕ) → parentIn (suc j) p ≡ true → p ≤ j
@@ -124,6 +126,6 @@ module _ (s : StoredTables) (h : keepsLimits s ≡ true) (er : length (s .book .
         sane = record { loads = omega (arith, k .loads, el); states = z .0; stages = z .1; budget = omega (arith, leb-true (s .budget) maxBudget (p .budget)) };
         staged = z .2;
         loads = loads-in (s .loads) el (p .loads);
-        rules = rules-in (loadRuleRange q g) (s .book .«load_rules») er (k .loadRules) (p .book .loadRules);
-        rows = rules-in (rowRuleRange q g) (s .book .«row_rules») ew (k .rowRules) (p .book .rowRules);
+        rules = rules-in (ruleRange q g sort.Load) (s .book .«load_rules») er (k .rules sort.Load) (p .book .rules sort.Load);
+        rows = rules-in (ruleRange q g sort.Row) (s .book .«row_rules») ew (k .rules sort.Row) (p .book .rules sort.Row);
       }

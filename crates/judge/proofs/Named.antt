@@ -10,6 +10,7 @@ use lib.ListN.{length}
 use Rattle.lists.specs.Tests.{pick}
 use Rattle.lists.proofs.Bools.{and-left, or-true}
 use Rattle.tables.specs.declared.rule.RuleRange.{RuleRange}
+use Rattle.tables.specs.declared.rule.Sort.the-variants as sort
 use Rattle.tables.specs.declared.rule.Transition.{Transition}
 use Rattle.tables.specs.declared.load.Load.{Load}
 use Rattle.tables.specs.Tables.{Book}
@@ -52,7 +53,7 @@ module _ (b : Book) (parts : BookParts b) (σ : ℕ → ℕ) (ρ : ℕ → Assig
       → (eqb k 1 && eqb (ρ k .rowRule) 0) || between 1 (length (b .rowRules)) (ρ k .rowRule) ≡ true → lacking b ρ k i ≡ 0
   unfolding lacking
   none-lacking k i below r h =
-      rw (begins-within _ (b .loadRules) (parts .loadRules) (ρ k .loadRule) (ρ k .state) (r .begins), begins-counted (b .loadRules) (ρ k .loadRule) (ρ k .state) (r .begins), h)
+      rw (begins-within _ (b .loadRules) (parts .rules sort.Load) (ρ k .loadRule) (ρ k .state) (r .begins), begins-counted (b .loadRules) (ρ k .loadRule) (ρ k .state) (r .begins), h)
 
   row-lacks-none : (f : Forest) (g : ℕ) → Run b σ ρ f g → total (lacking b ρ) f ≡ 0
   unfolding total

@@ -16,8 +16,9 @@ use Rattle.lists.proofs.Tests.{every-at}
 use Rattle.lists.proofs.Places.{limited-parts}
 use Rattle.tables.specs.declared.rule.Transition.{Transition}
 use Rattle.tables.specs.declared.rule.RuleRange.{RuleRange}
+use Rattle.tables.specs.declared.rule.Sort.the-variants as sort
 use Rattle.tables.specs.Tables.{Tables, noRule}
-use Rattle.tables.specs.Limits.{between, bookSize, sizeIn, ruleIn, loadRuleRange, rowRuleRange, sameRule, maxRules, Limits}
+use Rattle.tables.specs.Limits.{between, bookSize, sizeIn, ruleIn, rangeFor, sameRule, maxRules, Limits}
 use Rattle.tables.proofs.Parts.{limits-parts}
 use Rattle.meaning.specs.Runs.{ruleAt}
 use Rattle.meaning.proofs.Tree.{Lawful}
@@ -56,10 +57,10 @@ pub narrow : (t : Tables) → Limits t → Narrow (t .book)
 narrow t h =
     let b = t .book in
     let p = limits-parts t h .book in
-    let forLoads = loadRuleRange (b .states) (b .stages) in
-    let forRows = rowRuleRange (b .states) (b .stages) in
-    let lr = limited-parts (ruleIn forLoads) sameRule maxRules (b .loadRules) (p .loadRules) in
-    let rr = limited-parts (ruleIn forRows) sameRule maxRules (b .rowRules) (p .rowRules) in
+    let forLoads = rangeFor b sort.Load in
+    let forRows = rangeFor b sort.Row in
+    let lr = limited-parts (ruleIn forLoads) sameRule maxRules (b .loadRules) (p .rules sort.Load) in
+    let rr = limited-parts (ruleIn forRows) sameRule maxRules (b .rowRules) (p .rules sort.Row) in
     let few = states-most (b .states) (b .stages) (p .size) in
     record {
       marks = at-each (λ (r : Transition). r .label ≤ 1) zero-le (ruleIn forLoads) (label-most forLoads) (b .loadRules) (lr .inside);

@@ -9,13 +9,14 @@ use lib.Dec.{leb}
 use Rattle.lists.specs.Tests.{everyFrom}
 use Rattle.lists.proofs.Bools.{and-left, and-right}
 use Rattle.tables.specs.declared.load.Load.{Load}
-use Rattle.tables.specs.Limits.{parentIn, powerIn, worthIn, loadIn}
+use Rattle.tables.specs.declared.load.Figure.the-variants as figure
+use Rattle.tables.specs.Limits.{parentIn, figureIn, loadIn}
 use Rattle.meaning.specs.Forest.{Ordered, IsTree}
 
 parent-in : (k : ℕ) (l : Load) → loadIn k l ≡ true → parentIn k (l .parent) ≡ true
 unfolding loadIn
 parent-in k l h =
-    and-left (parentIn k (l .parent)) (powerIn (l .power)) (and-left (parentIn k (l .parent) && powerIn (l .power)) (worthIn (l .worth)) h)
+    and-left (parentIn k (l .parent)) (figureIn figure.Power (l .power)) (and-left (parentIn k (l .parent) && figureIn figure.Power (l .power)) (figureIn figure.Worth (l .worth)) h)
 
 ordered : (k : ℕ) (ls : List Load) → everyFrom loadIn (suc (suc k)) ls ≡ true → Ordered ls (suc (suc k))
 unfolding everyFrom

@@ -18,7 +18,7 @@ use Rattle.planner.specs.declared.changes.Changed.{Changed}
 use Rattle.planner.specs.declared.search.Decided.{Decided}
 use Rattle.planner.specs.Planner.{plannerOf}
 use Rattle.planner.specs.Answers.{entriesTo}
-use Rattle.planner.specs.Changes.{changedBy}
+use Rattle.planner.specs.Changes.{madeBy, changedBy}
 use Rattle.planner.specs.Decided.{unshown, decidedBy, decided, Decides}
 use Rattle.planner.proofs.RunLines.{shown-lines}
 
@@ -47,7 +47,7 @@ works-in-none s r w e is = record { answer = is; work = sym (no-cells _ r w e) }
 -- a change: it shows nothing but `ok`
 pub change-done : (s : State) (c : Change) (w : List ℕ) {x : Changed} {d : Decided} → x ≡ changedBy s c → d ≡ unshown (x .answer) (x .planner)
     → Decides s (changes (changing (s .tables) c)) w w d
-unfolding changedBy decidedBy
+unfolding madeBy decidedBy
 change-done s c w is-x is-d =
     works-in-none s (changes (changing (s .tables) c)) w refl
     (is-d ∙ ap (λ (x : Changed). unshown (x .answer) (x .planner)) is-x ∙ go (lowest (changing (s .tables) c .causes)))

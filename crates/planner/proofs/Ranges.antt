@@ -7,7 +7,8 @@ use borrow.Author.Tests.{eqb-true, leb-true}
 use lib.Dec.{leb}
 use Rattle.lists.proofs.Bools.{and-left, and-right}
 use Rattle.tables.specs.declared.rule.RuleRange.{RuleRange}
-use Rattle.tables.specs.Limits.{between, bookSize, ruleIn, parentIn, powerIn, worthIn, loadIn}
+use Rattle.tables.specs.declared.load.Figure.the-variants as figure
+use Rattle.tables.specs.Limits.{between, bookSize, ruleIn, parentIn, figureIn, loadIn}
 use Rattle.calls.specs.Rows.{rule, load}
 
 pub inside : (a b x : ℕ) → between a b x ≡ true → (a ≤ x) × (x ≤ b)
@@ -33,5 +34,5 @@ parent-below (suc (suc k)) p h = omega (arith, inside 1 (suc k) p h .1)
 pub load-inside : (k p w v : ℕ) → loadIn k (load p w v) ≡ true → (p ≤ k) × (w ≤ 500) × (v ≤ 1000)
 unfolding loadIn
 load-inside k p w v h =
-    let a = and-left (parentIn k p && powerIn w) (worthIn v) h in
-    (parent-below k p (and-left (parentIn k p) (powerIn w) a), leb-true w 500 (and-right (parentIn k p) (powerIn w) a), leb-true v 1000 (and-right (parentIn k p && powerIn w) (worthIn v) h))
+    let a = and-left (parentIn k p && figureIn figure.Power w) (figureIn figure.Worth v) h in
+    (parent-below k p (and-left (parentIn k p) (figureIn figure.Power w) a), leb-true w 500 (and-right (parentIn k p) (figureIn figure.Power w) a), leb-true v 1000 (and-right (parentIn k p && figureIn figure.Power w) (figureIn figure.Worth v) h))

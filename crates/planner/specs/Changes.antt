@@ -11,7 +11,7 @@ use Rattle.tables.specs.declared.load.Load.{Load}
 use Rattle.tables.specs.Tables.{noRule, noLoad}
 use Rattle.tables.specs.Limits.{ruleIn, loadIn}
 use Rattle.calls.specs.State.{State, storedState}
-use Rattle.calls.specs.Rows.{changes, changing}
+use Rattle.calls.specs.Rows.{Changing, changes, changing}
 use Rattle.calls.specs.Causes.{lowest}
 use Rattle.calls.specs.Effects.{stateBy}
 use Rattle.planner.specs.declared.Planner.{Planner}
@@ -31,9 +31,9 @@ namedLoad k l = let fits = loadIn k l in record { fits = fits; load = pick fits 
 abbrev pub settled : Planner → (number : ℕ) → StoredTables → Changed
 settled p n u = record { answer = answerOf n; planner = record { tables = u } }
 
--- (No change's number depends on the cells.)
-unfoldable pub changedBy : State → Change → Changed
-changedBy s c =
-    let x = changing (s .tables) c in
-    let n = lowest (x .causes) in
-    record { answer = answerOf n; planner = plannerOf (storedState (stateBy s n (changes x))) }
+-- what a change answers, and the planner after it. (No change's number depends on the cells.)
+unfoldable pub madeBy : State → Changing → Changed
+madeBy s x = let n = lowest (x .causes) in record { answer = answerOf n; planner = plannerOf (storedState (stateBy s n (changes x))) }
+
+abbrev pub changedBy : State → Change → Changed
+changedBy s c = madeBy s (changing (s .tables) c)

@@ -4,10 +4,13 @@ use lines::Change;
 use lines::answer::Answer;
 use tables::limits::MAX_BUDGET;
 use tables::limits::MAX_STATES;
+use tables::load::Figure;
 use tables::load::Load;
 use tables::load::MAX_POWER;
 use tables::load::MAX_WORTH;
+use tables::refusal::OUT_OF_RANGE;
 use tables::rule::RuleRange;
+use tables::rule::Sort;
 use tables::rule::Transition;
 use tables::tables::StoredTables;
 ghost use mathlib.Core.Path.{_≡_};
@@ -15,12 +18,9 @@ ghost use Rattle.lines.specs.declared.Change.the-variants as to;
 ghost use Prim.Native.Nat.{_+_, _≤_};
 ghost use Rattle.tables.specs.Limits.{between, maxLoads};
 ghost use Rattle.calls.specs.State.{Kept};
-ghost use Rattle.calls.specs.Rows.{rule, load};
+ghost use Rattle.calls.specs.Rows.{rule, load, marking, adding, setting};
 ghost use Rattle.planner.specs.Planner.{held, stateIn};
-ghost use Rattle.planner.specs.Changes.{namedRule, namedLoad, settled, changedBy};
-
-// The number of "value out of its range".
-const OUT_OF_RANGE: u8 = 5;
+ghost use Rattle.planner.specs.Changes.{namedRule, namedLoad, settled, madeBy, changedBy};
 
 // The answer to a change, and the next planner.
 pub struct Changed {
@@ -122,49 +122,28 @@ impl Planner {
         self.settled(0, self.tables.new_book(states as u8, stages as u8))
     }
 
-    fn start(self, state: u32) -> Changed
+    // A state is marked as a start state, or a stage as an end stage.
+    fn mark(self, sort: Sort, number: u32) -> Changed
         requires { ⌜ Kept maxLoads (held self) ⌝ }
-        ensures { λ r. ⌜ r ≡ changedBy (stateIn self) (to.Start state) ⌝ }
+        ensures { λ r. ⌜ r ≡ madeBy (stateIn self) (marking (stateIn self .tables) sort number) ⌝ }
     {
-        if !between(1, self.tables.book.states as usize, state as usize) {
+        let size = self.tables.book.size(sort);
+        if !between(1, size as usize, number as usize) {
             return self.settled(OUT_OF_RANGE, self.tables);
         }
-        self.settled(0, self.tables.mark_start(state as usize))
+        self.settled(0, self.tables.mark(sort, number as usize))
     }
 
-    fn end(self, stage: u32) -> Changed
+    fn add_rule(self, sort: Sort, from: u32, label: u32, to: u32) -> Changed
         requires { ⌜ Kept maxLoads (held self) ⌝ }
-        ensures { λ r. ⌜ r ≡ changedBy (stateIn self) (to.End stage) ⌝ }
+        ensures { λ r. ⌜ r ≡ madeBy (stateIn self) (adding (stateIn self .tables) sort (rule from label to)) ⌝ }
     {
-        if !between(1, self.tables.book.stages as usize, stage as usize) {
-            return self.settled(OUT_OF_RANGE, self.tables);
-        }
-        self.settled(0, self.tables.mark_end(stage as usize))
-    }
-
-    fn rule(self, state: u32, mark: u32, stage: u32) -> Changed
-        requires { ⌜ Kept maxLoads (held self) ⌝ }
-        ensures { λ r. ⌜ r ≡ changedBy (stateIn self) (to.Rule state mark stage) ⌝ }
-    {
-        let range = RuleRange::of_load_rules(self.tables.book.states, self.tables.book.stages);
-        let named = named_rule(range, state, mark, stage);
+        let range = RuleRange::of(sort, self.tables.book.states, self.tables.book.stages);
+        let named = named_rule(range, from, label, to);
         if !named.fits {
             return self.settled(OUT_OF_RANGE, self.tables);
         }
-        let done = self.tables.add_load_rule(named.rule);
-        self.settled(done.number, done.tables)
-    }
-
-    fn row(self, stage: u32, state: u32, next: u32) -> Changed
-        requires { ⌜ Kept maxLoads (held self) ⌝ }
-        ensures { λ r. ⌜ r ≡ changedBy (stateIn self) (to.Row stage state next) ⌝ }
-    {
-        let range = RuleRange::of_row_rules(self.tables.book.states, self.tables.book.stages);
-        let named = named_rule(range, stage, state, next);
-        if !named.fits {
-            return self.settled(OUT_OF_RANGE, self.tables);
-        }
-        let done = self.tables.add_row_rule(named.rule);
+        let done = self.tables.add_rule(sort, named.rule);
         self.settled(done.number, done.tables)
     }
 
@@ -180,26 +159,19 @@ impl Planner {
         self.settled(done.number, done.tables)
     }
 
-    fn power(self, number: u32, watts: u32) -> Changed
+    fn set_figure(self, figure: Figure, number: u32, value: u32) -> Changed
         requires { ⌜ Kept maxLoads (held self) ⌝ }
-        ensures { λ r. ⌜ r ≡ changedBy (stateIn self) (to.Power number watts) ⌝ }
+        ensures { λ r. ⌜ r ≡ madeBy (stateIn self) (setting (stateIn self .tables) figure number value) ⌝ }
     {
         let there = between(1, self.tables.loads.count, number as usize);
-        if !(there & (watts <= (MAX_POWER as u32))) {
+        if !(there & (value <= (figure.most() as u32))) {
             return self.settled(OUT_OF_RANGE, self.tables);
         }
-        self.settled(0, self.tables.set_power(number as usize, watts as u16))
-    }
-
-    fn worth(self, number: u32, figure: u32) -> Changed
-        requires { ⌜ Kept maxLoads (held self) ⌝ }
-        ensures { λ r. ⌜ r ≡ changedBy (stateIn self) (to.Worth number figure) ⌝ }
-    {
-        let there = between(1, self.tables.loads.count, number as usize);
-        if !(there & (figure <= (MAX_WORTH as u32))) {
-            return self.settled(OUT_OF_RANGE, self.tables);
-        }
-        self.settled(0, self.tables.set_worth(number as usize, figure as u16))
+        self.settled(
+            0,
+            self.tables
+                .set_figure(figure, number as usize, value as u16),
+        )
     }
 
     fn budget(self, watts: u32) -> Changed
@@ -220,17 +192,17 @@ impl Planner {
         match c {
             Change::Clear => self.clear(),
             Change::Book { states, stages } => self.book(states, stages),
-            Change::Start { state } => self.start(state),
-            Change::End { stage } => self.end(stage),
-            Change::Rule { state, mark, stage } => self.rule(state, mark, stage),
-            Change::Row { stage, state, next } => self.row(stage, state, next),
+            Change::Start { state } => self.mark(Sort::Load, state),
+            Change::End { stage } => self.mark(Sort::Row, stage),
+            Change::Rule { state, mark, stage } => self.add_rule(Sort::Load, state, mark, stage),
+            Change::Row { stage, state, next } => self.add_rule(Sort::Row, stage, state, next),
             Change::Load {
                 parent,
                 power,
                 worth,
             } => self.load(parent, power, worth),
-            Change::Power { number, watts } => self.power(number, watts),
-            Change::Worth { number, figure } => self.worth(number, figure),
+            Change::Power { number, watts } => self.set_figure(Figure::Power, number, watts),
+            Change::Worth { number, figure } => self.set_figure(Figure::Worth, number, figure),
             Change::Budget { watts } => self.budget(watts),
         }
     }

@@ -1,6 +1,6 @@
 -- Each operation on tables that keep the limits is its change on paper, with its number. Assumes nothing.
 use Prim.Native.Nat.{ℕ, zero, suc, _+_, _-_, _≤_, _<_}
-use mathlib.Core.Path.{_≡_, refl, ap}
+use mathlib.Core.Path.{_≡_, refl, ap, _∙_}
 use mathlib.Core.Bool.{false}
 use mathlib.Core.List.{List, [], _∷_, _++_}
 use native.Mathlib.Omega.{arith}
@@ -10,14 +10,16 @@ use Rattle.lists.proofs.Arrays.{length-laid, take-laid, laid-snoc, laid-set, ge
 use Rattle.marks.specs.Bits.{within}
 use Rattle.marks.proofs.Laws.{within-true}
 use Rattle.tables.specs.declared.rule.Appended.{Appended}
+use Rattle.tables.specs.declared.rule.Sort.the-variants as sort
+use Rattle.tables.specs.declared.load.Figure.{Figure}
 use Rattle.tables.specs.declared.load.LoadList.{LoadList}
 use Rattle.tables.specs.declared.load.LoadsAppended.{LoadsAppended}
 use Rattle.tables.specs.declared.tables.Changed.{Changed}
-use Rattle.tables.specs.Tables.{Transition, Load, Tables, noRule, noLoad}
+use Rattle.tables.specs.Tables.{Sort, Transition, Load, Book, Tables, noRule, noLoad, rulesFor}
 use Rattle.tables.specs.Limits.{maxRules, Limits}
-use Rattle.tables.specs.Stored.{storedRules, storedLoads, placesOf, storedBook, stored}
-use Rattle.tables.specs.Changes.{withBook, withLoads, withLoadRules, withRowRules, newBook, markStart, markEnd, addLoadRule, addRowRule, addLoad, withPower, withWorth, onLoad, setPower, setWorth, setBudget}
-use Rattle.tables.specs.Operations.{ruleNumber, loadNumber, accepted, appended, loadAppended, loadAt, loadReplaced, powerSet, worthSet, putLoads, bookBegun, startMarked, endMarked, loadRuleAdded, rowRuleAdded, loadAdded, powerChanged, worthChanged, budgetChanged}
+use Rattle.tables.specs.Stored.{heldRules, storedRules, storedLoads, placesOf, storedBook, stored}
+use Rattle.tables.specs.Changes.{withBook, withLoads, withRules, newBook, mark, addRule, addLoad, withFigure, onLoad, setFigure, setBudget}
+use Rattle.tables.specs.Operations.{ruleNumber, loadNumber, accepted, appended, loadAppended, loadAt, loadReplaced, figureSet, putLoads, putRules, bookBegun, markSet, ruleAdded, loadAdded, figureChanged, budgetChanged}
 use Rattle.tables.proofs.Parts.{limits-parts}
 use Rattle.tables.proofs.Stored.{rules-few}
 use Rattle.tables.proofs.Numbers.{rule-new, load-new}
@@ -86,49 +88,50 @@ both-ways : {A : Type 0} (f : A → Tables) (n : ℕ) (new old : A)
 both-ways f zero new old = refl
 both-ways f (suc n) new old = refl
 
+-- ---- the rules of either sort, where they lie
+held-rules : (k : Sort) (b : Book) → heldRules (storedBook b) k ≡ storedRules (rulesFor b k)
+unfolding storedBook
+held-rules sort.Load b = refl
+held-rules sort.Row b = refl
+
+put-rules : (k : Sort) (b : Book) (rs : List Transition) → putRules k (storedBook b) (storedRules rs) ≡ storedBook (withRules k b rs)
+unfolding storedBook
+put-rules sort.Load b rs = refl
+put-rules sort.Row b rs = refl
+
+same-rules : (k : Sort) (b : Book) → withRules k b (rulesFor b k) ≡ b
+same-rules sort.Load b = refl
+same-rules sort.Row b = refl
+
 -- ---- the operations that give no number
 module _ (t : Tables) where
   pub book-begun : (s g : ℕ) → bookBegun (stored t) s g ≡ stored (newBook t s g)
   unfolding bookBegun stored
   book-begun s g = refl
 
-  pub start-marked : (q : ℕ) → startMarked (stored t) q ≡ stored (markStart t q)
-  unfolding startMarked stored storedBook
-  start-marked q = refl
-
-  pub end-marked : (g : ℕ) → endMarked (stored t) g ≡ stored (markEnd t g)
-  unfolding endMarked stored storedBook
-  end-marked g = refl
+  pub mark-set : (k : Sort) (q : ℕ) → markSet (stored t) k q ≡ stored (mark t k q)
+  unfolding markSet stored storedBook
+  mark-set sort.Load q = refl
+  mark-set sort.Row q = refl
 
   pub budget-changed : (w : ℕ) → budgetChanged (stored t) w ≡ stored (setBudget t w)
   unfolding budgetChanged stored
   budget-changed w = refl
 
 module _ (t : Tables) (h : Limits t) where
-  pub power-changed : (k w : ℕ) → 1 ≤ k → k ≤ length (t .loads) → powerChanged (stored t) k w ≡ stored (setPower t k w)
-  unfolding powerChanged powerSet stored
-  power-changed k w one most = ap (putLoads (stored t)) (figure-stored (λ l. withPower l w) (t .places) (t .loads) k one most (limits-parts t h .few))
-
-  pub worth-changed : (k v : ℕ) → 1 ≤ k → k ≤ length (t .loads) → worthChanged (stored t) k v ≡ stored (setWorth t k v)
-  unfolding worthChanged worthSet stored
-  worth-changed k v one most = ap (putLoads (stored t)) (figure-stored (λ l. withWorth l v) (t .places) (t .loads) k one most (limits-parts t h .few))
+  pub figure-changed : (f : Figure) (k x : ℕ) → 1 ≤ k → k ≤ length (t .loads) → figureChanged (stored t) f k x ≡ stored (setFigure t f k x)
+  unfolding figureChanged figureSet stored
+  figure-changed f k x one most = ap (putLoads (stored t)) (figure-stored (λ l. withFigure f l x) (t .places) (t .loads) k one most (limits-parts t h .few))
 
   -- ---- those that give one
-  pub load-rule-added : (r : Transition) → let n = ruleNumber (t .book .loadRules) r in
-      loadRuleAdded (stored t) r ≡ record { number = n; tables = stored (accepted n (addLoadRule t r) t) }
-  unfolding loadRuleAdded stored storedBook
-  load-rule-added r =
-      let rs = t .book .loadRules in
-      rw (appended-stored rs r (rules-few _ rs (limits-parts t h .book .loadRules)))
-      (both-ways (λ (l : List Transition). withBook t (withLoadRules (t .book) l)) (ruleNumber rs r) (rs ++ (r ∷ [])) rs)
-
-  pub row-rule-added : (r : Transition) → let n = ruleNumber (t .book .rowRules) r in
-      rowRuleAdded (stored t) r ≡ record { number = n; tables = stored (accepted n (addRowRule t r) t) }
-  unfolding rowRuleAdded stored storedBook
-  row-rule-added r =
-      let rs = t .book .rowRules in
-      rw (appended-stored rs r (rules-few _ rs (limits-parts t h .book .rowRules)))
-      (both-ways (λ (l : List Transition). withBook t (withRowRules (t .book) l)) (ruleNumber rs r) (rs ++ (r ∷ [])) rs)
+  pub rule-added : (k : Sort) (r : Transition) → let n = ruleNumber (rulesFor (t .book) k) r in
+      ruleAdded (stored t) k r ≡ record { number = n; tables = stored (accepted n (addRule t k r) t) }
+  unfolding ruleAdded stored
+  rule-added k r =
+      let rs = rulesFor (t .book) k in
+      rw (held-rules k (t .book), appended-stored rs r (rules-few _ rs (limits-parts t h .book .rules k)), put-rules k (t .book))
+      (both-ways (λ (l : List Transition). withBook t (withRules k (t .book) l)) (ruleNumber rs r) (rs ++ (r ∷ [])) rs
+      ∙ rw (same-rules k (t .book)))
 
   pub load-added : (l : Load) → let n = loadNumber (t .places) (t .loads) in
       loadAdded (stored t) l ≡ record { number = n; tables = stored (accepted n (addLoad t l) t) }

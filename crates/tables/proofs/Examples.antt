@@ -9,7 +9,7 @@ use Rattle.lists.specs.Arrays.{laid}
 use Rattle.lists.specs.Places.{limited}
 use Rattle.tables.specs.declared.tables.StoredTables.{StoredTables}
 use Rattle.tables.specs.Tables.{Transition, Load, Tables, fresh}
-use Rattle.tables.specs.Limits.{ruleIn, sameRule, bookIn, loadIn, loadsIn, limits}
+use Rattle.tables.specs.Limits.{ruleIn, sameRule, sortIn, bookIn, loadIn, maxLoads, loadsIn, limits}
 use Rattle.tables.specs.Stored.{storedBook, stored, bookOf, tablesOf, zeroRule, zeroLoad, keepsLimits}
 use Rattle.tables.specs.Operations.{putLoads}
 
@@ -25,7 +25,7 @@ tables s g a e rs ws ls b = record {
   book = record { states = s; stages = g; starts = record { 0 = a }; ends = record { 0 = e }; loadRules = rs; rowRules = ws };
   loads = ls;
   budget = b;
-  places = 64;
+  places = maxLoads;
 }
 
 lawful : Tables
@@ -51,12 +51,12 @@ broken =
     ∷ tables 0 0 0 0 [] [] [] 501
     ∷ []
 
-lawful-kept : map limits (fresh 64 ∷ lawful ∷ []) ≡ true ∷ true ∷ []
-unfolding limits bookIn limited every distinct some everyFrom ruleIn sameRule loadIn loadsIn fresh lawful tables rule load
+lawful-kept : map limits (fresh maxLoads ∷ lawful ∷ []) ≡ true ∷ true ∷ []
+unfolding limits bookIn sortIn limited every distinct some everyFrom ruleIn sameRule loadIn loadsIn fresh lawful tables rule load
 lawful-kept = refl
 
 broken-seen : some limits broken ≡ false
-unfolding limits bookIn limited every distinct some everyFrom ruleIn sameRule loadIn loadsIn broken tables rule load
+unfolding limits bookIn sortIn limited every distinct some everyFrom ruleIn sameRule loadIn loadsIn broken tables rule load
 broken-seen = refl
 
 -- something at an unused place is seen, also at the last
@@ -64,5 +64,5 @@ littered : StoredTables
 littered = putLoads (stored lawful) (record { items = set (stored lawful .loads .items) 63 (load 0 0 1); count = 3 })
 
 litter-seen : map keepsLimits (stored lawful ∷ littered ∷ []) ≡ true ∷ false ∷ []
-unfolding keepsLimits tablesOf bookOf stored storedBook laid zeroRule zeroLoad limits bookIn limited every distinct some everyFrom ruleIn sameRule loadIn loadsIn littered lawful tables rule load
+unfolding keepsLimits tablesOf bookOf stored storedBook laid zeroRule zeroLoad limits bookIn sortIn limited every distinct some everyFrom ruleIn sameRule loadIn loadsIn littered lawful tables rule load
 litter-seen = refl

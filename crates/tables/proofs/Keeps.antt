@@ -17,10 +17,12 @@ use Rattle.lists.proofs.Places.{limited-none, limited-snoc}
 use Rattle.marks.specs.Bits.{within, setBit, withMark}
 use Rattle.marks.specs.Sets.{marked}
 use Rattle.marks.specs.declared.Marks.{Marks}
-use Rattle.tables.specs.declared.rule.RuleRange.{RuleRange}
-use Rattle.tables.specs.Tables.{Transition, Load, Book, Tables, noLoad, emptyBook, fresh}
-use Rattle.tables.specs.Limits.{between, bookSize, marksIn, ruleIn, loadRuleRange, rowRuleRange, sameRule, maxRules, rulesIn, parentIn, powerIn, worthIn, budgetIn, loadIn, mostPlaces, Limits}
-use Rattle.tables.specs.Changes.{withBook, withLoads, newBook, markStart, markEnd, addLoadRule, addRowRule, addLoad, withPower, withWorth, onLoad, setPower, setWorth, setBudget}
+use Rattle.tables.specs.declared.rule.Sort.the-variants as sort
+use Rattle.tables.specs.declared.load.Figure.{Figure}
+use Rattle.tables.specs.declared.load.Figure.the-variants as figure
+use Rattle.tables.specs.Tables.{Sort, Transition, Load, Book, Tables, noLoad, sizeFor, marksFor, rulesFor, emptyBook, fresh}
+use Rattle.tables.specs.Limits.{between, bookSize, sizeIn, marksIn, ruleIn, ruleRange, rangeFor, sameRule, maxRules, rulesIn, parentIn, figureIn, budgetIn, loadIn, mostPlaces, Limits}
+use Rattle.tables.specs.Changes.{withBook, withLoads, withMarks, withRules, newBook, mark, addRule, addLoad, withFigure, setFigure, setBudget}
 use Rattle.tables.proofs.Parts.{BookParts, Parts, limits-parts, limits-whole}
 
 -- ---- marks
@@ -46,31 +48,39 @@ same-swap : (a b : Transition) → sameRule a b ≡ sameRule b a
 unfolding sameRule
 same-swap a b = rw (eqb-swap (a .from) (b .from), eqb-swap (a .label) (b .label), eqb-swap (a .to) (b .to))
 
-rules-snoc : (m : RuleRange) (rs : List Transition) (r : Transition) → rulesIn m rs ≡ true
-    → ruleIn m r ≡ true → length rs < maxRules → some (sameRule r) rs ≡ false → rulesIn m (rs ++ (r ∷ [])) ≡ true
-rules-snoc m rs r = limited-snoc (ruleIn m) sameRule maxRules same-swap rs r
-
 -- ---- loads: another figure in range
-power-in : (w : ℕ) → powerIn w ≡ true → (k : ℕ) (l : Load) → loadIn k l ≡ true → loadIn k (withPower l w) ≡ true
+figure-in : (f : Figure) (x : ℕ) → figureIn f x ≡ true → (k : ℕ) (l : Load) → loadIn k l ≡ true → loadIn k (withFigure f l x) ≡ true
 unfolding loadIn
-power-in w e k l h =
-    let a = and-left (parentIn k (l .parent) && powerIn (l .power)) (worthIn (l .worth)) h in
-    rw (and-left (parentIn k (l .parent)) (powerIn (l .power)) a, e)
-    (and-right (parentIn k (l .parent) && powerIn (l .power)) (worthIn (l .worth)) h)
-
-worth-in : (v : ℕ) → worthIn v ≡ true → (k : ℕ) (l : Load) → loadIn k l ≡ true → loadIn k (withWorth l v) ≡ true
-unfolding loadIn
-worth-in v e k l h = rw (and-left (parentIn k (l .parent) && powerIn (l .power)) (worthIn (l .worth)) h) e
+figure-in figure.Power w e k l h =
+    let a = and-left (parentIn k (l .parent) && figureIn figure.Power (l .power)) (figureIn figure.Worth (l .worth)) h in
+    rw (and-left (parentIn k (l .parent)) (figureIn figure.Power (l .power)) a, e)
+    (and-right (parentIn k (l .parent) && figureIn figure.Power (l .power)) (figureIn figure.Worth (l .worth)) h)
+figure-in figure.Worth v e k l h = rw (and-left (parentIn k (l .parent) && figureIn figure.Power (l .power)) (figureIn figure.Worth (l .worth)) h) e
 
 -- ---- a book with no rules and no marks
-empty-parts : (s g : ℕ) → (eqb s 0 && eqb g 0) || bookSize s g ≡ true → BookParts (emptyBook s g)
-empty-parts s g h = record {
-  size = h;
-  starts = no-marks s;
-  ends = no-marks g;
-  loadRules = limited-none (ruleIn (loadRuleRange s g)) sameRule maxRules;
-  rowRules = limited-none (ruleIn (rowRuleRange s g)) sameRule maxRules;
-}
+empty-parts : (s g : ℕ) → sizeIn s g ≡ true → BookParts (emptyBook s g)
+empty-parts s g h = record { size = h; marks = marks; rules = rules }
+  where
+    marks : (k : Sort) → marksIn (sizeFor (emptyBook s g) k) (marksFor (emptyBook s g) k) ≡ true
+    marks sort.Load = no-marks s
+    marks sort.Row = no-marks g
+
+    rules : (k : Sort) → rulesIn (rangeFor (emptyBook s g) k) (rulesFor (emptyBook s g) k) ≡ true
+    rules sort.Load = limited-none (ruleIn (ruleRange s g sort.Load)) sameRule maxRules
+    rules sort.Row = limited-none (ruleIn (ruleRange s g sort.Row)) sameRule maxRules
+
+-- ---- a book with other marks, or other rules, of one sort
+marks-parts : (b : Book) → BookParts b → (k : Sort) (m : Marks) → marksIn (sizeFor b k) m ≡ true → BookParts (withMarks k b m)
+marks-parts b p sort.Load m e =
+    record { size = p .size; marks = elim [ sort.Load ↦ e | sort.Row ↦ p .marks sort.Row ]; rules = elim [ sort.Load ↦ p .rules sort.Load | sort.Row ↦ p .rules sort.Row ] }
+marks-parts b p sort.Row m e =
+    record { size = p .size; marks = elim [ sort.Load ↦ p .marks sort.Load | sort.Row ↦ e ]; rules = elim [ sort.Load ↦ p .rules sort.Load | sort.Row ↦ p .rules sort.Row ] }
+
+rules-parts : (b : Book) → BookParts b → (k : Sort) (rs : List Transition) → rulesIn (rangeFor b k) rs ≡ true → BookParts (withRules k b rs)
+rules-parts b p sort.Load rs e =
+    record { size = p .size; marks = elim [ sort.Load ↦ p .marks sort.Load | sort.Row ↦ p .marks sort.Row ]; rules = elim [ sort.Load ↦ e | sort.Row ↦ p .rules sort.Row ] }
+rules-parts b p sort.Row rs e =
+    record { size = p .size; marks = elim [ sort.Load ↦ p .marks sort.Load | sort.Row ↦ p .marks sort.Row ]; rules = elim [ sort.Load ↦ p .rules sort.Load | sort.Row ↦ e ] }
 
 pub fresh-limits : (n : ℕ) → n ≤ mostPlaces → Limits (fresh n)
 unfolding fresh everyFrom
@@ -87,61 +97,27 @@ module _ (t : Tables) (h : Limits t) where
   loads-keep : (ls : List Load) → length ls ≤ t .places → everyFrom loadIn 1 ls ≡ true → Limits (withLoads t ls)
   loads-keep ls few q = limits-whole (withLoads t ls) (record { book = p .book; few = few; loads = q; budget = p .budget; places = p .places })
 
-  figure-keeps : (f : Load → Load) → ((k : ℕ) (l : Load) → loadIn k l ≡ true → loadIn k (f l) ≡ true)
-      → (k : ℕ) → Limits (withLoads t (onLoad f k (t .loads)))
-  figure-keeps f keep k = loads-keep _ (rw length-set (p .few)) (from-set noLoad loadIn f keep 1 (k - 1) (t .loads) (p .loads))
-
   pub new-book-keeps : (s g : ℕ) → bookSize s g ≡ true → Limits (newBook t s g)
   new-book-keeps s g e = book-keeps (emptyBook s g) (empty-parts s g (rw e (or-true (eqb s 0 && eqb g 0))))
 
-  pub mark-start-keeps : (q : ℕ) → between 1 (t .book .states) q ≡ true → Limits (markStart t q)
-  mark-start-keeps q e = book-keeps _ (record {
-    size = p .book .size;
-    starts = marked-in (t .book .states) (t .book .starts) q (p .book .starts) e;
-    ends = p .book .ends;
-    loadRules = p .book .loadRules;
-    rowRules = p .book .rowRules;
-  })
+  pub mark-keeps : (k : Sort) (q : ℕ) → between 1 (sizeFor (t .book) k) q ≡ true → Limits (mark t k q)
+  mark-keeps k q e = book-keeps _ (marks-parts (t .book) (p .book) k _ (marked-in (sizeFor (t .book) k) (marksFor (t .book) k) q (p .book .marks k) e))
 
-  pub mark-end-keeps : (g : ℕ) → between 1 (t .book .stages) g ≡ true → Limits (markEnd t g)
-  mark-end-keeps g e = book-keeps _ (record {
-    size = p .book .size;
-    starts = p .book .starts;
-    ends = marked-in (t .book .stages) (t .book .ends) g (p .book .ends) e;
-    loadRules = p .book .loadRules;
-    rowRules = p .book .rowRules;
-  })
-
-  pub add-load-rule-keeps : (r : Transition) → ruleIn (loadRuleRange (t .book .states) (t .book .stages)) r ≡ true
-      → length (t .book .loadRules) < maxRules → some (sameRule r) (t .book .loadRules) ≡ false → Limits (addLoadRule t r)
-  add-load-rule-keeps r fit few new = book-keeps _ (record {
-    size = p .book .size;
-    starts = p .book .starts;
-    ends = p .book .ends;
-    loadRules = rules-snoc (loadRuleRange (t .book .states) (t .book .stages)) (t .book .loadRules) r (p .book .loadRules) fit few new;
-    rowRules = p .book .rowRules;
-  })
-
-  pub add-row-rule-keeps : (r : Transition) → ruleIn (rowRuleRange (t .book .states) (t .book .stages)) r ≡ true
-      → length (t .book .rowRules) < maxRules → some (sameRule r) (t .book .rowRules) ≡ false → Limits (addRowRule t r)
-  add-row-rule-keeps r fit few new = book-keeps _ (record {
-    size = p .book .size;
-    starts = p .book .starts;
-    ends = p .book .ends;
-    loadRules = p .book .loadRules;
-    rowRules = rules-snoc (rowRuleRange (t .book .states) (t .book .stages)) (t .book .rowRules) r (p .book .rowRules) fit few new;
-  })
+  pub add-rule-keeps : (k : Sort) (r : Transition) → ruleIn (rangeFor (t .book) k) r ≡ true
+      → length (rulesFor (t .book) k) < maxRules → some (sameRule r) (rulesFor (t .book) k) ≡ false → Limits (addRule t k r)
+  add-rule-keeps k r fit few new =
+      let rs = rulesFor (t .book) k in
+      book-keeps _ (rules-parts (t .book) (p .book) k _ (limited-snoc (ruleIn (rangeFor (t .book) k)) sameRule maxRules same-swap rs r (p .book .rules k) fit few new))
 
   pub add-load-keeps : (l : Load) → loadIn (suc (length (t .loads))) l ≡ true → length (t .loads) < t .places → Limits (addLoad t l)
   add-load-keeps l fit few =
       let n : suc (length (t .loads)) ≡ length (t .loads) + 1 = omega arith in
       loads-keep _ (rw length-snoc (omega arith)) (from-snoc loadIn 1 (t .loads) l (p .loads) (rw n at fit))
 
-  pub set-power-keeps : (k w : ℕ) → powerIn w ≡ true → Limits (setPower t k w)
-  set-power-keeps k w e = figure-keeps (λ l. withPower l w) (power-in w e) k
-
-  pub set-worth-keeps : (k v : ℕ) → worthIn v ≡ true → Limits (setWorth t k v)
-  set-worth-keeps k v e = figure-keeps (λ l. withWorth l v) (worth-in v e) k
+  pub set-figure-keeps : (f : Figure) (k x : ℕ) → figureIn f x ≡ true → Limits (setFigure t f k x)
+  set-figure-keeps f k x e =
+      let set : Load → Load = λ l. withFigure f l x in
+      loads-keep _ (rw length-set (p .few)) (from-set noLoad loadIn set (figure-in f x e) 1 (k - 1) (t .loads) (p .loads))
 
   pub set-budget-keeps : (w : ℕ) → budgetIn w ≡ true → Limits (setBudget t w)
   set-budget-keeps w e = limits-whole (setBudget t w) (record { book = p .book; few = p .few; loads = p .loads; budget = e; places = p .places })

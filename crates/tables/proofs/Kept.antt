@@ -12,35 +12,39 @@ use Rattle.lists.specs.Tests.{every}
 use Rattle.lists.specs.Places.{restFree}
 use Rattle.lists.proofs.Bools.{and-left, and-right}
 use Rattle.tables.specs.declared.tables.StoredTables.{StoredTables}
+use Rattle.tables.specs.declared.rule.Sort.the-variants as sort
+use Rattle.tables.specs.Tables.{Sort}
 use Rattle.tables.specs.Limits.{maxRules, limits, Limits}
-use Rattle.tables.specs.Stored.{placesOf, zeroRule, zeroLoad, tablesOf, keepsLimits}
+use Rattle.tables.specs.Stored.{heldRules, placesOf, zeroRule, zeroLoad, tablesOf, rulesFree, loadsFree, keepsLimits}
 
 -- no more places are in use than there are
 few : {A : Type 0} (z : A → Bool) (n k : ℕ) (xs : List A) → restFree z n k xs ≡ true → k ≤ n
 few z n k xs h = leb-true k n (and-left (leb k n) (every z (drop k xs)) h)
 
 pub record Kept (s : StoredTables) : Type 0 where
-  pub loadRules : s .book .«load_rules» .count ≤ maxRules
-  pub rowRules : s .book .«row_rules» .count ≤ maxRules
+  pub rules : (k : Sort) → heldRules (s .book) k .count ≤ maxRules
   pub loads : s .loads .count ≤ placesOf (s .loads)
   pub lawful : Limits (tablesOf s)
 
 pub kept : (s : StoredTables) → keepsLimits s ≡ true → Kept s
 unfolding keepsLimits
-kept s h =
-    let ls = s .book .«load_rules» in
-    let rs = s .book .«row_rules» in
-    let a = restFree zeroRule maxRules (ls .count) (ls .items) in
-    let b = restFree zeroRule maxRules (rs .count) (rs .items) in
-    let d = restFree zeroLoad (placesOf (s .loads)) (s .loads .count) (s .loads .items) in
-    let habd = and-left (a && b && d) (limits (tablesOf s)) h in
-    let hab = and-left (a && b) d habd in
-    record {
-      loadRules = few zeroRule maxRules (ls .count) (ls .items) (and-left a b hab);
-      rowRules = few zeroRule maxRules (rs .count) (rs .items) (and-right a b hab);
-      loads = few zeroLoad (placesOf (s .loads)) (s .loads .count) (s .loads .items) (and-right (a && b) d habd);
-      lawful = and-right (a && b && d) (limits (tablesOf s)) h;
-    }
+kept s h = record { rules = rules; loads = few zeroLoad (placesOf (s .loads)) (s .loads .count) (s .loads .items) (and-right (a && b) d three); lawful = and-right (a && b && d) (limits (tablesOf s)) h }
+  where
+    a : Bool
+    a = rulesFree (s .book .«load_rules»)
+
+    b : Bool
+    b = rulesFree (s .book .«row_rules»)
+
+    d : Bool
+    d = loadsFree (s .loads)
+
+    three : a && b && d ≡ true
+    three = and-left (a && b && d) (limits (tablesOf s)) h
+
+    rules : (k : Sort) → heldRules (s .book) k .count ≤ maxRules
+    rules sort.Load = few zeroRule maxRules (s .book .«load_rules» .count) (s .book .«load_rules» .items) (and-left a b (and-left (a && b) d three))
+    rules sort.Row = few zeroRule maxRules (s .book .«row_rules» .count) (s .book .«row_rules» .items) (and-right a b (and-left (a && b) d three))
 
 -- as many loads as are counted
 pub loads-counted : (s : StoredTables) → Kept s → length (tablesOf s .loads) ≡ s .loads .count

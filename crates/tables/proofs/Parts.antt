@@ -1,21 +1,20 @@
 -- The parts of the limits: tables keep the limits exactly if each part does. Assumes nothing.
 use Prim.Native.Nat.{_≤_}
 use mathlib.Core.Path.{_≡_}
-use mathlib.Core.Bool.{Bool, true, _&&_}
+use mathlib.Core.Bool.{true, _&&_}
 use borrow.Author.Tests.{leb-true, le-leb}
 use lib.Dec.{leb}
 use lib.ListN.{length}
 use Rattle.lists.specs.Tests.{everyFrom}
-use Rattle.lists.proofs.Bools.{and-left, and-right}
-use Rattle.tables.specs.Tables.{Book, Tables}
-use Rattle.tables.specs.Limits.{sizeIn, marksIn, loadRuleRange, rowRuleRange, rulesIn, bookIn, budgetIn, loadIn, mostPlaces, loadsIn, limits, Limits}
+use Rattle.lists.proofs.Bools.{and-left, and-right, and-true}
+use Rattle.tables.specs.declared.rule.Sort.the-variants as sort
+use Rattle.tables.specs.Tables.{Sort, Book, Tables, sizeFor, marksFor, rulesFor}
+use Rattle.tables.specs.Limits.{sizeIn, marksIn, rangeFor, rulesIn, sortIn, bookIn, budgetIn, loadIn, mostPlaces, loadsIn, limits, Limits}
 
 pub record BookParts (b : Book) : Type 0 where
   pub size : sizeIn (b .states) (b .stages) ≡ true
-  pub starts : marksIn (b .states) (b .starts) ≡ true
-  pub ends : marksIn (b .stages) (b .ends) ≡ true
-  pub loadRules : rulesIn (loadRuleRange (b .states) (b .stages)) (b .loadRules) ≡ true
-  pub rowRules : rulesIn (rowRuleRange (b .states) (b .stages)) (b .rowRules) ≡ true
+  pub marks : (k : Sort) → marksIn (sizeFor b k) (marksFor b k) ≡ true
+  pub rules : (k : Sort) → rulesIn (rangeFor b k) (rulesFor b k) ≡ true
 
 pub record Parts (t : Tables) : Type 0 where
   pub book : BookParts (t .book)
@@ -24,25 +23,24 @@ pub record Parts (t : Tables) : Type 0 where
   pub budget : budgetIn (t .budget) ≡ true
   pub places : t .places ≤ mostPlaces
 
--- five tests that hold together hold each
-five : (a b d e f : Bool) → a && b && d && e && f ≡ true → (a ≡ true) × (b ≡ true) × (d ≡ true) × (e ≡ true) × (f ≡ true)
-five a b d e f h =
-    let h4 = and-left (a && b && d && e) f h in
-    let h3 = and-left (a && b && d) e h4 in
-    let h2 = and-left (a && b) d h3 in
-    (and-left a b h2, and-right a b h2, and-right (a && b) d h3, and-right (a && b && d) e h4, and-right (a && b && d && e) f h)
-
 pub book-parts : (b : Book) → bookIn b ≡ true → BookParts b
-unfolding bookIn
-book-parts b h =
-    let rules = rulesIn (loadRuleRange (b .states) (b .stages)) (b .loadRules) in
-    let rows = rulesIn (rowRuleRange (b .states) (b .stages)) (b .rowRules) in
-    let p = five (sizeIn (b .states) (b .stages)) (marksIn (b .states) (b .starts)) (marksIn (b .stages) (b .ends)) rules rows h in
-    record { size = p .0; starts = p .1; ends = p .2; loadRules = p .3; rowRules = p .4 }
+unfolding bookIn sortIn
+book-parts b h = record {
+  size = and-left (sizeIn (b .states) (b .stages)) (sortIn sort.Load b) two;
+  marks = λ k. and-left (marksIn (sizeFor b k) (marksFor b k)) (rulesIn (rangeFor b k) (rulesFor b k)) (each k);
+  rules = λ k. and-right (marksIn (sizeFor b k) (marksFor b k)) (rulesIn (rangeFor b k) (rulesFor b k)) (each k);
+}
+  where
+    two : sizeIn (b .states) (b .stages) && sortIn sort.Load b ≡ true
+    two = and-left (sizeIn (b .states) (b .stages) && sortIn sort.Load b) (sortIn sort.Row b) h
+
+    each : (k : Sort) → sortIn k b ≡ true
+    each sort.Load = and-right (sizeIn (b .states) (b .stages)) (sortIn sort.Load b) two
+    each sort.Row = and-right (sizeIn (b .states) (b .stages) && sortIn sort.Load b) (sortIn sort.Row b) h
 
 pub book-whole : (b : Book) → BookParts b → bookIn b ≡ true
-unfolding bookIn
-book-whole b p = rw (p .size, p .starts, p .ends, p .loadRules) (p .rowRules)
+unfolding bookIn sortIn
+book-whole b p = rw (p .size, p .marks sort.Load, p .rules sort.Load, p .marks sort.Row) (p .rules sort.Row)
 
 pub limits-parts : (t : Tables) → Limits t → Parts t
 unfolding limits loadsIn

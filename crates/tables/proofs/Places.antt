@@ -9,19 +9,19 @@ use lib.Dec.{eqb, leb, ltb}
 use lib.ListN.{length}
 use lib.Pow.{pow-pos, pow-mono}
 use Rattle.lists.specs.Tests.{allBelow}
-use Rattle.lists.specs.Places.{restFree}
 use Rattle.lists.proofs.Bools.{and-false, same-test}
 use Rattle.lists.proofs.Places.{places-limited, places-numbered}
 use Rattle.marks.specs.declared.Marks.{Marks}
 use Rattle.tables.specs.declared.rule.RuleRange.{RuleRange}
+use Rattle.tables.specs.declared.rule.Sort.the-variants as sort
 use Rattle.tables.specs.declared.rule.TransitionList.{TransitionList}
 use Rattle.tables.specs.declared.load.LoadList.{LoadList}
 use Rattle.tables.specs.declared.tables.StoredBook.{StoredBook}
 use Rattle.tables.specs.declared.tables.StoredTables.{StoredTables}
-use Rattle.tables.specs.Tables.{Load, noRule, noLoad}
-use Rattle.tables.specs.Limits.{sizeIn, marksIn, ruleIn, sameRule, loadRuleRange, rowRuleRange, rulesIn, maxRules, bookIn, parentIn, loadIn, mostPlaces, loadsIn, budgetIn, limits}
-use Rattle.tables.specs.Stored.{rulesOf, loadsOf, placesOf, bookOf, tablesOf, zeroRule, zeroLoad, keepsLimits}
-use Rattle.tables.specs.Places.{rulePlace, loadPlace, rulesHeld, loadsHeld, bookHeld}
+use Rattle.tables.specs.Tables.{Sort, Load, noRule, noLoad}
+use Rattle.tables.specs.Limits.{sizeIn, maxStates, marksIn, ruleIn, sameRule, ruleRange, rulesIn, maxRules, sortIn, bookIn, parentIn, maxPower, maxWorth, loadIn, mostPlaces, loadsIn, budgetIn, limits}
+use Rattle.tables.specs.Stored.{heldSize, heldMarks, heldRules, rulesOf, loadsOf, placesOf, bookOf, tablesOf, zeroRule, zeroLoad, rulesFree, loadsFree, keepsLimits}
+use Rattle.tables.specs.Places.{rulePlace, loadPlace, rulesHeld, loadsHeld, sortHeld, bookHeld}
 
 -- ---- marks: none stands past n where the number shifted by n is 0, and none past 8 in a byte
 pub marks-shifted : (n : ℕ) (m : Marks) → eqb (m .0 / 2 ^ n) 0 ≡ marksIn n m
@@ -32,7 +32,7 @@ marks-shifted n m =
     lt-ltb (m .0) (2 ^ n) (omega (arith, div-lt-iff-lt-mul {k = 2 ^ n} {x = m .0} {y = 1} (pow-pos n) .0 none)))
     (λ h. eq-eqb (m .0 / 2 ^ n) 0 (div-eq-of-lt (ltb-true (m .0) (2 ^ n) h)))
 
-pub marks-all : (n : ℕ) (m : Marks) → m .0 < 2 ^ 8 → 8 ≤ n → true ≡ marksIn n m
+pub marks-all : (n : ℕ) (m : Marks) → m .0 < 2 ^ maxStates → maxStates ≤ n → true ≡ marksIn n m
 marks-all n m h l = sym (lt-ltb (m .0) (2 ^ n) (le-trans h (pow-mono l)))
 
 -- ---- a load: the root has parent 0, a later load a smaller number
@@ -46,7 +46,7 @@ parent-in (suc zero) (suc p) = rw (ne-eqb (suc p) 0 (λ e. omega arith), le-ltb 
 parent-in (suc (suc k)) p = rw (ne-eqb (suc (suc k)) 1 (λ e. omega arith), below-suc p (suc k))
 
 pub load-range : (k : ℕ) (l : Load)
-    → ((eqb k 1 && eqb (l .parent) 0) || (leb 1 (l .parent) && ltb (l .parent) k)) && leb (l .power) 500 && leb (l .worth) 1000 ≡ loadIn k l
+    → ((eqb k 1 && eqb (l .parent) 0) || (leb 1 (l .parent) && ltb (l .parent) k)) && leb (l .power) maxPower && leb (l .worth) maxWorth ≡ loadIn k l
 unfolding loadIn
 load-range k l = rw (parent-in k (l .parent))
 
@@ -61,28 +61,26 @@ unfolding loadPlace loadsHeld loadsIn
 loads-placed l = places-numbered noLoad zeroLoad (placesOf l) (l .count) (l .items) refl loadIn
 
 -- ---- the book, and the tables
-book-order : (a b d r x s y : Bool) → a && b && d && (r && x) && (s && y) ≡ r && s && (a && b && d && x && y)
-book-order false b d r x s y = sym (and-false (r && s))
-book-order true false d r x s y = sym (and-false (r && s))
-book-order true true false r x s y = sym (and-false (r && s))
-book-order true true true false x s y = refl
-book-order true true true true false s y = sym (and-false s)
-book-order true true true true true s y = refl
+sort-order : (a r x : Bool) → a && (r && x) ≡ r && (a && x)
+sort-order false r x = sym (and-false r)
+sort-order true r x = refl
 
-pub book-placed : (b : StoredBook)
-    → sizeIn (b .states) (b .stages) && marksIn (b .states) (b .starts) && marksIn (b .stages) (b .ends)
-    && rulesHeld (loadRuleRange (b .states) (b .stages)) (b .«load_rules») && rulesHeld (rowRuleRange (b .states) (b .stages)) (b .«row_rules»)
-    ≡ bookHeld b
-unfolding rulesHeld bookHeld bookOf bookIn
+pub sort-placed : (k : Sort) (b : StoredBook)
+    → marksIn (heldSize b k) (heldMarks b k) && rulesHeld (ruleRange (b .states) (b .stages) k) (heldRules b k) ≡ sortHeld k b
+unfolding rulesHeld sortHeld bookOf sortIn
+sort-placed sort.Load b = sort-order (marksIn (b .states) (b .starts)) (rulesFree (b .«load_rules»)) (rulesIn (ruleRange (b .states) (b .stages) sort.Load) (rulesOf (b .«load_rules»)))
+sort-placed sort.Row b = sort-order (marksIn (b .stages) (b .ends)) (rulesFree (b .«row_rules»)) (rulesIn (ruleRange (b .states) (b .stages) sort.Row) (rulesOf (b .«row_rules»)))
+
+book-order : (a r x s y : Bool) → a && (r && x) && (s && y) ≡ r && s && (a && x && y)
+book-order false r x s y = sym (and-false (r && s))
+book-order true false x s y = refl
+book-order true true false s y = sym (and-false s)
+book-order true true true s y = refl
+
+pub book-placed : (b : StoredBook) → sizeIn (b .states) (b .stages) && sortHeld sort.Load b && sortHeld sort.Row b ≡ bookHeld b
+unfolding sortHeld bookHeld bookIn bookOf
 book-placed b =
-    book-order
-    (sizeIn (b .states) (b .stages))
-    (marksIn (b .states) (b .starts))
-    (marksIn (b .stages) (b .ends))
-    (restFree zeroRule maxRules (b .«load_rules» .count) (b .«load_rules» .items))
-    (rulesIn (loadRuleRange (b .states) (b .stages)) (rulesOf (b .«load_rules»)))
-    (restFree zeroRule maxRules (b .«row_rules» .count) (b .«row_rules» .items))
-    (rulesIn (rowRuleRange (b .states) (b .stages)) (rulesOf (b .«row_rules»)))
+    book-order (sizeIn (b .states) (b .stages)) (rulesFree (b .«load_rules»)) (sortIn sort.Load (bookOf b)) (rulesFree (b .«row_rules»)) (sortIn sort.Row (bookOf b))
 
 tables-order : (r b q l d : Bool) → (r && b) && (q && l) && d ≡ r && q && (b && l && d && true)
 tables-order false b q l d = refl
@@ -95,8 +93,6 @@ tables-order true true true true true = refl
 pub tables-placed : (s : StoredTables) → placesOf (s .loads) ≤ mostPlaces → bookHeld (s .book) && loadsHeld (s .loads) && budgetIn (s .budget) ≡ keepsLimits s
 unfolding bookHeld loadsHeld keepsLimits limits tablesOf
 tables-placed s h =
-    let load-free = restFree zeroRule maxRules (s .book .«load_rules» .count) (s .book .«load_rules» .items) in
-    let row-free = restFree zeroRule maxRules (s .book .«row_rules» .count) (s .book .«row_rules» .items) in
-    let free = restFree zeroLoad (placesOf (s .loads)) (s .loads .count) (s .loads .items) in
     rw (le-leb (placesOf (s .loads)) mostPlaces h)
-    (tables-order (load-free && row-free) (bookIn (bookOf (s .book))) free (loadsIn (placesOf (s .loads)) (loadsOf (s .loads))) (budgetIn (s .budget)))
+    (tables-order (rulesFree (s .book .«load_rules») && rulesFree (s .book .«row_rules»)) (bookIn (bookOf (s .book))) (loadsFree (s .loads))
+    (loadsIn (placesOf (s .loads)) (loadsOf (s .loads))) (budgetIn (s .budget)))

@@ -17,9 +17,10 @@ use Rattle.tables.specs.declared.rule.RuleRange.{RuleRange}
 use Rattle.tables.specs.declared.rule.TransitionList.{TransitionList}
 use Rattle.tables.specs.declared.load.LoadList.{LoadList}
 use Rattle.tables.specs.declared.tables.StoredTables.{StoredTables}
-use Rattle.tables.specs.Tables.{Transition, Load, Tables, noRule, noLoad}
+use Rattle.tables.specs.declared.rule.Sort.the-variants as sort
+use Rattle.tables.specs.Tables.{Sort, Transition, Load, Tables, noRule, noLoad, rulesFor}
 use Rattle.tables.specs.Limits.{maxRules, ruleIn, sameRule, rulesIn, limits, Limits}
-use Rattle.tables.specs.Stored.{storedRules, storedLoads, storedBook, stored, rulesOf, loadsOf, placesOf, bookOf, tablesOf, zeroRule, zeroLoad, keepsLimits, Lengths, Holds}
+use Rattle.tables.specs.Stored.{storedRules, storedLoads, storedBook, stored, rulesOf, loadsOf, placesOf, bookOf, tablesOf, zeroRule, zeroLoad, rulesFree, loadsFree, keepsLimits, Lengths, Holds}
 use Rattle.tables.proofs.Parts.{limits-parts}
 
 -- the three numbers of a place that holds 0
@@ -51,13 +52,13 @@ loads-free : (n : ℕ) (ls : List Load) → length ls ≤ n → restFree zeroLoa
 unfolding zeroLoad
 loads-free n ls h = laid-free noLoad zeroLoad refl load-zero n ls h
 
-rules-laid : (l : TransitionList) → length (l .items) ≡ maxRules → restFree zeroRule maxRules (l .count) (l .items) ≡ true → l ≡ storedRules (rulesOf l)
+rules-laid : (l : TransitionList) → length (l .items) ≡ maxRules → rulesFree l ≡ true → l ≡ storedRules (rulesOf l)
 unfolding zeroRule
 rules-laid l e h =
     let count = taken-length noRule zeroRule maxRules (l .count) (l .items) e (free-few noRule zeroRule maxRules (l .count) (l .items) e h) in
     λ i. record { items = free-laid noRule zeroRule refl rule-zero maxRules (l .count) (l .items) e h i; count = sym count i }
 
-loads-laid : (l : LoadList) → restFree zeroLoad (placesOf l) (l .count) (l .items) ≡ true → l ≡ storedLoads (placesOf l) (loadsOf l)
+loads-laid : (l : LoadList) → loadsFree l ≡ true → l ≡ storedLoads (placesOf l) (loadsOf l)
 unfolding zeroLoad
 loads-laid l h =
     let n = placesOf l in
@@ -66,11 +67,8 @@ loads-laid l h =
 
 -- ---- tables that keep the limits
 module _ (t : Tables) (h : Limits t) where
-  load-rules-few : length (t .book .loadRules) ≤ maxRules
-  load-rules-few = rules-few _ (t .book .loadRules) (limits-parts t h .book .loadRules)
-
-  row-rules-few : length (t .book .rowRules) ≤ maxRules
-  row-rules-few = rules-few _ (t .book .rowRules) (limits-parts t h .book .rowRules)
+  few-rules : (k : Sort) → length (rulesFor (t .book) k) ≤ maxRules
+  few-rules k = rules-few _ (rulesFor (t .book) k) (limits-parts t h .book .rules k)
 
   pub tables-stored : tablesOf (stored t) ≡ t
   unfolding tablesOf bookOf stored storedBook
@@ -80,8 +78,8 @@ module _ (t : Tables) (h : Limits t) where
       stages = t .book .stages;
       starts = t .book .starts;
       ends = t .book .ends;
-      loadRules = take-laid noRule maxRules (t .book .loadRules) load-rules-few i;
-      rowRules = take-laid noRule maxRules (t .book .rowRules) row-rules-few i;
+      loadRules = take-laid noRule maxRules (t .book .loadRules) (few-rules sort.Load) i;
+      rowRules = take-laid noRule maxRules (t .book .rowRules) (few-rules sort.Row) i;
     };
     loads = take-laid noLoad (t .places) (t .loads) (limits-parts t h .few) i;
     budget = t .budget;
@@ -92,8 +90,8 @@ module _ (t : Tables) (h : Limits t) where
   unfolding keepsLimits stored storedBook
   stored-keeps =
       rw (
-        rules-free (t .book .loadRules) load-rules-few,
-        rules-free (t .book .rowRules) row-rules-few,
+        rules-free (t .book .loadRules) (few-rules sort.Load),
+        rules-free (t .book .rowRules) (few-rules sort.Row),
         length-laid noLoad (t .places) (t .loads),
         loads-free (t .places) (t .loads) (limits-parts t h .few),
         tables-stored,
@@ -105,13 +103,13 @@ module _ (s : StoredTables) (len : Lengths s) where
   pub keeps-stored : keepsLimits s ≡ true → (s ≡ stored (tablesOf s)) × Limits (tablesOf s)
   unfolding keepsLimits stored storedBook tablesOf bookOf
   keeps-stored h =
-      let load-free = restFree zeroRule maxRules (s .book .«load_rules» .count) (s .book .«load_rules» .items) in
-      let row-free = restFree zeroRule maxRules (s .book .«row_rules» .count) (s .book .«row_rules» .items) in
-      let free = restFree zeroLoad (placesOf (s .loads)) (s .loads .count) (s .loads .items) in
+      let load-free = rulesFree (s .book .«load_rules») in
+      let row-free = rulesFree (s .book .«row_rules») in
+      let free = loadsFree (s .loads) in
       let h3 = and-left (load-free && row-free && free) (limits (tablesOf s)) h in
       let h2 = and-left (load-free && row-free) free h3 in
-      let load-rules = rules-laid (s .book .«load_rules») (len .loadRules) (and-left load-free row-free h2) in
-      let row-rules = rules-laid (s .book .«row_rules») (len .rowRules) (and-right load-free row-free h2) in
+      let load-rules = rules-laid (s .book .«load_rules») (len .rules sort.Load) (and-left load-free row-free h2) in
+      let row-rules = rules-laid (s .book .«row_rules») (len .rules sort.Row) (and-right load-free row-free h2) in
       let loads = loads-laid (s .loads) (and-right (load-free && row-free) free h3) in (
         λ i. record {
           book = record {

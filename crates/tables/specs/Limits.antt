@@ -12,8 +12,11 @@ use Rattle.marks.specs.declared.Marks.{Marks}
 use Rattle.marks.specs.Sets.{setWidth}
 use Rattle.tables.specs.declared.rule.RuleRange.{RuleRange}
 use Rattle.tables.specs.declared.rule.Transition.{Transition}
+use Rattle.tables.specs.declared.rule.Sort.the-variants as sort
+use Rattle.tables.specs.declared.load.Figure.{Figure}
+use Rattle.tables.specs.declared.load.Figure.the-variants as figure
 use Rattle.tables.specs.declared.load.Load.{Load}
-use Rattle.tables.specs.Tables.{Book, Tables}
+use Rattle.tables.specs.Tables.{Sort, Book, Tables, sizeFor, marksFor, rulesFor}
 
 -- is x from a to b?
 abbrev pub between : ℕ → ℕ → ℕ → Bool
@@ -38,13 +41,13 @@ marksIn n m = ltb (m .0) (2 ^ n)
 unfoldable pub ruleIn : RuleRange → Transition → Bool
 ruleIn m r = between 1 (m .from) (r .from) && between (m .low) (m .high) (r .label) && between 1 (m .to) (r .to)
 
--- "Load rule (state, mark, stage)", mark 0 or 1
-abbrev pub loadRuleRange : (states stages : ℕ) → RuleRange
-loadRuleRange s g = record { from = s; low = 0; high = 1; to = g }
+-- "Load rule (state, mark, stage)", mark 0 or 1; "Row rule (stage, state, next stage)"
+abbrev pub ruleRange : (states stages : ℕ) → Sort → RuleRange
+ruleRange s g sort.Load = record { from = s; low = 0; high = 1; to = g }
+ruleRange s g sort.Row = record { from = g; low = 1; high = s; to = g }
 
--- "Row rule (stage, state, next stage)"
-abbrev pub rowRuleRange : (states stages : ℕ) → RuleRange
-rowRuleRange s g = record { from = g; low = 1; high = s; to = g }
+abbrev pub rangeFor : Book → Sort → RuleRange
+rangeFor b k = ruleRange (b .states) (b .stages) k
 
 unfoldable pub sameRule : Transition → Transition → Bool
 sameRule a b = eqb (a .from) (b .from) && eqb (a .label) (b .label) && eqb (a .to) (b .to)
@@ -56,13 +59,12 @@ maxRules = 32
 abbrev pub rulesIn : RuleRange → List Transition → Bool
 rulesIn m rs = limited (ruleIn m) sameRule maxRules rs
 
+-- what a book has of either sort is in range
+unfoldable pub sortIn : Sort → Book → Bool
+sortIn k b = marksIn (sizeFor b k) (marksFor b k) && rulesIn (rangeFor b k) (rulesFor b k)
+
 unfoldable pub bookIn : Book → Bool
-bookIn b =
-    sizeIn (b .states) (b .stages)
-    && marksIn (b .states) (b .starts)
-    && marksIn (b .stages) (b .ends)
-    && rulesIn (loadRuleRange (b .states) (b .stages)) (b .loadRules)
-    && rulesIn (rowRuleRange (b .states) (b .stages)) (b .rowRules)
+bookIn b = sizeIn (b .states) (b .stages) && sortIn sort.Load b && sortIn sort.Row b
 
 -- "Load 1 is the root with parent 0; each later load has a parent with a smaller number."
 abbrev pub parentIn : (number parent : ℕ) → Bool
@@ -80,17 +82,18 @@ maxWorth = 1000
 abbrev pub maxBudget : ℕ
 maxBudget = 500
 
-abbrev pub powerIn : ℕ → Bool
-powerIn w = leb w maxPower
+abbrev pub mostOf : Figure → ℕ
+mostOf figure.Power = maxPower
+mostOf figure.Worth = maxWorth
 
-abbrev pub worthIn : ℕ → Bool
-worthIn v = leb v maxWorth
+abbrev pub figureIn : Figure → ℕ → Bool
+figureIn f x = leb x (mostOf f)
 
 abbrev pub budgetIn : ℕ → Bool
 budgetIn b = leb b maxBudget
 
 unfoldable pub loadIn : (number : ℕ) → Load → Bool
-loadIn k l = parentIn k (l .parent) && powerIn (l .power) && worthIn (l .worth)
+loadIn k l = parentIn k (l .parent) && figureIn figure.Power (l .power) && figureIn figure.Worth (l .worth)
 
 -- "numbered 1 to 64": the code's limit. What is shown of tables holds for every limit up to the numbers that a set of loads can hold.
 abbrev pub maxLoads : ℕ

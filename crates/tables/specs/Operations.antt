@@ -2,6 +2,7 @@
 -- after it. It stands for the refusals 6 and 7 of "Causes and numbers" and for "an accepted line changes them as its row below says, a
 -- refused one not at all" of paper 01. On tables that keep the limits these are the changes on paper (proofs/Changes). Assumes nothing.
 use Prim.Native.Nat.{ℕ, zero, suc, _+_, _-_}
+use mathlib.Core.Bool.{Bool, false}
 use mathlib.Core.List.{List}
 use lib.Dec.{leb}
 use lib.ListN.{length, getD, set}
@@ -9,24 +10,30 @@ use Rattle.lists.specs.Tests.{pick, some}
 use Rattle.marks.specs.Bits.{within}
 use Rattle.marks.specs.declared.Marks.{Marks}
 use Rattle.marks.specs.Sets.{marked}
+use Rattle.tables.specs.declared.rule.Sort.the-variants as sort
 use Rattle.tables.specs.declared.rule.TransitionList.{TransitionList}
 use Rattle.tables.specs.declared.rule.Appended.{Appended}
+use Rattle.tables.specs.declared.load.Figure.{Figure}
 use Rattle.tables.specs.declared.load.LoadList.{LoadList}
 use Rattle.tables.specs.declared.load.LoadsAppended.{LoadsAppended}
 use Rattle.tables.specs.declared.tables.StoredBook.{StoredBook}
 use Rattle.tables.specs.declared.tables.StoredTables.{StoredTables}
 use Rattle.tables.specs.declared.tables.Changed.{Changed}
-use Rattle.tables.specs.Tables.{Transition, Load, noLoad, emptyBook}
+use Rattle.tables.specs.Refusals as no
+use Rattle.tables.specs.Tables.{Sort, Transition, Load, noLoad, emptyBook}
 use Rattle.tables.specs.Limits.{maxRules, sameRule}
-use Rattle.tables.specs.Stored.{rulesOf, loadsOf, placesOf, storedBook}
-use Rattle.tables.specs.Changes.{withPower, withWorth}
+use Rattle.tables.specs.Stored.{heldMarks, heldRules, rulesOf, loadsOf, placesOf, storedBook}
+use Rattle.tables.specs.Changes.{withFigure}
 
 -- "64 loads or 32 rules of that sort already": 6; "the same rule already in the book": 7; else 0
+abbrev pub addingNumber : (isFull isThere : Bool) → ℕ
+addingNumber isFull isThere = pick isFull no.full (pick isThere no.sameRule 0)
+
 unfoldable pub ruleNumber : List Transition → Transition → ℕ
-ruleNumber rs r = pick (leb maxRules (length rs)) 6 (pick (some (sameRule r) rs) 7 0)
+ruleNumber rs r = addingNumber (leb maxRules (length rs)) (some (sameRule r) rs)
 
 unfoldable pub loadNumber : (places : ℕ) → List Load → ℕ
-loadNumber n ls = pick (leb n (length ls)) 6 0
+loadNumber n ls = addingNumber (leb n (length ls)) false
 
 -- what is new where the number is 0, else what was
 abbrev pub accepted : {A : Type 0} → ℕ → A → A → A
@@ -51,11 +58,8 @@ loadAt l k = pick (within (placesOf l) k) (getD (l .items) (k - 1) noLoad) noLoa
 unfoldable pub loadReplaced : LoadList → (number : ℕ) → Load → LoadList
 loadReplaced l k x = pick (within (placesOf l) k) (record { items = set (l .items) (k - 1) x; count = l .count }) l
 
-unfoldable pub powerSet : LoadList → (number watts : ℕ) → LoadList
-powerSet l k w = loadReplaced l k (withPower (loadAt l k) w)
-
-unfoldable pub worthSet : LoadList → (number figure : ℕ) → LoadList
-worthSet l k v = loadReplaced l k (withWorth (loadAt l k) v)
+unfoldable pub figureSet : LoadList → Figure → (number value : ℕ) → LoadList
+figureSet l f k x = loadReplaced l k (withFigure f (loadAt l k) x)
 
 -- ---- tables in a planner, with a part anew
 abbrev pub putBook : StoredTables → StoredBook → StoredTables
@@ -64,44 +68,30 @@ putBook s b = record { book = b; loads = s .loads; budget = s .budget }
 abbrev pub putLoads : StoredTables → LoadList → StoredTables
 putLoads s l = record { book = s .book; loads = l; budget = s .budget }
 
-abbrev pub putStarts : StoredBook → Marks → StoredBook
-putStarts b m = record { states = b .states; stages = b .stages; starts = m; ends = b .ends; «load_rules» = b .«load_rules»; «row_rules» = b .«row_rules» }
+abbrev pub putMarks : Sort → StoredBook → Marks → StoredBook
+putMarks sort.Load b m = record { states = b .states; stages = b .stages; starts = m; ends = b .ends; «load_rules» = b .«load_rules»; «row_rules» = b .«row_rules» }
+putMarks sort.Row b m = record { states = b .states; stages = b .stages; starts = b .starts; ends = m; «load_rules» = b .«load_rules»; «row_rules» = b .«row_rules» }
 
-abbrev pub putEnds : StoredBook → Marks → StoredBook
-putEnds b m = record { states = b .states; stages = b .stages; starts = b .starts; ends = m; «load_rules» = b .«load_rules»; «row_rules» = b .«row_rules» }
-
-abbrev pub putLoadRules : StoredBook → TransitionList → StoredBook
-putLoadRules b l = record { states = b .states; stages = b .stages; starts = b .starts; ends = b .ends; «load_rules» = l; «row_rules» = b .«row_rules» }
-
-abbrev pub putRowRules : StoredBook → TransitionList → StoredBook
-putRowRules b l = record { states = b .states; stages = b .stages; starts = b .starts; ends = b .ends; «load_rules» = b .«load_rules»; «row_rules» = l }
+abbrev pub putRules : Sort → StoredBook → TransitionList → StoredBook
+putRules sort.Load b l = record { states = b .states; stages = b .stages; starts = b .starts; ends = b .ends; «load_rules» = l; «row_rules» = b .«row_rules» }
+putRules sort.Row b l = record { states = b .states; stages = b .stages; starts = b .starts; ends = b .ends; «load_rules» = b .«load_rules»; «row_rules» = l }
 
 -- ---- the operations
 unfoldable pub bookBegun : StoredTables → (states stages : ℕ) → StoredTables
 bookBegun s q g = putBook s (storedBook (emptyBook q g))
 
-unfoldable pub startMarked : StoredTables → (state : ℕ) → StoredTables
-startMarked s q = putBook s (putStarts (s .book) (marked (s .book .starts) q))
+unfoldable pub markSet : StoredTables → Sort → (number : ℕ) → StoredTables
+markSet s k q = putBook s (putMarks k (s .book) (marked (heldMarks (s .book) k) q))
 
-unfoldable pub endMarked : StoredTables → (stage : ℕ) → StoredTables
-endMarked s g = putBook s (putEnds (s .book) (marked (s .book .ends) g))
-
-unfoldable pub loadRuleAdded : StoredTables → Transition → Changed
-loadRuleAdded s r =
-    let a = appended (s .book .«load_rules») r in record { number = a .number; tables = putBook s (putLoadRules (s .book) (a .list)) }
-
-unfoldable pub rowRuleAdded : StoredTables → Transition → Changed
-rowRuleAdded s r =
-    let a = appended (s .book .«row_rules») r in record { number = a .number; tables = putBook s (putRowRules (s .book) (a .list)) }
+unfoldable pub ruleAdded : StoredTables → Sort → Transition → Changed
+ruleAdded s k r =
+    let a = appended (heldRules (s .book) k) r in record { number = a .number; tables = putBook s (putRules k (s .book) (a .list)) }
 
 unfoldable pub loadAdded : StoredTables → Load → Changed
 loadAdded s x = let a = loadAppended (s .loads) x in record { number = a .number; tables = putLoads s (a .list) }
 
-unfoldable pub powerChanged : StoredTables → (number watts : ℕ) → StoredTables
-powerChanged s k w = putLoads s (powerSet (s .loads) k w)
-
-unfoldable pub worthChanged : StoredTables → (number figure : ℕ) → StoredTables
-worthChanged s k v = putLoads s (worthSet (s .loads) k v)
+unfoldable pub figureChanged : StoredTables → Figure → (number value : ℕ) → StoredTables
+figureChanged s f k x = putLoads s (figureSet (s .loads) f k x)
 
 unfoldable pub budgetChanged : StoredTables → ℕ → StoredTables
 budgetChanged s w = record { book = s .book; loads = s .loads; budget = w }

@@ -3,14 +3,14 @@
 use Prim.Native.Nat.{ℕ, suc}
 use mathlib.Core.Bool.{Bool, _&&_}
 use lib.ListN.{getD}
-use Rattle.lists.specs.Places.{place, restFree, alone}
+use Rattle.lists.specs.Places.{place, alone}
 use Rattle.tables.specs.declared.rule.RuleRange.{RuleRange}
 use Rattle.tables.specs.declared.rule.TransitionList.{TransitionList}
 use Rattle.tables.specs.declared.load.LoadList.{LoadList}
 use Rattle.tables.specs.declared.tables.StoredBook.{StoredBook}
-use Rattle.tables.specs.Tables.{noRule, noLoad}
-use Rattle.tables.specs.Limits.{maxRules, ruleIn, sameRule, rulesIn, bookIn, loadIn, loadsIn}
-use Rattle.tables.specs.Stored.{rulesOf, loadsOf, placesOf, bookOf, zeroRule, zeroLoad}
+use Rattle.tables.specs.Tables.{Sort, noRule, noLoad}
+use Rattle.tables.specs.Limits.{ruleIn, sameRule, rulesIn, sortIn, bookIn, loadIn, loadsIn}
+use Rattle.tables.specs.Stored.{heldRules, rulesOf, loadsOf, placesOf, bookOf, zeroRule, zeroLoad, rulesFree, loadsFree}
 
 -- place i holds a rule in range that is not there again further on, or is unused and holds 0
 unfoldable pub rulePlace : RuleRange → TransitionList → ℕ → Bool
@@ -22,13 +22,13 @@ loadPlace l = place (l .count) (λ i. loadIn (suc i) (getD (l .items) i noLoad))
 
 -- the rules in use keep their limits, and the other places hold 0
 unfoldable pub rulesHeld : RuleRange → TransitionList → Bool
-rulesHeld m l = restFree zeroRule maxRules (l .count) (l .items) && rulesIn m (rulesOf l)
+rulesHeld m l = rulesFree l && rulesIn m (rulesOf l)
 
 unfoldable pub loadsHeld : LoadList → Bool
-loadsHeld l = restFree zeroLoad (placesOf l) (l .count) (l .items) && loadsIn (placesOf l) (loadsOf l)
+loadsHeld l = loadsFree l && loadsIn (placesOf l) (loadsOf l)
+
+unfoldable pub sortHeld : Sort → StoredBook → Bool
+sortHeld k b = rulesFree (heldRules b k) && sortIn k (bookOf b)
 
 unfoldable pub bookHeld : StoredBook → Bool
-bookHeld b =
-    restFree zeroRule maxRules (b .«load_rules» .count) (b .«load_rules» .items)
-    && restFree zeroRule maxRules (b .«row_rules» .count) (b .«row_rules» .items)
-    && bookIn (bookOf b)
+bookHeld b = rulesFree (b .«load_rules») && rulesFree (b .«row_rules») && bookIn (bookOf b)

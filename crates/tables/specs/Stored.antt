@@ -8,14 +8,29 @@ use lib.Dec.{eqb}
 use lib.ListN.{length, take}
 use Rattle.lists.specs.Arrays.{laid}
 use Rattle.lists.specs.Places.{restFree}
+use Rattle.marks.specs.declared.Marks.{Marks}
+use Rattle.tables.specs.declared.rule.Sort.the-variants as sort
 use Rattle.tables.specs.declared.rule.TransitionList.{TransitionList}
 use Rattle.tables.specs.declared.load.LoadList.{LoadList}
 use Rattle.tables.specs.declared.tables.StoredBook.{StoredBook}
 use Rattle.tables.specs.declared.tables.StoredTables.{StoredTables}
 use Rattle.tables.specs.declared.rule.Transition.{Transition}
 use Rattle.tables.specs.declared.load.Load.{Load}
-use Rattle.tables.specs.Tables.{Book, Tables, noRule, noLoad}
+use Rattle.tables.specs.Tables.{Sort, Book, Tables, noRule, noLoad}
 use Rattle.tables.specs.Limits.{maxRules, limits, Limits}
+
+-- what a book in a planner has of either sort
+abbrev pub heldSize : StoredBook → Sort → ℕ
+heldSize b sort.Load = b .states
+heldSize b sort.Row = b .stages
+
+abbrev pub heldMarks : StoredBook → Sort → Marks
+heldMarks b sort.Load = b .starts
+heldMarks b sort.Row = b .ends
+
+abbrev pub heldRules : StoredBook → Sort → TransitionList
+heldRules b sort.Load = b .«load_rules»
+heldRules b sort.Row = b .«row_rules»
 
 -- where the tables lie; "unused places hold 0"
 abbrev pub storedRules : List Transition → TransitionList
@@ -63,8 +78,7 @@ tablesOf s = record { book = bookOf (s .book); loads = loadsOf (s .loads); budge
 
 -- the arrays of rules have the lengths that their types give them
 pub record Lengths (s : StoredTables) : Type 0 where
-  pub loadRules : length (s .book .«load_rules» .items) ≡ maxRules
-  pub rowRules : length (s .book .«row_rules» .items) ≡ maxRules
+  pub rules : (k : Sort) → length (heldRules (s .book) k .items) ≡ maxRules
 
 -- "unused places hold 0"
 unfoldable pub zeroRule : Transition → Bool
@@ -73,13 +87,15 @@ zeroRule r = eqb (r .from) 0 && eqb (r .label) 0 && eqb (r .to) 0
 unfoldable pub zeroLoad : Load → Bool
 zeroLoad l = eqb (l .parent) 0 && eqb (l .power) 0 && eqb (l .worth) 0
 
+abbrev pub rulesFree : TransitionList → Bool
+rulesFree l = restFree zeroRule maxRules (l .count) (l .items)
+
+abbrev pub loadsFree : LoadList → Bool
+loadsFree l = restFree zeroLoad (placesOf l) (l .count) (l .items)
+
 -- do tables that are handed in keep the limits?
 unfoldable pub keepsLimits : StoredTables → Bool
-keepsLimits s =
-    restFree zeroRule maxRules (s .book .«load_rules» .count) (s .book .«load_rules» .items)
-    && restFree zeroRule maxRules (s .book .«row_rules» .count) (s .book .«row_rules» .items)
-    && restFree zeroLoad (placesOf (s .loads)) (s .loads .count) (s .loads .items)
-    && limits (tablesOf s)
+keepsLimits s = rulesFree (s .book .«load_rules») && rulesFree (s .book .«row_rules») && loadsFree (s .loads) && limits (tablesOf s)
 
 -- they hold tables that keep the limits, with so many places for loads
 abbrev pub Holds : (places : ℕ) → StoredTables → Type 0

@@ -4,6 +4,8 @@
 use Prim.Native.Nat.{ℕ}
 use mathlib.Core.List.{List, []}
 use Rattle.marks.specs.declared.Marks.{Marks}
+pub use Rattle.tables.specs.declared.rule.Sort.{Sort}
+use Rattle.tables.specs.declared.rule.Sort.the-variants as sort
 pub use Rattle.tables.specs.declared.rule.Transition.{Transition}
 pub use Rattle.tables.specs.declared.load.Load.{Load}
 
@@ -16,6 +18,20 @@ pub record Book : Type 0 where
   pub ends : Marks
   pub loadRules : List Transition
   pub rowRules : List Transition
+
+-- "A state belongs to a load, a stage to a place in a row of children." What a book has of either sort: how many states or stages, the start
+-- states or the end stages, the load rules or the row rules.
+abbrev pub sizeFor : Book → Sort → ℕ
+sizeFor b sort.Load = b .states
+sizeFor b sort.Row = b .stages
+
+abbrev pub marksFor : Book → Sort → Marks
+marksFor b sort.Load = b .starts
+marksFor b sort.Row = b .ends
+
+abbrev pub rulesFor : Book → Sort → List Transition
+rulesFor b sort.Load = b .loadRules
+rulesFor b sort.Row = b .rowRules
 
 -- the loads are "numbered 1 to 64 in order of entry": 64 is `places`, the limit of loads, which no line changes
 pub record Tables : Type 0 where

@@ -5,11 +5,12 @@ ghost use mathlib.Core.Bool.{true};
 ghost use mathlib.Core.Logic.{_↔_};
 ghost use Rattle.tables.specs.Limits.{sizeIn, marksIn, maxRules, maxLoads};
 ghost use Rattle.tables.specs.Stored.{keepsLimits, Holds};
-ghost use Rattle.tables.specs.Places.{rulePlace, rulesHeld, loadPlace, loadsHeld, bookHeld};
+ghost use Rattle.tables.specs.Places.{rulePlace, rulesHeld, loadPlace, loadsHeld, sortHeld, bookHeld};
 use crate::load::LoadList;
 use crate::load::MAX_LOADS;
 use crate::rule::MAX_RULES;
 use crate::rule::RuleRange;
+use crate::rule::Sort;
 use crate::rule::TransitionList;
 use crate::tables::StoredBook;
 use crate::tables::StoredTables;
@@ -84,18 +85,19 @@ impl LoadList {
 }
 
 impl StoredBook {
+    // Do the marks and the rules of this sort keep the limits?
+    fn sort_keeps(self, sort: Sort) -> bool
+        ensures { λ r. ⌜ r ≡ sortHeld sort self ⌝ }
+    {
+        let range = RuleRange::of(sort, self.states, self.stages);
+        let rules = self.rules(sort);
+        marks_in(self.size(sort), self.marks(sort)) & rules.keeps_limits(range)
+    }
+
     pub(crate) fn keeps_limits(self) -> bool
         ensures { λ r. ⌜ r ≡ bookHeld self ⌝ }
     {
-        let states = self.states;
-        let stages = self.stages;
-        let load_rules = RuleRange::of_load_rules(states, stages);
-        let row_rules = RuleRange::of_row_rules(states, stages);
-        size_in(states, stages)
-            & marks_in(states, self.starts)
-            & marks_in(stages, self.ends)
-            & self.load_rules.keeps_limits(load_rules)
-            & self.row_rules.keeps_limits(row_rules)
+        size_in(self.states, self.stages) & self.sort_keeps(Sort::Load) & self.sort_keeps(Sort::Row)
     }
 }
 

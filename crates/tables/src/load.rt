@@ -1,8 +1,9 @@
 // Loads, and the list of them.
 ghost use mathlib.Core.Path.{_≡_};
-ghost use Rattle.tables.specs.Limits.{loadIn};
+ghost use Rattle.tables.specs.Limits.{loadIn, mostOf};
 ghost use Rattle.tables.specs.Stored.{zeroLoad};
-ghost use Rattle.tables.specs.Operations.{loadAppended, loadAt, loadReplaced, powerSet, worthSet};
+ghost use Rattle.tables.specs.Changes.{withFigure};
+ghost use Rattle.tables.specs.Operations.{loadAppended, loadAt, loadReplaced, figureSet};
 use crate::refusal::FULL;
 
 pub const MAX_LOADS: usize = 64;
@@ -10,6 +11,12 @@ pub const MAX_LOADS: usize = 64;
 pub const MAX_POWER: u16 = 500;
 
 pub const MAX_WORTH: u16 = 1000;
+
+// A figure of a load that a line can set.
+pub enum Figure {
+    Power,
+    Worth,
+}
 
 // A load: the number of its parent, its power in watts and its worth.
 #[repr(C)]
@@ -30,6 +37,18 @@ pub struct LoadList {
 pub struct LoadsAppended {
     pub number: u8,
     pub list: LoadList,
+}
+
+impl Figure {
+    // The greatest that it may be.
+    pub fn most(self) -> u16
+        ensures { λ r. ⌜ r ≡ mostOf self ⌝ }
+    {
+        match self {
+            Figure::Power => MAX_POWER,
+            Figure::Worth => MAX_WORTH,
+        }
+    }
 }
 
 impl Load {
@@ -54,6 +73,24 @@ impl Load {
         let root = (number == 1) & (parent == 0);
         let child = (1 <= parent) & (parent < number);
         (root | child) & (self.power <= MAX_POWER) & (self.worth <= MAX_WORTH)
+    }
+
+    // The load with another figure.
+    pub(crate) fn with_figure(self, figure: Figure, value: u16) -> Load
+        ensures { λ r. ⌜ r ≡ withFigure figure self value ⌝ }
+    {
+        match figure {
+            Figure::Power => Load {
+                parent: self.parent,
+                power: value,
+                worth: self.worth,
+            },
+            Figure::Worth => Load {
+                parent: self.parent,
+                power: self.power,
+                worth: value,
+            },
+        }
     }
 }
 
@@ -111,19 +148,10 @@ impl LoadList {
         next
     }
 
-    pub(crate) fn set_power(self, number: usize, watts: u16) -> LoadList
-        ensures { λ r. ⌜ r ≡ powerSet self number watts ⌝ }
+    pub(crate) fn set_figure(self, figure: Figure, number: usize, value: u16) -> LoadList
+        ensures { λ r. ⌜ r ≡ figureSet self figure number value ⌝ }
     {
-        let mut load = self.load(number);
-        load.power = watts;
-        self.replace(number, load)
-    }
-
-    pub(crate) fn set_worth(self, number: usize, figure: u16) -> LoadList
-        ensures { λ r. ⌜ r ≡ worthSet self number figure ⌝ }
-    {
-        let mut load = self.load(number);
-        load.worth = figure;
-        self.replace(number, load)
+        let load = self.load(number);
+        self.replace(number, load.with_figure(figure, value))
     }
 }

@@ -2,13 +2,20 @@
 ghost use mathlib.Core.Path.{_≡_};
 ghost use Rattle.lists.specs.Tests.{some};
 ghost use Rattle.lists.specs.Arrays.{rest};
-ghost use Rattle.tables.specs.Limits.{ruleIn, loadRuleRange, rowRuleRange, sameRule};
+ghost use Rattle.tables.specs.Limits.{ruleIn, ruleRange, sameRule};
 ghost use Rattle.tables.specs.Stored.{zeroRule};
 ghost use Rattle.tables.specs.Operations.{appended};
 use crate::refusal::FULL;
 use crate::refusal::SAME_RULE;
 
 pub const MAX_RULES: usize = 32;
+
+// "A state belongs to a load, a stage to a place in a row of children": what a book has of either sort, a number of states with start marks
+// and load rules, a number of stages with end marks and row rules.
+pub enum Sort {
+    Load,
+    Row,
+}
 
 // A transition of the tree automaton. A load rule is (state, mark, stage), a row rule (stage, state, next stage).
 #[repr(C)]
@@ -61,27 +68,23 @@ impl Transition {
 }
 
 impl RuleRange {
-    // A load rule: state, mark 0 or 1, stage.
-    pub fn of_load_rules(states: u8, stages: u8) -> RuleRange
-        ensures { λ r. ⌜ r ≡ loadRuleRange states stages ⌝ }
+    // A load rule is state, mark 0 or 1, stage; a row rule is stage, state, next stage.
+    pub fn of(sort: Sort, states: u8, stages: u8) -> RuleRange
+        ensures { λ r. ⌜ r ≡ ruleRange states stages sort ⌝ }
     {
-        RuleRange {
-            from: states,
-            low: 0,
-            high: 1,
-            to: stages,
-        }
-    }
-
-    // A row rule: stage, state, next stage.
-    pub fn of_row_rules(states: u8, stages: u8) -> RuleRange
-        ensures { λ r. ⌜ r ≡ rowRuleRange states stages ⌝ }
-    {
-        RuleRange {
-            from: stages,
-            low: 1,
-            high: states,
-            to: stages,
+        match sort {
+            Sort::Load => RuleRange {
+                from: states,
+                low: 0,
+                high: 1,
+                to: stages,
+            },
+            Sort::Row => RuleRange {
+                from: stages,
+                low: 1,
+                high: states,
+                to: stages,
+            },
         }
     }
 

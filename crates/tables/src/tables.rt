@@ -2,10 +2,12 @@
 ghost use mathlib.Core.Path.{_≡_};
 ghost use Rattle.tables.specs.Tables.{fresh, emptyBook};
 ghost use Rattle.tables.specs.Limits.{maxLoads};
-ghost use Rattle.tables.specs.Stored.{storedBook, stored};
-ghost use Rattle.tables.specs.Operations.{putBook, putLoads, bookBegun, startMarked, endMarked, loadRuleAdded, rowRuleAdded, loadAdded, powerChanged, worthChanged, budgetChanged};
+ghost use Rattle.tables.specs.Stored.{storedBook, stored, heldSize, heldMarks, heldRules};
+ghost use Rattle.tables.specs.Operations.{putBook, putLoads, putMarks, putRules, bookBegun, markSet, ruleAdded, loadAdded, figureChanged, budgetChanged};
+use crate::load::Figure;
 use crate::load::Load;
 use crate::load::LoadList;
+use crate::rule::Sort;
 use crate::rule::Transition;
 use crate::rule::TransitionList;
 use marks::Marks;
@@ -49,6 +51,66 @@ impl StoredBook {
             row_rules: TransitionList::EMPTY,
         }
     }
+
+    // How many states, or stages.
+    pub fn size(self, sort: Sort) -> u8
+        ensures { λ r. ⌜ r ≡ heldSize self sort ⌝ }
+    {
+        match sort {
+            Sort::Load => self.states,
+            Sort::Row => self.stages,
+        }
+    }
+
+    // The start states, or the end stages.
+    pub(crate) fn marks(self, sort: Sort) -> Marks
+        ensures { λ r. ⌜ r ≡ heldMarks self sort ⌝ }
+    {
+        match sort {
+            Sort::Load => self.starts,
+            Sort::Row => self.ends,
+        }
+    }
+
+    // The load rules, or the row rules.
+    pub(crate) fn rules(self, sort: Sort) -> TransitionList
+        ensures { λ r. ⌜ r ≡ heldRules self sort ⌝ }
+    {
+        match sort {
+            Sort::Load => self.load_rules,
+            Sort::Row => self.row_rules,
+        }
+    }
+
+    fn with_marks(self, sort: Sort, marks: Marks) -> StoredBook
+        ensures { λ r. ⌜ r ≡ putMarks sort self marks ⌝ }
+    {
+        let mut next = self;
+        match sort {
+            Sort::Load => {
+                next.starts = marks;
+            }
+            Sort::Row => {
+                next.ends = marks;
+            }
+        }
+        next
+    }
+
+    fn with_rules(self, sort: Sort, rules: TransitionList) -> StoredBook
+        ensures { λ r. ⌜ r ≡ putRules sort self rules ⌝ }
+    {
+        let mut next = self;
+        match sort {
+            Sort::Load => {
+                next.load_rules = rules;
+            }
+            Sort::Row => {
+                next.row_rules = rules;
+            }
+        }
+        next
+    }
 }
 
 impl StoredTables {
@@ -86,45 +148,26 @@ impl StoredTables {
         self.with_book(StoredBook::empty(states, stages))
     }
 
-    pub fn mark_start(self, state: usize) -> StoredTables
-        ensures { λ r. ⌜ r ≡ startMarked self state ⌝ }
+    // One more start state, or end stage.
+    pub fn mark(self, sort: Sort, number: usize) -> StoredTables
+        ensures { λ r. ⌜ r ≡ markSet self sort number ⌝ }
     {
-        let mut book = self.book;
-        book.starts = book.starts.with(state);
-        self.with_book(book)
+        let book = self.book;
+        let marks = book.marks(sort);
+        self.with_book(book.with_marks(sort, marks.with(number)))
     }
 
-    pub fn mark_end(self, stage: usize) -> StoredTables
-        ensures { λ r. ⌜ r ≡ endMarked self stage ⌝ }
+    // One more load rule, or row rule.
+    pub fn add_rule(self, sort: Sort, t: Transition) -> Changed
+        ensures { λ r. ⌜ r ≡ ruleAdded self sort t ⌝ }
     {
-        let mut book = self.book;
-        book.ends = book.ends.with(stage);
-        self.with_book(book)
-    }
-
-    pub fn add_load_rule(self, t: Transition) -> Changed
-        ensures { λ r. ⌜ r ≡ loadRuleAdded self t ⌝ }
-    {
-        let mut book = self.book;
-        let a = book.load_rules.append(t);
+        let book = self.book;
+        let rules = book.rules(sort);
+        let a = rules.append(t);
         let list = a.list;
-        book.load_rules = list;
         Changed {
             number: a.number,
-            tables: self.with_book(book),
-        }
-    }
-
-    pub fn add_row_rule(self, t: Transition) -> Changed
-        ensures { λ r. ⌜ r ≡ rowRuleAdded self t ⌝ }
-    {
-        let mut book = self.book;
-        let a = book.row_rules.append(t);
-        let list = a.list;
-        book.row_rules = list;
-        Changed {
-            number: a.number,
-            tables: self.with_book(book),
+            tables: self.with_book(book.with_rules(sort, list)),
         }
     }
 
@@ -139,18 +182,11 @@ impl StoredTables {
         }
     }
 
-    // Another power of the load of this number.
-    pub fn set_power(self, number: usize, watts: u16) -> StoredTables
-        ensures { λ r. ⌜ r ≡ powerChanged self number watts ⌝ }
+    // Another figure of the load of this number.
+    pub fn set_figure(self, figure: Figure, number: usize, value: u16) -> StoredTables
+        ensures { λ r. ⌜ r ≡ figureChanged self figure number value ⌝ }
     {
-        self.with_loads(self.loads.set_power(number, watts))
-    }
-
-    // Another worth of the load of this number.
-    pub fn set_worth(self, number: usize, figure: u16) -> StoredTables
-        ensures { λ r. ⌜ r ≡ worthChanged self number figure ⌝ }
-    {
-        self.with_loads(self.loads.set_worth(number, figure))
+        self.with_loads(self.loads.set_figure(figure, number, value))
     }
 
     pub fn set_budget(self, watts: u16) -> StoredTables

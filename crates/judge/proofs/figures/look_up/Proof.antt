@@ -7,6 +7,7 @@ use borrow.Author.Needs.{needs}
 use lib.ListN.{length, getD}
 use lib.Seq.{getD-take}
 use Rattle.lists.proofs.Arrays.{of-map}
+use Rattle.tables.specs.declared.rule.Sort.the-variants as sort
 use Rattle.tables.specs.declared.rule.TransitionList.{TransitionList}
 use Rattle.tables.specs.declared.load.LoadList.{LoadList}
 use Rattle.tables.specs.Tables.{noLoad}
@@ -56,7 +57,7 @@ step-of-requires : tie.Need-step-of-requires Inv-loop μ-loop
 step-of-requires c κs =
     let s = c .before .before .before .before .before .before .before .before .before in
     let k = kept (s .args .t) (s .pre .0) in
-    (k .loadRules, k .rowRules)
+    (k .rules sort.Load, k .rules sort.Row)
 
 loop-again : tie.Need-loop-again Inv-loop μ-loop
 loop-again c =

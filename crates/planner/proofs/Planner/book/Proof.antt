@@ -1,11 +1,10 @@
 -- `Planner::book` meets its contract. Assumes nothing.
-use mathlib.Core.Path.{_≡_, refl, sym, ap, _∙_}
+use mathlib.Core.Path.{_≡_, sym, ap, _∙_}
 use mathlib.Core.Bool.{true, _&&_}
 use mathlib.Core.List.{[]}
 use native.Mathlib.Omega.{arith}
 use borrow.Author.Needs.{needs}
 use borrow.Author.Tests.{not-true, not-false}
-use Rattle.lines.specs.declared.Change.the-variants.{Book}
 use Rattle.tables.specs.declared.tables.StoredTables.{StoredTables}
 use Rattle.tables.specs.Limits.{bookSize}
 use Rattle.tables.specs.Stored.{tablesOf}
@@ -29,7 +28,7 @@ unfolding changing
 returns c =
     let k = c .before .before in
     let s = k .before .before .args in
-    out-of-range (s .self) (k .before .before .pre) (Book (s .states) (s .stages)) (bookSize (s .states) (s .stages)) [] refl
+    out-of-range (s .self) (k .before .before .pre) (bookSize (s .states) (s .stages)) [] _
     (sym (tested k) ∙ not-true _ (c .before .if1 .taken)) (c .settled .ensures)
 
 cast-new-book : tie.Need-cast-new-book
@@ -44,7 +43,7 @@ returns-2 c =
     let k = c .before .before in
     let e = k .before .before .before in
     let s = e .args .self .tables in
-    accepts (e .args .self) (e .pre) (Book (e .args .states) (e .args .stages)) (bookSize (e .args .states) (e .args .stages)) refl (passed k)
+    accepts (e .args .self) (e .pre) (bookSize (e .args .states) (e .args .stages)) _ (passed k)
     _ (c .before .new-book .ensures ∙ ap (λ (x : StoredTables). bookBegun x (e .args .states) (e .args .stages)) (is-stored s (e .pre .tables)) ∙ book-begun (tablesOf s) (e .args .states) (e .args .stages))
     (c .settled2 .ensures)
 

@@ -1,11 +1,10 @@
 -- `Planner::budget` meets its contract. Assumes nothing.
-use mathlib.Core.Path.{refl, ap, _∙_}
+use mathlib.Core.Path.{ap, _∙_}
 use mathlib.Core.List.{[]}
 use borrow.Author.Needs.{needs}
 use borrow.Author.Tests.{le-leb, lt-leb}
-use Rattle.lines.specs.declared.Change.the-variants.{Budget}
 use Rattle.tables.specs.declared.tables.StoredTables.{StoredTables}
-use Rattle.tables.specs.Limits.{budgetIn}
+use Rattle.tables.specs.Limits.{maxBudget, budgetIn}
 use Rattle.tables.specs.Stored.{tablesOf}
 use Rattle.tables.specs.Operations.{budgetChanged}
 use Rattle.tables.proofs.Changes.{budget-changed}
@@ -20,7 +19,7 @@ unfolding changing
 returns c =
     let e = c .before .before in
     let w = e .args .watts in
-    out-of-range (e .args .self) (e .pre) (Budget w) (budgetIn w) [] refl (lt-leb w 500 (c .before .if1 .taken)) (c .settled .ensures)
+    out-of-range (e .args .self) (e .pre) (budgetIn w) [] _ (lt-leb w maxBudget (c .before .if1 .taken)) (c .settled .ensures)
 
 returns-2 : tie.Need-returns-2
 unfolding changing
@@ -28,7 +27,7 @@ returns-2 c =
     let e = c .before .before .before in
     let s = e .args .self .tables in
     let w = e .args .watts in
-    accepts (e .args .self) (e .pre) (Budget w) (budgetIn w) refl (le-leb w 500 (c .before .before .if1 .left))
+    accepts (e .args .self) (e .pre) (budgetIn w) _ (le-leb w maxBudget (c .before .before .if1 .left))
     _ (c .before .set-budget .ensures ∙ ap (λ (x : StoredTables). budgetChanged x w) (is-stored s (e .pre .tables)) ∙ budget-changed (tablesOf s) w) (c .settled2 .ensures)
 
 pub budget-spec : {M : Type 1} → statement M

@@ -1,5 +1,6 @@
 -- `Planner::change` meets its contract: a case for each change. Assumes nothing.
 use borrow.Author.Needs.{needs}
+use Rattle.calls.specs.Rows.{changing}
 use Rattle.planner.proofs.Planner.change.Statement.{statement}
 use Rattle.planner.proofs.Planner.change.Tie as tie
 
@@ -10,25 +11,31 @@ returns-2 : tie.Need-returns-2
 returns-2 c = rw (c .before .before .c .given .1) (c .book .ensures)
 
 returns-3 : tie.Need-returns-3
-returns-3 c = rw (c .before .before .c2 .given .1) (c .start .ensures)
+unfolding changing
+returns-3 c = rw (c .before .before .c2 .given .1) (c .mark .ensures)
 
 returns-4 : tie.Need-returns-4
-returns-4 c = rw (c .before .before .c3 .given .1) (c .end .ensures)
+unfolding changing
+returns-4 c = rw (c .before .before .c3 .given .1) (c .mark2 .ensures)
 
 returns-5 : tie.Need-returns-5
-returns-5 c = rw (c .before .before .c4 .given .1) (c .rule .ensures)
+unfolding changing
+returns-5 c = rw (c .before .before .c4 .given .1) (c .add-rule .ensures)
 
 returns-6 : tie.Need-returns-6
-returns-6 c = rw (c .before .before .c5 .given .1) (c .row .ensures)
+unfolding changing
+returns-6 c = rw (c .before .before .c5 .given .1) (c .add-rule2 .ensures)
 
 returns-7 : tie.Need-returns-7
 returns-7 c = rw (c .before .before .c6 .given .1) (c .load .ensures)
 
 returns-8 : tie.Need-returns-8
-returns-8 c = rw (c .before .before .c7 .given .1) (c .power .ensures)
+unfolding changing
+returns-8 c = rw (c .before .before .c7 .given .1) (c .set-figure .ensures)
 
 returns-9 : tie.Need-returns-9
-returns-9 c = rw (c .before .before .c8 .given .1) (c .worth .ensures)
+unfolding changing
+returns-9 c = rw (c .before .before .c8 .given .1) (c .set-figure2 .ensures)
 
 returns-10 : tie.Need-returns-10
 returns-10 c = rw (c .before .before .c9 .given .1) (c .budget .ensures)

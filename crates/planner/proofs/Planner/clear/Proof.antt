@@ -7,12 +7,12 @@ use Rattle.tables.specs.Stored.{stored}
 use Rattle.calls.specs.Rows.{changing}
 use Rattle.calls.specs.Causes.{lowest}
 use Rattle.calls.proofs.State.{places}
-use Rattle.planner.specs.Changes.{settled, changedBy}
+use Rattle.planner.specs.Changes.{settled, madeBy}
 use Rattle.planner.proofs.Planner.clear.Statement.{statement}
 use Rattle.planner.proofs.Planner.clear.Tie as tie
 
 returns : tie.Need-returns
-unfolding changedBy changing lowest
+unfolding madeBy changing lowest
 returns c =
     let e = c .before .before in
     let p = e .args .self in

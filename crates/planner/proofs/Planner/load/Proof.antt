@@ -1,6 +1,6 @@
 -- `Planner::load` meets its contract. Assumes nothing.
 use Prim.Native.Nat.{ℕ, suc}
-use mathlib.Core.Path.{_≡_, refl, sym, ap, _∙_}
+use mathlib.Core.Path.{_≡_, sym, ap, _∙_}
 use mathlib.Core.List.{[], _∷_}
 use native.Mathlib.Numerals.{add-one}
 use native.Mathlib.Omega.{arith}
@@ -8,9 +8,9 @@ use borrow.Author.Needs.{needs}
 use borrow.Author.Tests.{not-true, not-false}
 use lib.Dec.{leb}
 use lib.ListN.{length}
-use Rattle.lines.specs.declared.Change.the-variants as line
 use Rattle.tables.specs.declared.load.Load.{Load}
 use Rattle.tables.specs.declared.tables.StoredTables.{StoredTables}
+use Rattle.tables.specs.Refusals as no
 use Rattle.tables.specs.Limits.{loadIn}
 use Rattle.tables.specs.Stored.{tablesOf}
 use Rattle.tables.specs.Operations.{loadAdded}
@@ -46,7 +46,7 @@ unfolding changing number line-load
 returns c =
     let k = c .before .before .before in
     let e = k .before .before in
-    out-of-range (e .args .self) (e .pre) (line.Load (e .args .parent) (e .args .power) (e .args .worth)) (loadIn (number e) (line-load e)) _ refl
+    out-of-range (e .args .self) (e .pre) (loadIn (number e) (line-load e)) _ _
     (sym (load-fits (number e) (line-load e) (named k)) ∙ not-true _ (c .before .if1 .taken)) (c .settled .ensures)
 
 returns-2 : tie.Need-returns-2
@@ -57,7 +57,7 @@ returns-2 c =
     let s = e .args .self .tables in
     let ls = tablesOf s .loads in
     let fits = sym (load-fits (number e) (line-load e) (named k)) ∙ not-false _ (c .before .before .if1 .left) in
-    operated (e .args .self) (e .pre) (line.Load (e .args .parent) (e .args .power) (e .args .worth)) (loadIn (number e) (line-load e)) ((6 if leb (tablesOf s .places) (length ls)) ∷ []) refl fits
+    operated (e .args .self) (e .pre) (loadIn (number e) (line-load e)) ((no.full if leb (tablesOf s .places) (length ls)) ∷ []) _ fits
     _ (c .before .add-load .ensures ∙ ap (loadAdded s) (load-is (number e) (line-load e) (named k) fits) ∙ ap (λ (x : StoredTables). loadAdded x (line-load e)) (is-stored s (e .pre .tables)) ∙ rw (load-lowest (tablesOf s .places) ls) (load-added (tablesOf s) (lawful s (e .pre .tables)) (line-load e)))
     (c .settled2 .ensures)
 

@@ -4,6 +4,7 @@ use mathlib.Core.Bool.{_&&_}
 use native.Mathlib.Omega.{arith}
 use borrow.Author.Needs.{needs}
 use Rattle.lists.proofs.Arrays.{of-map}
+use Rattle.tables.specs.declared.rule.Sort.the-variants as sort
 use Rattle.tables.specs.Limits.{budgetIn, maxLoads}
 use Rattle.tables.specs.Stored.{placesOf, keepsLimits, Lengths}
 use Rattle.tables.proofs.Stored.{keeps-exactly}
@@ -12,7 +13,7 @@ use Rattle.tables.proofs.tables.StoredTables.keeps_limits.Statement.{st
 use Rattle.tables.proofs.tables.StoredTables.keeps_limits.Tie as tie
 
 lengths : (c : tie.Start) → Lengths (c .args .self)
-lengths c = record { loadRules = search (needs, of-map); rowRules = search (needs, of-map) }
+lengths c = record { rules = elim [ sort.Load ↦ search (needs, of-map) | sort.Row ↦ search (needs, of-map) ] }
 
 placed : (c : tie.Start) → placesOf (c .args .self .loads) ≡ maxLoads
 placed c = search (needs, of-map)
