@@ -12,8 +12,7 @@ use lib.Seq.{sets}
 use Rattle.lines.specs.Answers.{numberOf, textOf, Wrote}
 use Rattle.lines.proofs.Wrote.{free-back}
 use Rattle.tables.specs.Refusals as no
-use Rattle.tables.specs.Limits.{maxLoads}
-use Rattle.calls.specs.State.{StoredState, storedState, keeps, Kept}
+use Rattle.calls.specs.State.{StoredState, storedState, keeps}
 use Rattle.calls.specs.Rows.{Row, bytesOf, causesOf}
 use Rattle.calls.specs.Causes.{lowest}
 use Rattle.calls.specs.Effects.{stateBy}
@@ -28,7 +27,7 @@ use Rattle.calls.proofs.Work.{unsearched}
 use Rattle.calls.proofs.Keeps.{text-fits}
 use Rattle.planner.specs.declared.Planner.{Planner}
 use Rattle.planner.specs.declared.search.Decided.{Decided}
-use Rattle.planner.specs.Planner.{held, stateIn}
+use Rattle.planner.specs.Planner.{held, stateIn, Lawful}
 use Rattle.planner.specs.Answers.{entriesTo}
 use Rattle.planner.specs.Decided.{decidedBy, decided}
 use Rattle.planner.specs.Calls.{doneOf, turnedAway}
@@ -40,7 +39,7 @@ pub broken : (p : Planner) (c : Call) → keeps (held p) ≡ false → doneOf (t
 unfolding called
 broken p c e = ap (λ (b : Bool). calledIf b (held p) c) (sym e)
 
-module _ (p : Planner) (h : Kept maxLoads (held p)) (c : Call) where
+module _ (p : Planner) (h : Lawful p) (c : Call) where
   abbrev r : Row
   r = rowFor (stateIn p) c
 

@@ -27,13 +27,12 @@ use Rattle.tables.proofs.Changes.{rule-added, figure-changed}
 use Rattle.calls.specs.Rows.{Cause, _if_, isLoad, Row, changes, effectOf, unless, adding, setting}
 use Rattle.calls.specs.Causes.{lowest}
 use Rattle.calls.specs.Effects.{acted}
-use Rattle.calls.specs.State.{Kept}
 use Rattle.calls.proofs.State.{is-stored, places, kept-within}
 use Rattle.planner.specs.declared.Planner.{Planner}
 use Rattle.planner.specs.declared.changes.Changed.{Changed}
 use Rattle.planner.specs.declared.changes.NamedRule.{NamedRule}
 use Rattle.planner.specs.declared.changes.NamedLoad.{NamedLoad}
-use Rattle.planner.specs.Planner.{held, stateIn}
+use Rattle.planner.specs.Planner.{held, stateIn, Lawful}
 use Rattle.planner.specs.Changes.{namedRule, namedLoad, settled, madeBy}
 use Rattle.planner.proofs.Ranges.{inside}
 
@@ -66,7 +65,7 @@ pub tables-count : (u : StoredTables) → Holds maxLoads u → u .loads .count �
 unfolding stored
 tables-count u h = ap (λ (x : StoredTables). x .loads .count) (is-stored u h)
 
-module _ (p : Planner) (h : Kept maxLoads (held p)) where
+module _ (p : Planner) (h : Lawful p) where
   pub load-count : p .tables .loads .count ≡ length (stateIn p .tables .loads)
   load-count = tables-count (p .tables) (h .tables)
 
@@ -84,7 +83,7 @@ acted-accepted t zero r = refl
 acted-accepted t (suc n) r = refl
 
 -- ---- the ways out of a change whose first cause is "value out of its range"
-module _ (p : Planner) (h : Kept maxLoads (held p)) {r : Changed} (b : Bool) (cs : List Cause) (after : Tables) where
+module _ (p : Planner) (h : Lawful p) {r : Changed} (b : Bool) (cs : List Cause) (after : Tables) where
   -- out of range: its number, and the planner as it was
   pub out-of-range : b ≡ false → r ≡ settled p no.outOfRange (p .tables) → r ≡ madeBy (stateIn p) (unless ((no.outOfRange if not b) ∷ cs) after)
   unfolding madeBy
@@ -97,13 +96,13 @@ module _ (p : Planner) (h : Kept maxLoads (held p)) {r : Changed} (b : Bool) (cs
   operated e d given is = is ∙ rw (given, acted-accepted (tablesOf (p .tables)) (lowest ((no.outOfRange if not b) ∷ cs)) (changes (unless ((no.outOfRange if not b) ∷ cs) after)), not-out b cs e)
 
 -- in range, where that is the only cause: accepted
-pub accepts : (p : Planner) (h : Kept maxLoads (held p)) {r : Changed} (b : Bool) (after : Tables) → b ≡ true → (u : StoredTables) → u ≡ stored after → r ≡ settled p 0 u
+pub accepts : (p : Planner) (h : Lawful p) {r : Changed} (b : Bool) (after : Tables) → b ≡ true → (u : StoredTables) → u ≡ stored after → r ≡ settled p 0 u
     → r ≡ madeBy (stateIn p) (unless ((no.outOfRange if not b) ∷ []) after)
 unfolding lowest
 accepts p h b after e u given is = operated p h b [] after e (record { number = 0; tables = u }) (λ i. record { number = 0; tables = given i }) is
 
 -- another figure of load k: set where there is such a load and the figure fits
-module _ (p : Planner) (h : Kept maxLoads (held p)) (f : Figure) (k x : ℕ) {there fits : Bool} (looked : there ≡ between 1 (p .tables .loads .count) k) (compared : fits ≡ figureIn f x) where
+module _ (p : Planner) (h : Lawful p) (f : Figure) (k x : ℕ) {there fits : Bool} (looked : there ≡ between 1 (p .tables .loads .count) k) (compared : fits ≡ figureIn f x) where
   tested : there && fits ≡ isLoad (stateIn p .tables) k && figureIn f x
   tested = rw (looked, compared) (ap (λ (n : ℕ). between 1 n k && figureIn f x) (load-count p h))
 
@@ -136,7 +135,7 @@ unfolding namedLoad
 load-is k l is e = ap (λ (x : NamedLoad). x .load) is ∙ rw e
 
 -- a rule of either sort
-module _ (p : Planner) (h : Kept maxLoads (held p)) (k : Sort) (r : Transition) {x : NamedRule} (is : x ≡ namedRule (rangeFor (stateIn p .tables .book) k) r) {d : Changed} where
+module _ (p : Planner) (h : Lawful p) (k : Sort) (r : Transition) {x : NamedRule} (is : x ≡ namedRule (rangeFor (stateIn p .tables .book) k) r) {d : Changed} where
   pub rule-refused : not (x .fits) ≡ true → d ≡ settled p no.outOfRange (p .tables) → d ≡ madeBy (stateIn p) (adding (stateIn p .tables) k r)
   rule-refused e = out-of-range p h (ruleIn (rangeFor (stateIn p .tables .book) k) r) _ _ (sym (named-fits _ r is) ∙ not-true _ e)
 

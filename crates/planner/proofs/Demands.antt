@@ -5,7 +5,7 @@ use mathlib.Core.List.{List}
 use lib.Dec.{lit≤}
 use Rattle.marks.specs.declared.LoadSet.{LoadSet}
 use Rattle.tables.specs.Limits.{maxLoads}
-use Rattle.calls.specs.State.{Kept, Sized}
+use Rattle.calls.specs.State.{Sized}
 use Rattle.calls.specs.Calls.{Call, Reply, Done, called}
 use Rattle.calls.specs.Demand1.{Demand1}
 use Rattle.calls.specs.Demand2.{CheckCall, CheckRight}
@@ -15,7 +15,7 @@ use Rattle.calls.proofs.Demand1 as paper1
 use Rattle.calls.proofs.Demand2.{check-right}
 use Rattle.calls.proofs.Demand3 as paper3
 use Rattle.planner.specs.declared.Planner.{Planner}
-use Rattle.planner.specs.Planner.{held, stateIn, fresh}
+use Rattle.planner.specs.Planner.{held, stateIn, fresh, Lawful}
 use Rattle.planner.proofs.Calling.{handles}
 
 -- demand 1: on every planner, whatever it holds, a call gives its answer or the one refusal that applies, and leaves what the paper says
@@ -23,7 +23,7 @@ pub demand1 : {n : ℕ} (p : Planner) → Sized n (held p) → (c : Call) (d : D
 demand1 p len c d is = subst (Demand1 (held p) c) (sym is) (paper1.demand1 (held p) len c)
 
 -- demand 2: on every planner within the limits, a check says yes exactly of the sets that the automaton accepts, and shows their lowest run
-pub demand2 : (p : Planner) → Kept maxLoads (held p) → (c : Call) (σ : LoadSet) → CheckCall (stateIn p .tables) c σ
+pub demand2 : (p : Planner) → Lawful p → (c : Call) (σ : LoadSet) → CheckCall (stateIn p .tables) c σ
     → (d : Done) → d ≡ called (held p) c → CheckRight (stateIn p .tables) c σ (d .reply)
 demand2 p h c σ k d is =
     subst (λ (x : Reply). CheckRight (stateIn p .tables) c σ x) (sym (ap (λ (d : Done). d .reply) (is ∙ handles p h c)))

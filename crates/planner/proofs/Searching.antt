@@ -23,7 +23,7 @@ use Rattle.tables.specs.declared.entry.Entry.{Entry}
 use Rattle.meaning.specs.Choice.{planEntries, checkEntries}
 use Rattle.meaning.proofs.Limits.{lawful as lawful-tree}
 use Rattle.meaning.specs.Cells.{cellsOf}
-use Rattle.calls.specs.State.{State, storedState, Kept}
+use Rattle.calls.specs.State.{State, storedState}
 use Rattle.calls.specs.Rows.{Row, noneFits, notAllowed, row, causesOf, cellsFor}
 use Rattle.calls.specs.Causes.{lowest}
 use Rattle.calls.specs.Printing.{zeroed, searched}
@@ -37,7 +37,7 @@ use Rattle.engine.specs.Shown.{runOf, outcomeOf}
 use Rattle.engine.proofs.Answers.{plan-set, plan-size}
 use Rattle.planner.specs.declared.Planner.{Planner}
 use Rattle.planner.specs.declared.search.Decided.{Decided}
-use Rattle.planner.specs.Planner.{held, plannerOf, stateIn}
+use Rattle.planner.specs.Planner.{held, plannerOf, stateIn, Lawful}
 use Rattle.planner.specs.Decided.{unshown, decidedBy, decided, Decides}
 use Rattle.planner.proofs.Commands.{tables-count}
 
@@ -99,7 +99,7 @@ module _ (s : StoredTables) (h : Holds maxLoads s) where
   unfolding cellsOf tablesOf bookOf
   cells-needed = ap (λ (n : ℕ). n * (s .book .states + s .book .stages) * (s .budget + 1)) (tables-count s h)
 
-module _ (p : Planner) (h : Kept maxLoads (held p)) where
+module _ (p : Planner) (h : Lawful p) where
   is-held : p ≡ plannerOf (storedState (stateIn p))
   is-held = ap plannerOf (kept-stored (held p) h)
 

@@ -2,7 +2,7 @@
 -- and budget 0" of paper 01. Assumes nothing.
 use Rattle.tables.specs.Limits.{maxLoads}
 use Rattle.calls.specs.State as on-paper
-use Rattle.calls.specs.State.{State, StoredState, storedState, stateOf}
+use Rattle.calls.specs.State.{State, StoredState, storedState, stateOf, Kept}
 use Rattle.planner.specs.declared.Planner.{Planner}
 
 abbrev pub held : Planner → StoredState
@@ -13,6 +13,10 @@ plannerOf x = record { tables = x .tables }
 
 abbrev pub stateIn : Planner → State
 stateIn p = stateOf (held p)
+
+-- it keeps the limits
+abbrev pub Lawful : Planner → Type 0
+Lawful p = Kept maxLoads (held p)
 
 abbrev pub fresh : Planner
 fresh = plannerOf (storedState (on-paper.fresh maxLoads))

@@ -12,11 +12,10 @@ use tables::refusal::TOO_LONG;
 use tables::refusal::UNUSABLE;
 ghost use mathlib.Core.Path.{_≡_};
 ghost use mathlib.Core.Bool.{true};
-ghost use Rattle.tables.specs.Limits.{maxLoads};
-ghost use Rattle.calls.specs.State.{keeps, Kept};
+ghost use Rattle.calls.specs.State.{keeps};
 ghost use Rattle.calls.specs.Rows.{row, lineRow, bytesOf};
 ghost use Rattle.calls.specs.Calls.{called};
-ghost use Rattle.planner.specs.Planner.{held, stateIn};
+ghost use Rattle.planner.specs.Planner.{held, stateIn, Lawful};
 ghost use Rattle.planner.specs.Decided.{unshown, Decides};
 ghost use Rattle.planner.specs.Calls.{callOf, doneOf, turnedAway};
 
@@ -42,7 +41,7 @@ fn changed(c: Changed) -> Decided
 impl Planner {
     // What a command answers.
     fn decide(self, c: Command, work: &mut [u32]) -> Decided
-        requires { ⌜ Kept maxLoads (held self) ⌝ }
+        requires { ⌜ Lawful self ⌝ }
         ensures { λ r. ⌜ Decides (stateIn self) (row (stateIn self) c) (now (work .entry)) (now (work .exit)) r ⌝ }
     {
         match c {
@@ -55,7 +54,7 @@ impl Planner {
 
     // What a line is answered, where there is room for the answer.
     fn decide_line(self, line: &[u8], work: &mut [u32]) -> Decided
-        requires { ⌜ Kept maxLoads (held self) ⌝ }
+        requires { ⌜ Lawful self ⌝ }
         ensures { λ r. ⌜ Decides (stateIn self) (lineRow (stateIn self) (now (line .entry))) (now (work .entry)) (now (work .exit)) r ⌝ }
     {
         if too_long(line) {
@@ -67,7 +66,7 @@ impl Planner {
     // Does a planner that is handed in keep the limits?
     fn keeps_limits(self) -> bool
         ensures test { λ r. ⌜ r ≡ keeps (held self) ⌝ }
-        ensures kept { λ r. ⌜ (r ≡ true → Kept maxLoads (held self)) ⌝ }
+        ensures kept { λ r. ⌜ (r ≡ true → Lawful self) ⌝ }
     {
         self.tables.keeps_limits()
     }

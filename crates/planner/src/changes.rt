@@ -17,9 +17,8 @@ ghost use mathlib.Core.Path.{_≡_};
 ghost use Rattle.lines.specs.declared.Change.the-variants as to;
 ghost use Prim.Native.Nat.{_+_, _≤_};
 ghost use Rattle.tables.specs.Limits.{between, maxLoads};
-ghost use Rattle.calls.specs.State.{Kept};
 ghost use Rattle.calls.specs.Rows.{rule, load, marking, adding, setting};
-ghost use Rattle.planner.specs.Planner.{held, stateIn};
+ghost use Rattle.planner.specs.Planner.{stateIn, Lawful};
 ghost use Rattle.planner.specs.Changes.{namedRule, namedLoad, settled, madeBy, changedBy};
 
 // The answer to a change, and the next planner.
@@ -105,14 +104,14 @@ impl Planner {
     }
 
     fn clear(self) -> Changed
-        requires { ⌜ Kept maxLoads (held self) ⌝ }
+        requires { ⌜ Lawful self ⌝ }
         ensures { λ r. ⌜ r ≡ changedBy (stateIn self) to.Clear ⌝ }
     {
         self.settled(0, StoredTables::fresh())
     }
 
     fn book(self, states: u32, stages: u32) -> Changed
-        requires { ⌜ Kept maxLoads (held self) ⌝ }
+        requires { ⌜ Lawful self ⌝ }
         ensures { λ r. ⌜ r ≡ changedBy (stateIn self) (to.Book states stages) ⌝ }
     {
         let most = MAX_STATES as usize;
@@ -124,7 +123,7 @@ impl Planner {
 
     // A state is marked as a start state, or a stage as an end stage.
     fn mark(self, sort: Sort, number: u32) -> Changed
-        requires { ⌜ Kept maxLoads (held self) ⌝ }
+        requires { ⌜ Lawful self ⌝ }
         ensures { λ r. ⌜ r ≡ madeBy (stateIn self) (marking (stateIn self .tables) sort number) ⌝ }
     {
         let size = self.tables.book.size(sort);
@@ -135,7 +134,7 @@ impl Planner {
     }
 
     fn add_rule(self, sort: Sort, from: u32, label: u32, to: u32) -> Changed
-        requires { ⌜ Kept maxLoads (held self) ⌝ }
+        requires { ⌜ Lawful self ⌝ }
         ensures { λ r. ⌜ r ≡ madeBy (stateIn self) (adding (stateIn self .tables) sort (rule from label to)) ⌝ }
     {
         let range = RuleRange::of(sort, self.tables.book.states, self.tables.book.stages);
@@ -148,7 +147,7 @@ impl Planner {
     }
 
     fn load(self, parent: u32, power: u32, worth: u32) -> Changed
-        requires { ⌜ Kept maxLoads (held self) ⌝ }
+        requires { ⌜ Lawful self ⌝ }
         ensures { λ r. ⌜ r ≡ changedBy (stateIn self) (to.Load parent power worth) ⌝ }
     {
         let named = named_load(self.tables.loads.count + 1, parent, power, worth);
@@ -160,7 +159,7 @@ impl Planner {
     }
 
     fn set_figure(self, figure: Figure, number: u32, value: u32) -> Changed
-        requires { ⌜ Kept maxLoads (held self) ⌝ }
+        requires { ⌜ Lawful self ⌝ }
         ensures { λ r. ⌜ r ≡ madeBy (stateIn self) (setting (stateIn self .tables) figure number value) ⌝ }
     {
         let there = between(1, self.tables.loads.count, number as usize);
@@ -175,7 +174,7 @@ impl Planner {
     }
 
     fn budget(self, watts: u32) -> Changed
-        requires { ⌜ Kept maxLoads (held self) ⌝ }
+        requires { ⌜ Lawful self ⌝ }
         ensures { λ r. ⌜ r ≡ changedBy (stateIn self) (to.Budget watts) ⌝ }
     {
         if (MAX_BUDGET as u32) < watts {
@@ -186,7 +185,7 @@ impl Planner {
 
     // What a change answers, and the next planner.
     pub(crate) fn change(self, c: Change) -> Changed
-        requires { ⌜ Kept maxLoads (held self) ⌝ }
+        requires { ⌜ Lawful self ⌝ }
         ensures { λ r. ⌜ r ≡ changedBy (stateIn self) c ⌝ }
     {
         match c {

@@ -18,9 +18,8 @@ ghost use Rattle.lines.specs.declared.Command.the-variants as line;
 ghost use Rattle.tables.specs.Limits.{maxLoads};
 ghost use Rattle.tables.specs.Stored.{tablesOf, Holds};
 ghost use Rattle.meaning.specs.Cells.{cellsOf};
-ghost use Rattle.calls.specs.State.{Kept};
 ghost use Rattle.calls.specs.Rows.{row};
-ghost use Rattle.planner.specs.Planner.{held, stateIn};
+ghost use Rattle.planner.specs.Planner.{stateIn, Lawful};
 ghost use Rattle.planner.specs.Decided.{unshown, decided, Decides};
 
 // The answer to a line, the run that it shows, and the next planner. Where no run is shown, it is empty.
@@ -57,7 +56,7 @@ impl Planner {
     }
 
     pub(crate) fn plan(self, work: &mut [u32]) -> Decided
-        requires { ⌜ Kept maxLoads (held self) ⌝ }
+        requires { ⌜ Lawful self ⌝ }
         ensures { λ r. ⌜ Decides (stateIn self) (row (stateIn self) line.Plan) (now (work .entry)) (now (work .exit)) r ⌝ }
     {
         let tables = self.tables;
@@ -87,7 +86,7 @@ impl Planner {
     }
 
     pub(crate) fn check(self, set: LoadSet, count: usize) -> Decided
-        requires { ⌜ Kept maxLoads (held self) ⌝ }
+        requires { ⌜ Lawful self ⌝ }
         ensures { λ r. ⌜ r ≡ decided (stateIn self) 0 (row (stateIn self) (line.Check set count)) ⌝ }
     {
         let tables = self.tables;

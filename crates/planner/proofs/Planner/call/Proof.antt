@@ -6,12 +6,10 @@ use borrow.Author.Needs.{needs}
 use borrow.Author.Tests.{not-true, not-false}
 use lib.ListN.{length}
 use Rattle.lines.proofs.Wrote.{free-length}
-use Rattle.tables.specs.Limits.{maxLoads}
-use Rattle.calls.specs.State.{Kept}
 use Rattle.calls.specs.Rows.{lineRow, bytesOf}
 use Rattle.calls.specs.Calls.{Call}
 use Rattle.planner.specs.declared.call.Called.{Called}
-use Rattle.planner.specs.Planner.{held, stateIn}
+use Rattle.planner.specs.Planner.{stateIn, Lawful}
 use Rattle.planner.specs.Calls.{callOf, doneOf}
 use Rattle.planner.proofs.Commands.{few}
 use Rattle.planner.proofs.Calling.{broken, turned, text-few, written}
@@ -23,7 +21,7 @@ made : tie.Start → Call
 made e = callOf (e .args .line .now) (e .args .out .now) (e .args .place) (e .args .work .now)
 
 -- past the test of limits
-kept : (c : tie.Else1) → Kept maxLoads (held (c .before .before .before .before .before .args .self))
+kept : (c : tie.Else1) → Lawful (c .before .before .before .before .before .args .self)
 kept c = c .before .keeps-limits .ensures .1 (not-false _ (c .if1 .left))
 
 returns : tie.Need-returns
