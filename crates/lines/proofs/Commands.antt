@@ -1,34 +1,35 @@
 -- The command that the parts of `read` find in a line is that of the grammar. Assumes nothing.
-use Prim.Native.Nat.{ℕ, zero, suc, _+_, _-_, _*_, _≤_, _<_, zero-le}
+use Prim.Native.Nat.{ℕ, zero, suc, _+_, _-_, _*_, _/_, _%_, _≤_, _<_, zero-le}
 use mathlib.Core.Path.{_≡_, refl, sym, ap, subst⁻¹, _∙_}
 use mathlib.Core.Bool.{Bool, true, false, _&&_}
 use mathlib.Core.List.{List, [], _∷_, map}
 use mathlib.Core.Logic.{_⊎_, inl, inr}
+use native.Mathlib.Nat.{le-trans, le-of-suc-le-suc}
 use native.Mathlib.Numerals.{add-one}
 use native.Mathlib.Omega.{arith}
-use borrow.Author.Tests.{lt-ltb, le-ltb, le-leb, lt-leb, leb-true, leb-false, eqb-true, ne-eqb}
+use borrow.Author.Tests.{lt-ltb, le-ltb, le-leb, lt-leb, leb-true, leb-false, ltb-true, ltb-false, eqb-true, ne-eqb}
 use lib.Dec.{eqb, leb, ltb, lit<, leb·suc-suc}
 use lib.ListN.{length, getD, take, drop, length-map, length-take, drop-of-length-le}
 use Rattle.lists.specs.Tests.{pick, every}
 use Rattle.lists.specs.Arrays.{laid}
 use Rattle.lists.proofs.Bools.{and-left, and-right, and-false, below-or}
-use Rattle.lists.proofs.Arrays.{take-laid}
 use Rattle.lines.specs.declared.Command.{Command}
 use Rattle.lines.specs.declared.Command.the-variants.{Broken, Check}
 use Rattle.lines.specs.declared.reading.Word.{Word}
-use Rattle.lines.specs.Text.{bytes, comma, same, before}
-use Rattle.lines.specs.Grammar.{onFirst, fields, isNumber, valueFrom, value, isBit, isBits, loadsOf, Form, numbers, bits, table, find, parse}
-use Rattle.lines.specs.Reading.{codeFrom, code, mostLetters, wordOf, fieldsAfter, mostNumbers, countOf, numbersIn, bitsOf, numbered, withNumbers}
+use Rattle.lines.specs.Text.{comma, same, firstAt, before}
+use Rattle.lines.specs.Grammar.{onFirst, fields, isNumber, valueFrom, value, isBit, isBits, loadsOf, Form, numbers, bits, table, find, ordered, parse}
+use Rattle.lines.specs.Reading.{codeFrom, code, mostLetters, wordOf, fieldsAfter, mostNumbers, numbersIn, bitsOf, rowCode, rows, orMore, mostFrom, mostAfter, placeOf, commandAt, withNumbers}
 use Rattle.lines.proofs.Before.{before-most}
 use Rattle.lines.proofs.Fields.{Cons, cons, fields-cons}
 use Rattle.lines.proofs.Codes.{Bytes, bytes-take, code-word, same-is, same-code}
+use Rattle.lines.proofs.Rows.{check, isLetter, Row, Kept, kept, most-least, most-few, none-numbers}
 
 -- ---- a line: its word, and the fields after it
 abbrev wordIn : List ℕ → List ℕ
 wordIn s = take (before comma s) s
 
 word-split : (s : List ℕ) → fields s ≡ wordIn s ∷ fieldsAfter (before comma s) s
-unfolding fields before fieldsAfter
+unfolding fields firstAt before fieldsAfter
 word-split [] = refl
 word-split (b ∷ bs) = go (eqb b comma) (word-split bs)
   where
@@ -42,16 +43,6 @@ word-split (b ∷ bs) = go (eqb b comma) (word-split bs)
 -- ---- the number of a word, 0 where it has too many letters
 abbrev shortCode : List ℕ → ℕ
 shortCode w = pick (leb (length w) mostLetters) (code w) 0
-
--- how many numbers the table has after a word
-abbrev countAfter : List ℕ → ℕ
-countAfter w = countOf table (shortCode w)
-
--- what the rows of the table keep to, and that the word is not one of those before bits
-abbrev Rows : List Form → List ℕ → Type 0
-Rows [] w = Unit {0}
-Rows (numbers v n f ∷ xs) w = (Bytes v × (length v ≤ mostLetters) × (n ≤ mostNumbers) × (countOf table (code v) ≡ n)) × Rows xs w
-Rows (bits v f ∷ xs) w = (same v w ≡ false) × Rows xs w
 
 long-word : (v w : List ℕ) → length v < length w → same v w ≡ false
 long-word v w h = go (same v w) refl
@@ -71,6 +62,27 @@ same-short v w p q h = go (below-or mostLetters (length w))
     go (inl l) = rw (lt-leb (length w) mostLetters l, long-word v w (omega arith)) (sym (ne-eqb 0 (code v) (λ e. absurd (omega (arith, code-positive 1 v (lit< tt))))))
     go (inr l) = rw (le-leb (length w) mostLetters l) (same-code v w p q)
 
+letters-bytes : (w : List ℕ) → every isLetter w ≡ true → Bytes w
+unfolding every
+letters-bytes [] h = tt
+letters-bytes (x ∷ w) h =
+    (ltb-true x 256 (and-right (ltb comma x) (ltb x 256) (and-left (isLetter x) (every isLetter w) h)), letters-bytes w (and-right (isLetter x) (every isLetter w) h))
+
+-- fields that are no numbers, or more of them than m, are not as many numbers as n, which is no more
+not-fitting : (a : Bool) (k n m : ℕ) → n ≤ m → a && leb k m ≡ false → eqb k n && a ≡ false
+not-fitting true k n m l h = rw (ne-eqb k n (λ e. absurd (omega (arith, leb-false k m h))))
+not-fitting false k n m l h = and-false (eqb k n)
+
+laid-at : (d n : ℕ) (xs : List ℕ) → length xs ≤ n → (i : ℕ) → getD (laid d n xs) i d ≡ getD xs i d
+unfolding laid
+laid-at d zero [] h i = refl
+laid-at d zero (x ∷ xs) h i = absurd (omega arith)
+laid-at d (suc n) [] h zero = refl
+laid-at d (suc n) [] h (suc i) = laid-at d n [] (omega arith) i
+laid-at d (suc n) (x ∷ xs) h zero = refl
+laid-at d (suc n) (x ∷ xs) h (suc i) = laid-at d n xs (le-of-suc-le-suc h) i
+
+-- the values of the fields, as they lie after one another
 map-at : (fs : List (List ℕ)) (i : ℕ) → getD (map value fs) i 0 ≡ value (getD fs i [])
 unfolding valueFrom
 map-at [] zero = refl
@@ -78,60 +90,74 @@ map-at [] (suc i) = refl
 map-at (f ∷ fs) zero = refl
 map-at (f ∷ fs) (suc i) = map-at fs i
 
-module _ (w : List ℕ) (b : Bytes w) (fs : List (List ℕ)) where
-  -- a word that is not in the table, or fields that are not its numbers
-  find-broken : (xs : List Form) → Rows xs w → (countAfter w ≤ mostNumbers → eqb (length fs) (countAfter w) && every isNumber fs ≡ false) → find xs w fs ≡ Broken
-  unfolding find
-  find-broken [] r h = refl
-  find-broken (numbers v n f ∷ xs) r h = rw (same-short v w (r .0 .0) b (r .0 .1), no (eqb (shortCode w) (code v)) refl) (find-broken xs (r .1) h)
+-- with all fields numbers, it is their values that the table is asked for
+pub find-ordered : (w : List ℕ) → same check w ≡ false → (fs : List (List ℕ)) → every isNumber fs ≡ true → (xs : List Form) → Kept xs → find xs w fs ≡ ordered xs w (map value fs)
+unfolding find ordered
+find-ordered w o fs h [] q = refl
+find-ordered w o fs h (numbers v n f ∷ xs) q = rw (h, length-map fs value, find-ordered w o fs h xs (q .1)) (simp map-at (go (same v w) (eqb (length fs) n)))
+  where
+    go : (x y : Bool) → pick (x && y && true) (f (λ k. value (getD fs (k - 1) []))) (ordered xs w (map value fs)) ≡ pick (x && y) (f (λ k. value (getD fs (k - 1) []))) (ordered xs w (map value fs))
+    go true true = refl
+    go true false = refl
+    go false y = refl
+find-ordered w o fs h (bits v f ∷ xs) q = rw (q .0, o) (find-ordered w o fs h xs (q .1))
+
+module _ (w : List ℕ) (b : Bytes w) (other : same check w ≡ false) where
+  -- the word of a row is this one exactly if the row's number says so
+  row-word : (v : List ℕ) (n : ℕ) → Row v n → same v w ≡ eqb (shortCode w) (rowCode v n / 256)
+  row-word v n r =
+      let e : rowCode v n / 256 ≡ code v = omega (arith, r .count) in
+      rw e (same-short v w (letters-bytes v (r .letters)) b (r .few))
+
+  -- the row is found by its number, and it sees no more of the numbers than there are
+  ordered-row : (ns : List ℕ) → length ns ≤ mostNumbers → (xs : List Form) → Kept xs → ordered xs w ns ≡ commandAt xs (placeOf (shortCode w) (length ns) (rows xs)) (laid 0 mostNumbers ns)
+  unfolding ordered firstAt
+  ordered-row ns few [] q = refl
+  ordered-row ns few (numbers v n f ∷ xs) q =
+      let e : rowCode v n % 256 ≡ n = omega (arith, q .0 .count) in
+      rw (row-word v n (q .0), e) (go (eqb (shortCode w) (rowCode v n / 256) && eqb (length ns) n) (ordered-row ns few xs (q .1)))
     where
-      no : (t : Bool) → eqb (shortCode w) (code v) ≡ t → t && eqb (length fs) n && every isNumber fs ≡ false
-      no true e =
-          let m : countAfter w ≡ n = ap (countOf table) (eqb-true (shortCode w) (code v) e) ∙ r .0 .3 in
-          rw m at h (r .0 .2)
+      go : (t : Bool) → ordered xs w ns ≡ commandAt xs (placeOf (shortCode w) (length ns) (rows xs)) (laid 0 mostNumbers ns)
+          → pick t (f (λ k. getD ns (k - 1) 0)) (ordered xs w ns) ≡ commandAt (numbers v n f ∷ xs) (pick t 0 (suc (placeOf (shortCode w) (length ns) (rows xs)))) (laid 0 mostNumbers ns)
+      go true ih = simp (laid-at 0 mostNumbers ns few)
+      go false ih = ih
+  ordered-row ns few (bits v f ∷ xs) q = ordered-row ns few xs (q .1)
+
+  -- fields that are no numbers, or more of them than any row of the word has
+  find-broken : (fs : List (List ℕ)) (xs : List Form) → Kept xs → (k : ℕ) → every isNumber fs && leb (length fs) (mostFrom k (shortCode w) (rows xs)) ≡ false → find xs w fs ≡ Broken
+  unfolding find mostFrom
+  find-broken fs [] q k h = refl
+  find-broken fs (numbers v n f ∷ xs) q k h = rw (row-word v n (q .0), no (eqb (shortCode w) (x / 256)) refl) (find-broken fs xs (q .1) next h)
+    where
+      x : ℕ
+      x = rowCode v n
+
+      next : ℕ
+      next = orMore k (shortCode w) x
+
+      reached : (u : Bool) → ltb k (x % 256) ≡ u → eqb (shortCode w) (x / 256) ≡ true → n ≤ next
+      reached true d e = rw (d, e) (omega (arith, q .0 .count))
+      reached false d e = rw (d, e) (omega (arith, q .0 .count, ltb-false k (x % 256) d))
+
+      no : (t : Bool) → eqb (shortCode w) (x / 256) ≡ t → t && eqb (length fs) n && every isNumber fs ≡ false
+      no true e = not-fitting (every isNumber fs) (length fs) n (mostFrom next (shortCode w) (rows xs)) (le-trans (reached (ltb k (x % 256)) refl e) (most-least next (shortCode w) (rows xs))) h
       no false e = refl
-  find-broken (bits v f ∷ xs) r h = rw (r .0) (find-broken xs (r .1) h)
+  find-broken fs (bits v f ∷ xs) q k h = rw (q .0, other) (find-broken fs xs (q .1) k h)
 
-  find-numbers : (xs : List Form) → Rows xs w → every isNumber fs ≡ true → find xs w fs ≡ numbered xs (shortCode w) (map value fs)
-  unfolding find numbered
-  find-numbers [] r h = refl
-  find-numbers (numbers v n f ∷ xs) r h =
-      rw (same-short v w (r .0 .0) b (r .0 .1), h, length-map fs value, find-numbers xs (r .1) h)
-      (simp map-at (go (eqb (shortCode w) (code v)) (eqb (length fs) n)))
-    where
-      go : (x y : Bool) → pick (x && y && true) (f (λ k. value (getD fs (k - 1) []))) (numbered xs (shortCode w) (map value fs))
-          ≡ pick (y && x) (f (λ k. value (getD fs (k - 1) []))) (numbered xs (shortCode w) (map value fs))
-      go true true = refl
-      go true false = refl
-      go false true = refl
-      go false false = refl
-  find-numbers (bits v f ∷ xs) r h = rw (r .0) (find-numbers xs (r .1) h)
-
--- fields that are no numbers, or more of them than m, are not m numbers
-not-fitting : (a : Bool) (k m : ℕ) → a && leb k m ≡ false → eqb k m && a ≡ false
-not-fitting true k m h = rw (ne-eqb k m (λ e. absurd (omega (arith, leb-false k m h))))
-not-fitting false k m h = and-false (eqb k m)
-
-module _ (w : List ℕ) (b : Bytes w) (r : Rows table w) (fs : List (List ℕ)) where
-  -- the numbers that the loop reads are those of the grammar
-  with-find : countAfter w ≤ mostNumbers → withNumbers (shortCode w) (numbersIn (countAfter w) fs) ≡ find table w fs
+  -- the command that is found by the rows is that of the grammar
+  with-find : (fs : List (List ℕ)) → withNumbers (shortCode w) (numbersIn (mostAfter (shortCode w) (rows table)) fs) ≡ find table w fs
   unfolding withNumbers numbersIn
-  with-find l = go (every isNumber fs && leb (length fs) (countAfter w)) refl
+  with-find fs = go (every isNumber fs && leb (length fs) m) refl
     where
       m : ℕ
-      m = countAfter w
+      m = mostAfter (shortCode w) (rows table)
 
       go : (t : Bool) → every isNumber fs && leb (length fs) m ≡ t → withNumbers (shortCode w) (numbersIn m fs) ≡ find table w fs
       go true e =
           let few = leb-true (length fs) m (and-right (every isNumber fs) (leb (length fs) m) e) in
-          let back : take (length fs) (laid 0 mostNumbers (map value fs)) ≡ map value fs =
-          rw (← (length-map fs value)) (take-laid 0 mostNumbers (map value fs) (omega (arith, length-map fs value))) in
-          rw (e, back) (sym (find-numbers w b fs table r (and-left (every isNumber fs) (leb (length fs) m) e)))
-      go false e = rw e (sym (find-broken w b fs table r (λ k. not-fitting (every isNumber fs) (length fs) m e)))
-
-  -- a word that the table has not before numbers is none of the grammar
-  none-find : mostNumbers < countAfter w → Broken ≡ find table w fs
-  none-find l = sym (find-broken w b fs table r (λ k. absurd (omega arith)))
+          let row = ordered-row (map value fs) (omega (arith, length-map fs value, most-few (shortCode w) table kept 0 (omega arith))) table kept in
+          rw e (sym (find-ordered w other fs (and-left (every isNumber fs) (leb (length fs) m) e) table kept ∙ rw (length-map fs value) at row))
+      go false e = rw e (sym (find-broken fs table kept 0 e))
 
 -- ---- one field of bits is the whole rest of the line
 abbrev checked : List (List ℕ) → Command
@@ -173,14 +199,6 @@ bits-field t = go (one-field t)
     go (inr e) = rw (e .0, no-bits t (e .1))
 
 -- ---- a line of bytes
--- no word of the table has the number 0
-count-none : countOf table 0 ≡ mostNumbers + 1
-unfolding countOf
-count-none = refl
-
-abbrev check : List ℕ
-check = bytes "check"
-
 find-check : (fs : List (List ℕ)) → find table check fs ≡ checked fs
 unfolding find same
 find-check fs = refl
@@ -205,10 +223,6 @@ module _ (s : List ℕ) (b : Bytes s) where
   length-word : length (wordIn s) ≡ before comma s
   length-word = omega (arith, length-take (before comma s) s, before-most comma s)
 
-  rows : same check (wordIn s) ≡ false → Rows table (wordIn s)
-  unfolding countOf
-  rows h = (omega arith, (omega arith, (omega arith, (omega arith, (omega arith, (omega arith, (omega arith, (omega arith, (omega arith, (omega arith, (omega arith, (h, tt))))))))))))
-
   short : before comma s ≤ mostLetters → wordOf s ≡ record { code = shortCode (wordIn s); end = before comma s }
   unfolding wordOf
   short l = rw (length-word, le-leb (before comma s) mostLetters l)
@@ -225,22 +239,22 @@ module _ (s : List ℕ) (b : Bytes s) where
       go (inr l) = rw (short l)
 
   -- a word that is not the one before bits: the table has it before numbers, or not at all
-  module _ (h : wordOf s .code ≡ code check → ⊥) where
-    word-bytes : Bytes (wordIn s)
-    word-bytes = bytes-take (before comma s) s b
+  numbers-parse : (wordOf s .code ≡ code check → ⊥) → withNumbers (wordOf s .code) (numbersIn (mostAfter (wordOf s .code) (rows table)) (fieldsAfter (wordOf s .end) s)) ≡ parse s
+  numbers-parse h = go (below-or mostLetters (before comma s))
+    where
+      w : List ℕ
+      w = wordIn s
 
-    word-rows : Rows table (wordIn s)
-    word-rows = rows (same-short check (wordIn s) (omega arith) word-bytes (omega arith) ∙ ne-eqb (shortCode (wordIn s)) (code check) (λ q. h (coded ∙ q)))
+      other : same check w ≡ false
+      other = same-short check w (omega arith) (bytes-take (before comma s) s b) (omega arith) ∙ ne-eqb (shortCode w) (code check) (λ q. h (coded ∙ q))
 
-    numbers-parse : countOf table (wordOf s .code) ≤ mostNumbers → withNumbers (wordOf s .code) (numbersIn (countOf table (wordOf s .code)) (fieldsAfter (wordOf s .end) s)) ≡ parse s
-    numbers-parse l = go (below-or mostLetters (before comma s))
-      where
-        go : (mostLetters < before comma s) ⊎ (before comma s ≤ mostLetters) → withNumbers (wordOf s .code) (numbersIn (countOf table (wordOf s .code)) (fieldsAfter (wordOf s .end) s)) ≡ parse s
-        go (inl g) = absurd (omega (arith, count-none, ap (λ (x : Word). countOf table (x .code)) (long g)))
-        go (inr g) = rw (short g) (with-find (wordIn s) word-bytes word-rows (fieldsAfter (before comma s) s) (rw coded at l) ∙ sym parse-find)
+      found : withNumbers (shortCode w) (numbersIn (mostAfter (shortCode w) (rows table)) (fieldsAfter (before comma s) s)) ≡ parse s
+      found = with-find w (bytes-take (before comma s) s b) other (fieldsAfter (before comma s) s) ∙ sym parse-find
 
-    none-parse : mostNumbers < countOf table (wordOf s .code) → Broken ≡ parse s
-    none-parse l = none-find (wordIn s) word-bytes word-rows (fieldsAfter (before comma s) s) (rw coded at l) ∙ sym parse-find
+      go : (mostLetters < before comma s) ⊎ (before comma s ≤ mostLetters)
+          → withNumbers (wordOf s .code) (numbersIn (mostAfter (wordOf s .code) (rows table)) (fieldsAfter (wordOf s .end) s)) ≡ parse s
+      go (inl g) = rw (long g) (none-numbers _) ∙ sym (none-numbers _) ∙ rw (sym coded ∙ ap (λ (x : Word). x .code) (long g)) at found
+      go (inr g) = rw (short g) found
 
   -- the word before bits
   bits-parse : wordOf s .code ≡ code check → bitsOf (drop (wordOf s .end + 1) s) ≡ parse s
@@ -258,12 +272,8 @@ module _ (s : List ℕ) (b : Bytes s) where
     pub read-bits : r .code ≡ code check → bitsOf (drop (r .end + 1) s) ≡ parse s
     read-bits = subst⁻¹ (λ (x : Word). x .code ≡ code check → bitsOf (drop (x .end + 1) s) ≡ parse s) e bits-parse
 
-    module _ (h : r .code ≡ code check → ⊥) {m : ℕ} (k : m ≡ countOf table (r .code)) where
-      pub read-numbers : m ≤ mostNumbers → withNumbers (r .code) (numbersIn m (fieldsAfter (r .end) s)) ≡ parse s
-      read-numbers l = rw (k, e) (numbers-parse (rw e at h) (rw (k, e) at l))
-
-      pub read-none : mostNumbers < m → Broken ≡ parse s
-      read-none l = none-parse (rw e at h) (rw (k, e) at l)
+    pub read-numbers : (r .code ≡ code check → ⊥) → {m : ℕ} → m ≡ mostAfter (r .code) (rows table) → withNumbers (r .code) (numbersIn m (fieldsAfter (r .end) s)) ≡ parse s
+    read-numbers h k = rw (k, e) (numbers-parse (rw e at h))
 
 pub word-inside : (s : List ℕ) → wordOf s .end ≤ length s
 unfolding wordOf

@@ -11,7 +11,7 @@ use lib.ListN.{length, take, drop, length-take, length-append}
 use lib.Seq.{take-all, append-snoc, sets-eq, take-at, take-append-add}
 use Rattle.lists.specs.Tests.{pick}
 use Rattle.lines.specs.declared.splitting.Taken.{Taken}
-use Rattle.lines.specs.Text.{lineFeed, before}
+use Rattle.lines.specs.Text.{lineFeed, firstAt, before}
 use Rattle.lines.specs.Length.{mostBytes, tooLong}
 use Rattle.lines.specs.Input.{lines, mostKept, kept, Fed, ahead, feed, feedAll, bytesFor, hasEnd, Took}
 use Rattle.lines.proofs.Without.{Without, none, byte, without-append, lines-first, lines-last}
@@ -121,7 +121,7 @@ first-byte l b n bs =
     rw (e, add-one (suc n), add-one n, leb·suc-suc (suc n) (length bs))
 
 feed-first : (s l : List ℕ) → length l ≤ mostKept → feed l s ≡ firstLine l (before lineFeed s) s
-unfolding before firstLine feed
+unfolding firstAt before firstLine feed
 feed-first [] l h = rw (whole l h)
 feed-first (b ∷ bs) l h = go (eqb b lineFeed) refl (feed-first bs (kept (l ++ (b ∷ []))) (omega (arith, length-take mostKept (l ++ (b ∷ [])))))
   where

@@ -6,7 +6,7 @@ pub mod Fields
 pub mod Numbers
 pub mod Bits
 pub mod Codes
-pub mod Counts
+pub mod Rows
 pub mod Commands
 pub mod Decimal
 pub mod Answers

@@ -92,6 +92,12 @@ unfoldable pub find : List Form → (word : List ℕ) → (fields : List (List �
 find [] v fs = Broken
 find (x ∷ xs) v fs = pick (fits x v fs) (asked x fs) (find xs v fs)
 
+-- what the table has for a word and numbers
+unfoldable pub ordered : List Form → (word : List ℕ) → (values : List ℕ) → Command
+ordered [] v ns = Broken
+ordered (numbers w n c ∷ xs) v ns = pick (same w v && eqb (length ns) n) (c (λ k. getD ns (k - 1) 0)) (ordered xs v ns)
+ordered (bits w c ∷ xs) v ns = ordered xs v ns
+
 abbrev pub command : List (List ℕ) → Command
 command [] = Broken
 command (v ∷ fs) = find table v fs

@@ -1,6 +1,6 @@
 -- What the parts of `read` find in a line: the number of its word, the numbers or the bits after it, and the command of both.
 -- They serve only inside; what a line means is `parse` of Grammar. Assumes nothing.
-use Prim.Native.Nat.{ℕ, _+_, _-_, _*_}
+use Prim.Native.Nat.{ℕ, zero, suc, _+_, _-_, _*_, _/_, _%_}
 use mathlib.Core.Bool.{Bool, true, false, _&&_, _||_}
 use mathlib.Core.List.{List, [], _∷_, map}
 use lib.Dec.{leb, ltb, eqb}
@@ -11,7 +11,7 @@ use Rattle.lines.specs.declared.Command.{Command}
 use Rattle.lines.specs.declared.Command.the-variants.{Check, Broken}
 use Rattle.lines.specs.declared.reading.Word.{Word}
 use Rattle.lines.specs.declared.reading.Numbers.{Numbers}
-use Rattle.lines.specs.Text.{comma, before}
+use Rattle.lines.specs.Text.{comma, firstAt, before}
 use Rattle.lines.specs.Grammar.{fields, mostDigits, isDigit, isNumber, value, isBits, loadsOf, Form, numbers, bits, table}
 
 -- ---- words
@@ -39,12 +39,6 @@ fieldsAfter e s = pick (ltb e (length s)) (fields (drop (e + 1) s)) []
 abbrev pub mostNumbers : ℕ
 mostNumbers = 3
 
--- how many numbers the table has after the word with this number; one more than after any word where it has no such word before numbers
-unfoldable pub countOf : List Form → ℕ → ℕ
-countOf [] c = mostNumbers + 1
-countOf (numbers w n f ∷ xs) c = pick (eqb c (code w)) n (countOf xs c)
-countOf (bits w f ∷ xs) c = countOf xs c
-
 -- may b be the next digit of a number with so many digits and this value so far?
 abbrev pub mayFollow : (digits value b : ℕ) → Bool
 mayFollow d v b = isDigit b && ltb d mostDigits && (eqb d 0 || ltb 0 v)
@@ -63,12 +57,44 @@ numbersIn most fs = pick (every isNumber fs && leb (length fs) most) (someNumber
 unfoldable pub bitsOf : List ℕ → Command
 bitsOf f = pick (isBits f) (Check (loadsOf f) (length f)) Broken
 
--- ---- commands
--- the command of a word's number and of the numbers after it
-unfoldable pub numbered : List Form → ℕ → List ℕ → Command
-numbered [] c ns = Broken
-numbered (numbers w n f ∷ xs) c ns = pick (eqb (length ns) n && eqb c (code w)) (f (λ k. getD ns (k - 1) 0)) (numbered xs c ns)
-numbered (bits w f ∷ xs) c ns = numbered xs c ns
+-- ---- rows
+-- a row as a number: that of its word, and as one byte more the count of its numbers
+abbrev pub rowCode : List ℕ → ℕ → ℕ
+rowCode w n = code w * 256 + n
 
+-- the rows with numbers
+abbrev pub rows : List Form → List ℕ
+rows [] = []
+rows (numbers w n f ∷ xs) = rowCode w n ∷ rows xs
+rows (bits w f ∷ xs) = rows xs
+
+-- the count of a row with the word c where it is more than k, else k
+abbrev pub orMore : (k c x : ℕ) → ℕ
+orMore k c x = pick (eqb c (x / 256) && ltb k (x % 256)) (x % 256) k
+
+-- how many numbers the rows have at most after a word, and at least k; 0 where no row has the word
+unfoldable pub mostFrom : (k c : ℕ) → List ℕ → ℕ
+mostFrom k c [] = k
+mostFrom k c (x ∷ xs) = mostFrom (orMore k c x) c xs
+
+abbrev pub mostAfter : ℕ → List ℕ → ℕ
+mostAfter c xs = mostFrom 0 c xs
+
+-- is it the row with the word c and n numbers?
+abbrev pub isRow : (c n x : ℕ) → Bool
+isRow c n x = eqb c (x / 256) && eqb n (x % 256)
+
+-- the place of that row, counted from 0; that past all rows where there is none
+abbrev pub placeOf : (c n : ℕ) → List ℕ → ℕ
+placeOf c n xs = firstAt (isRow c n) xs
+
+-- what the row at a place asks for with these numbers
+abbrev pub commandAt : List Form → ℕ → List ℕ → Command
+commandAt [] i ns = Broken
+commandAt (numbers w n f ∷ xs) zero ns = f (λ k. getD ns (k - 1) 0)
+commandAt (numbers w n f ∷ xs) (suc i) ns = commandAt xs i ns
+commandAt (bits w f ∷ xs) i ns = commandAt xs i ns
+
+-- the command of a word's number and of the numbers after it
 unfoldable pub withNumbers : ℕ → Numbers → Command
-withNumbers c n = pick (n .ok) (numbered table c (take (n .count) (n .values))) Broken
+withNumbers c n = pick (n .ok) (commandAt table (placeOf c (n .count) (rows table)) (n .values)) Broken

@@ -30,10 +30,14 @@ same [] (b ∷ bs) = false
 same (a ∷ xs) [] = false
 same (a ∷ xs) (b ∷ bs) = eqb a b && same xs bs
 
+-- how many stand before the first that passes the test; all of them where none does
+unfoldable pub firstAt : (ℕ → Bool) → List ℕ → ℕ
+firstAt p [] = 0
+firstAt p (b ∷ bs) = pick (p b) 0 (suc (firstAt p bs))
+
 -- how many bytes stand before the first byte x; all of them where there is none
 unfoldable pub before : ℕ → List ℕ → ℕ
-before x [] = 0
-before x (b ∷ bs) = pick (eqb b x) 0 (suc (before x bs))
+before x s = firstAt (λ b. eqb b x) s
 
 -- a number in decimal, at most k digits of it
 unfoldable pub decimalTo : ℕ → ℕ → List ℕ

@@ -7,11 +7,10 @@ use crate::NOUGHT;
 use marks::LoadSet;
 ghost use Prim.Native.Nat.{_≤_};
 ghost use mathlib.Core.Path.{_≡_};
-ghost use mathlib.Core.List.{[], _∷_};
 ghost use lib.ListN.{drop};
 ghost use Rattle.lines.specs.Length.{tooLong};
 ghost use Rattle.lines.specs.Grammar.{table, parse};
-ghost use Rattle.lines.specs.Reading.{wordOf, countOf, mayFollow, mostNumbers, noNumbers, someNumbers, fieldsAfter, numbersIn, bitsOf, numbered, withNumbers};
+ghost use Rattle.lines.specs.Reading.{wordOf, mayFollow, mostNumbers, noNumbers, someNumbers, fieldsAfter, numbersIn, bitsOf, rows, mostAfter, placeOf, commandAt, withNumbers};
 
 const MOST_LETTERS: usize = 6;
 
@@ -19,29 +18,23 @@ const MOST_DIGITS: u32 = 5;
 
 const MOST_NUMBERS: usize = 3;
 
-// The words of the table as numbers: their bytes in base 256 after a 1.
-const CLEAR: u64 = 0x1_636c656172;
+// The rows of the table with numbers, each as one number: the bytes of its word in base 256 after a 1, and as one byte more the count of
+// its numbers.
+const ROWS: [u64; 11] = [
+    0x1_636c656172_00, // clear
+    0x1_626f6f6b_02, // book
+    0x1_7374617274_01, // start
+    0x1_656e64_01, // end
+    0x1_72756c65_03, // rule
+    0x1_726f77_03, // row
+    0x1_6c6f6164_03, // load
+    0x1_706f776572_02, // power
+    0x1_776f727468_02, // worth
+    0x1_627564676574_01, // budget
+    0x1_706c616e_00, // plan
+];
 
-const BOOK: u64 = 0x1_626f6f6b;
-
-const START: u64 = 0x1_7374617274;
-
-const END: u64 = 0x1_656e64;
-
-const RULE: u64 = 0x1_72756c65;
-
-const ROW: u64 = 0x1_726f77;
-
-const LOAD: u64 = 0x1_6c6f6164;
-
-const POWER: u64 = 0x1_706f776572;
-
-const WORTH: u64 = 0x1_776f727468;
-
-const BUDGET: u64 = 0x1_627564676574;
-
-const PLAN: u64 = 0x1_706c616e;
-
+// The word before bits.
 const CHECK: u64 = 0x1_636865636b;
 
 // A word's number, and the place after it in the line. A word with more letters than any of the table has number 0.
@@ -80,17 +73,36 @@ fn read_word(s: &[u8]) -> Word
     }
 }
 
-// How many numbers the table has after a word. For `check` and for a word that is not in the table: one more than after any other.
+// How many numbers the table has at most after a word; 0 where it has no such word before numbers.
 fn numbers_of(code: u64) -> usize
-    ensures { λ r. ⌜ r ≡ countOf table code ⌝ }
+    ensures { λ r. ⌜ r ≡ mostAfter code (rows table) ⌝ }
 {
-    match code {
-        CLEAR | PLAN => 0,
-        START | END | BUDGET => 1,
-        BOOK | POWER | WORTH => 2,
-        RULE | ROW | LOAD => 3,
-        _ => MOST_NUMBERS + 1,
+    let mut most: usize = 0;
+    let mut i: usize = 0;
+    while i < ROWS.len() {
+        let row = ROWS[i];
+        let count = (row % 256) as usize;
+        if (code == row / 256) & (most < count) {
+            most = count;
+        }
+        i += 1;
     }
+    most
+}
+
+// The place of the row with this word and so many numbers; that past all rows where there is none.
+fn row_of(code: u64, count: usize) -> usize
+    ensures { λ r. ⌜ r ≡ placeOf code count (rows table) ⌝ }
+{
+    let mut i: usize = 0;
+    while i < ROWS.len() {
+        let row = ROWS[i];
+        if (code == row / 256) & (count == (row % 256) as usize) {
+            break;
+        }
+        i += 1;
+    }
+    i
 }
 
 // May b be the next digit of a number with this many digits and this value so far?
@@ -190,87 +202,66 @@ fn read_bits(s: &[u8], start: usize) -> Command
     }
 }
 
-// The commands with no number, with one, two and three.
-fn alone(code: u64) -> Command
-    ensures { λ r. ⌜ r ≡ numbered table code [] ⌝ }
+// The command of the row at a place, with its numbers. Past all rows there is none.
+fn command_of(row: usize, v: [u32; MOST_NUMBERS]) -> Command
+    ensures { λ r. ⌜ r ≡ commandAt table row v ⌝ }
 {
-    match code {
-        CLEAR => Command::Change {
+    let a = v[0];
+    let b = v[1];
+    let c = v[2];
+    match row {
+        0 => Command::Change {
             change: Change::Clear,
         },
-        PLAN => Command::Plan,
-        _ => Command::Broken,
-    }
-}
-
-fn with_one(code: u64, a: u32) -> Command
-    ensures { λ r. ⌜ r ≡ numbered table code (a ∷ []) ⌝ }
-{
-    match code {
-        START => Command::Change {
-            change: Change::Start { state: a },
-        },
-        END => Command::Change {
-            change: Change::End { stage: a },
-        },
-        BUDGET => Command::Change {
-            change: Change::Budget { watts: a },
-        },
-        _ => Command::Broken,
-    }
-}
-
-fn with_two(code: u64, a: u32, b: u32) -> Command
-    ensures { λ r. ⌜ r ≡ numbered table code (a ∷ b ∷ []) ⌝ }
-{
-    match code {
-        BOOK => Command::Change {
+        1 => Command::Change {
             change: Change::Book {
                 states: a,
                 stages: b,
             },
         },
-        POWER => Command::Change {
-            change: Change::Power {
-                number: a,
-                watts: b,
-            },
+        2 => Command::Change {
+            change: Change::Start { state: a },
         },
-        WORTH => Command::Change {
-            change: Change::Worth {
-                number: a,
-                figure: b,
-            },
+        3 => Command::Change {
+            change: Change::End { stage: a },
         },
-        _ => Command::Broken,
-    }
-}
-
-fn with_three(code: u64, a: u32, b: u32, c: u32) -> Command
-    ensures { λ r. ⌜ r ≡ numbered table code (a ∷ b ∷ c ∷ []) ⌝ }
-{
-    match code {
-        RULE => Command::Change {
+        4 => Command::Change {
             change: Change::Rule {
                 state: a,
                 mark: b,
                 stage: c,
             },
         },
-        ROW => Command::Change {
+        5 => Command::Change {
             change: Change::Row {
                 stage: a,
                 state: b,
                 next: c,
             },
         },
-        LOAD => Command::Change {
+        6 => Command::Change {
             change: Change::Load {
                 parent: a,
                 power: b,
                 worth: c,
             },
         },
+        7 => Command::Change {
+            change: Change::Power {
+                number: a,
+                watts: b,
+            },
+        },
+        8 => Command::Change {
+            change: Change::Worth {
+                number: a,
+                figure: b,
+            },
+        },
+        9 => Command::Change {
+            change: Change::Budget { watts: a },
+        },
+        10 => Command::Plan,
         _ => Command::Broken,
     }
 }
@@ -284,12 +275,7 @@ fn with_numbers(code: u64, n: Numbers) -> Command
     }
     let v = n.values;
     let count = n.count;
-    match count {
-        0 => alone(code),
-        1 => with_one(code, v[0]),
-        2 => with_two(code, v[0], v[1]),
-        _ => with_three(code, v[0], v[1], v[2]),
-    }
+    command_of(row_of(code, count), v)
 }
 
 // Is a line longer than a line may be? That is judged before its form, and apart from it.
@@ -310,8 +296,5 @@ pub fn read(line: &[u8]) -> Command
         return read_bits(line, end + 1);
     }
     let most = numbers_of(code);
-    if MOST_NUMBERS < most {
-        return Command::Broken;
-    }
     with_numbers(code, read_numbers(line, end, most))
 }

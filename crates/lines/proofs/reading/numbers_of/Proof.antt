@@ -1,48 +1,45 @@
--- `numbers_of` meets its contract: how many numbers stand after each word of the table. Assumes nothing.
-use mathlib.Core.Logic.{inl, inr, ⊎-elim}
+-- `numbers_of` meets its contract. The invariant: what all rows give is what those from here on give. Assumes nothing.
+use Prim.Native.Nat.{_-_}
+use mathlib.Core.Path.{_≡_, refl, sym, _∙_}
+use mathlib.Core.Bool.{true, false}
+use mathlib.Core.Logic.{⊎-elim}
+use native.Mathlib.Omega.{arith}
 use borrow.Author.Needs.{needs}
-use borrow.Author.Tests.{ne-eqb}
-use Rattle.lines.specs.Reading.{countOf}
+use lib.ListN.{length, drop}
+use Rattle.lines.specs.Grammar.{table}
+use Rattle.lines.specs.Reading.{rows, mostFrom, mostAfter}
+use Rattle.lines.proofs.Rows.{most-end, most-turn}
 use Rattle.lines.proofs.reading.numbers_of.Statement.{statement}
 use Rattle.lines.proofs.reading.numbers_of.Tie as tie
 
-returns : tie.Need-returns
-unfolding countOf
-returns c = ⊎-elim (λ e. rw e) (λ e. rw e) (c .match .keys1)
+abbrev Inv-loop : tie.InvT-loop
+Inv-loop code most₀ i₀ most i = mostAfter code (rows table) ≡ mostFrom most code (drop i (rows table))
 
-returns-2 : tie.Need-returns-2
-unfolding countOf
-returns-2 c = ⊎-elim (λ e. rw e) (⊎-elim (λ e. rw e) (λ e. rw e)) (c .match .keys2)
+abbrev μ-loop : tie.MeasureT-loop
+μ-loop code most₀ i₀ most i = length (rows table) - i
 
-returns-3 : tie.Need-returns-3
-unfolding countOf
-returns-3 c = ⊎-elim (λ e. rw e) (⊎-elim (λ e. rw e) (λ e. rw e)) (c .match .keys3)
+loop-holds : tie.Need-loop-holds Inv-loop μ-loop
+loop-holds c = refl
 
-returns-4 : tie.Need-returns-4
-unfolding countOf
-returns-4 c = ⊎-elim (λ e. rw e) (⊎-elim (λ e. rw e) (λ e. rw e)) (c .match .keys4)
+loop-again : tie.Need-loop-again Inv-loop μ-loop
+loop-again c =
+    let l = c .before .before in
+    let turn = most-turn (l .loop .most) (l .before .args .code) (rows table) (l .loop .i) (search needs) in
+    l .loop .inv ∙ ⊎-elim (λ w. turn true (w .0 .taken) _ (w .1)) (λ w. turn false (w .0 .left) _ (w .1)) (c .if1 .came)
 
-returns-5 : tie.Need-returns-5
-unfolding countOf
-returns-5 c =
-    let r = c .match .rest in
-    let zero = r .0 .0 .0 .1 in
-    let one = r .0 .0 .1 in
-    let two = r .0 .1 in
-    let three = r .1 in
-    rw (
-      ne-eqb _ _ (λ e. zero (inl e)),
-      ne-eqb _ _ (λ e. zero (inr e)),
-      ne-eqb _ _ (λ e. one (inl e)),
-      ne-eqb _ _ (λ e. one (inr (inl e))),
-      ne-eqb _ _ (λ e. one (inr (inr e))),
-      ne-eqb _ _ (λ e. two (inl e)),
-      ne-eqb _ _ (λ e. two (inr (inl e))),
-      ne-eqb _ _ (λ e. two (inr (inr e))),
-      ne-eqb _ _ (λ e. three (inl e)),
-      ne-eqb _ _ (λ e. three (inr (inl e))),
-      ne-eqb _ _ (λ e. three (inr (inr e))),
-    )
+returns : tie.Need-returns Inv-loop μ-loop
+returns c = let l = c .before in sym (l .loop .inv ∙ most-end (l .loop .most) (l .before .args .code) (rows table) (l .loop .i) (search needs))
 
 pub numbers-of-spec : {M : Type 1} → statement M
-numbers-of-spec = tie.close (tie.spec (λ c. search needs) returns returns-2 returns-3 returns-4 returns-5)
+numbers-of-spec =
+    tie.close
+    (tie.spec
+    Inv-loop
+    μ-loop
+    loop-holds
+    (λ c. search needs)
+    (λ c. search needs)
+    (λ c. search needs)
+    (λ c. search needs)
+    loop-again
+    returns)

@@ -3,9 +3,11 @@ use mathlib.Core.Path.{ap, _∙_}
 use native.Mathlib.Omega.{arith}
 use borrow.Author.Needs.{needs}
 use Rattle.lines.specs.declared.reading.Word.{Word}
+use Rattle.lines.specs.Grammar.{table}
 use Rattle.lines.specs.Reading.{withNumbers}
 use Rattle.lines.proofs.Codes.{Bytes, all-bytes}
-use Rattle.lines.proofs.Commands.{word-inside, read-bits, read-numbers, read-none}
+use Rattle.lines.proofs.Rows.{kept, most-few}
+use Rattle.lines.proofs.Commands.{word-inside, read-bits, read-numbers}
 use Rattle.lines.proofs.reading.read.Statement.{statement}
 use Rattle.lines.proofs.reading.read.Tie as tie
 
@@ -21,18 +23,15 @@ add-read-bits c =
 returns : tie.Need-returns
 returns c = let w = c .before .before in c .read-bits .ensures ∙ read-bits _ (bytes (w .before)) (w .read-word .ensures) (c .before .if1 .taken)
 
+read-numbers-requires : tie.Need-read-numbers-requires
+read-numbers-requires c κs = rw (c .numbers-of .ensures) (most-few _ table kept 0 (omega arith))
+
 returns-2 : tie.Need-returns-2
 returns-2 c =
-    let i = c .before .before in
-    let w = i .before in
-    read-none _ (bytes (w .before)) (w .read-word .ensures) (i .if1 .left) (c .before .numbers-of .ensures) (c .if2 .taken)
-
-returns-3 : tie.Need-returns-3
-returns-3 c =
-    let n = c .before .before .before in
+    let n = c .before .before in
     let w = n .before .before in
     c .with-numbers .ensures ∙ ap (withNumbers (w .read-word .result .code)) (c .before .read-numbers .ensures)
-    ∙ read-numbers _ (bytes (w .before)) (w .read-word .ensures) (n .before .if1 .left) (n .numbers-of .ensures) (c .before .before .if2 .left)
+    ∙ read-numbers _ (bytes (w .before)) (w .read-word .ensures) (n .before .if1 .left) (n .numbers-of .ensures)
 
 pub read-spec : {M : Type 1} → statement M
 read-spec =
@@ -43,7 +42,6 @@ read-spec =
     (λ c κs. search needs)
     returns
     (λ c κs. search needs)
-    returns-2
+    read-numbers-requires
     (λ c κs. search needs)
-    (λ c κs. search needs)
-    returns-3)
+    returns-2)
