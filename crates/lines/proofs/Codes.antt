@@ -83,7 +83,7 @@ same-is [] (y ∷ b) h = absurd (let z : _≡_ {A = ℕ} 0 1 = cc in omega arith
 same-is (x ∷ a) [] h = absurd (let z : _≡_ {A = ℕ} 0 1 = cc in omega arith)
 same-is (x ∷ a) (y ∷ b) h = ap₂ _∷_ (eqb-true x y (and-left (eqb x y) (same a b) h)) (same-is a b (and-right (eqb x y) (same a b) h))
 
-same-refl : (w : List ℕ) → same w w ≡ true
+pub same-refl : (w : List ℕ) → same w w ≡ true
 unfolding same
 same-refl [] = refl
 same-refl (b ∷ bs) = rw (eq-eqb b b refl, same-refl bs)

@@ -17,7 +17,7 @@ use Rattle.lines.specs.declared.Command.{Command}
 use Rattle.lines.specs.declared.Command.the-variants.{Broken, Check}
 use Rattle.lines.specs.declared.reading.Word.{Word}
 use Rattle.lines.specs.Text.{comma, same, firstAt, before}
-use Rattle.lines.specs.Grammar.{onFirst, fields, isNumber, valueFrom, value, isBit, isBits, loadsOf, Form, numbers, bits, table, find, ordered, parse}
+use Rattle.lines.specs.Grammar.{onFirst, fields, isNumber, valueFrom, value, isBit, isBits, loadsOf, Form, numbers, bits, table, find, parse, ordered}
 use Rattle.lines.specs.Reading.{codeFrom, code, mostLetters, wordOf, fieldsAfter, mostNumbers, numbersIn, bitsOf, rowCode, rows, orMore, mostFrom, mostAfter, placeOf, commandAt, withNumbers}
 use Rattle.lines.proofs.Before.{before-most}
 use Rattle.lines.proofs.Fields.{Cons, cons, fields-cons}

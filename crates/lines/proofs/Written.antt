@@ -1,43 +1,114 @@
--- The line of a command is read as that command. Assumes nothing.
-use Prim.Native.Nat.{ℕ, zero, suc, _+_, _<_}
-use mathlib.Core.Path.{_≡_, refl, ap, _∙_}
-use mathlib.Core.Bool.{Bool, true, false, not}
+-- Lines as they are written are read back: each as the command that it stands for. Assumes nothing.
+use Prim.Native.Nat.{ℕ, zero, suc, _+_, _-_, _<_}
+use mathlib.Core.Path.{_≡_, refl, sym, ap, _∙_}
+use mathlib.Core.Bool.{Bool, true, false, _&&_, not}
 use mathlib.Core.List.{List, [], _∷_, map}
 use native.Mathlib.Omega.{arith}
-use borrow.Author.Tests.{le-leb, not-true}
-use lib.Dec.{eqb}
-use lib.ListN.{length}
-use Rattle.lists.specs.Tests.{pick, every}
-use Rattle.lists.proofs.Bools.{and-left, and-right}
+use borrow.Author.Tests.{le-leb, ltb-true, eq-eqb, ne-eqb, not-true}
+use lib.Dec.{eqb, ltb}
+use lib.ListN.{length, getD}
+use Rattle.lists.specs.Tests.{pick, some, every, distinct}
+use Rattle.lists.proofs.Bools.{and-left, and-right, or-left, or-right}
 use Rattle.marks.specs.declared.LoadSet.{LoadSet}
 use Rattle.marks.specs.Sets.{hasLoad}
+use Rattle.lines.specs.declared.Change as change
 use Rattle.lines.specs.declared.Command.{Command}
-use Rattle.lines.specs.declared.Command.the-variants.{Change, Plan, Check, Broken}
-use Rattle.lines.specs.declared.Change.the-variants.{Clear, Book, Start, End, Rule, Row, Load, Power, Worth, Budget}
+use Rattle.lines.specs.declared.Command.the-variants.{Change, Check, Broken}
 use Rattle.lines.specs.Text.{bytes, comma, nought, same, decimal}
-use Rattle.lines.specs.Grammar.{fields, isBit, isBits, table, find, parse}
-use Rattle.lines.specs.Written.{parted, bitsIn, written, Writable}
+use Rattle.lines.specs.Grammar.{fields, isNumber, value, isBit, isBits, loadsOf, Form, numbers, bits, table, find, parse, ordered, lineOf}
+use Rattle.lines.specs.Written.{parted, line, Short, written, bitsIn, writtenCheck}
+use Rattle.lines.proofs.Codes.{same-is, same-refl}
 use Rattle.lines.proofs.Decimal.{decimal-digits, decimal-form, decimal-value}
 use Rattle.lines.proofs.Without.{Without, none, byte, without-digits, fields-first, fields-last}
+use Rattle.lines.proofs.Rows.{check, isLetter, Row, Kept, kept}
+use Rattle.lines.proofs.Commands.{find-ordered}
 
--- ---- the fields of a word and numbers
-word : (w : List ℕ) → every (λ b. not (eqb b comma)) w ≡ true → Without comma w
+-- ---- a word and numbers
+word : (w : List ℕ) → every isLetter w ≡ true → Without comma w
 unfolding every
 word [] h = none
 word (b ∷ w) h =
-    byte (not-true (eqb b comma) (and-left (not (eqb b comma)) (every (λ b. not (eqb b comma)) w) h))
-    (word w (and-right (not (eqb b comma)) (every (λ b. not (eqb b comma)) w) h))
+    byte (ne-eqb b comma (λ e. absurd (omega (arith, ltb-true comma b (and-left (ltb comma b) (ltb b 256) (and-left (isLetter b) (every isLetter w) h))))))
+    (word w (and-right (isLetter b) (every isLetter w) h))
 
-line-fields : (ns : List ℕ) {w : List ℕ} → Without comma w → fields (parted w (map decimal ns)) ≡ w ∷ map decimal ns
+line-fields : (ns : List ℕ) {w : List ℕ} → Without comma w → fields (line w ns) ≡ w ∷ map decimal ns
 unfolding parted
 line-fields [] p = fields-last p
 line-fields (n ∷ ns) {w} p =
-    fields-first (parted (decimal n) (map decimal ns)) p
+    fields-first (line (decimal n) ns) p
     ∙ ap (λ (fs : List (List ℕ)). w ∷ fs) (line-fields ns (without-digits comma (omega arith) (decimal n) (decimal-digits n)))
 
-line-parse : (ns : List ℕ) {w : List ℕ} → Without comma w → parse (parted w (map decimal ns)) ≡ find table w (map decimal ns)
+all-numbers : (ns : List ℕ) → Short ns → every isNumber (map decimal ns) ≡ true
+unfolding every
+all-numbers [] h = refl
+all-numbers (n ∷ ns) h = rw (decimal-form n (h .0)) (all-numbers ns (h .1))
+
+all-values : (ns : List ℕ) → map value (map decimal ns) ≡ ns
+all-values [] = refl
+all-values (n ∷ ns) = rw (decimal-value n, all-values ns)
+
+-- the line of a word and numbers is read as what the table has for them
+pub line-ordered : (w ns : List ℕ) → every isLetter w ≡ true → same check w ≡ false → Short ns → parse (line w ns) ≡ ordered table w ns
 unfolding parse
-line-parse ns p = rw (line-fields ns p)
+line-ordered w ns l o s = rw (line-fields ns (word w l)) (find-ordered w o (map decimal ns) (all-numbers ns s) table kept ∙ rw (all-values ns))
+
+-- ---- the lines of a row: no row stands in the shade of an earlier one
+pub data In (w : List ℕ) (n : ℕ) (f : (ℕ → ℕ) → Command) : List Form → Type 0 where
+  here : {xs : List Form} → In w n f (numbers w n f ∷ xs)
+  there : {x : Form} {xs : List Form} → In w n f xs → In w n f (x ∷ xs)
+
+alike : Form → Form → Bool
+alike (numbers v m g) (numbers w n f) = same v w && eqb n m
+alike (numbers v m g) (bits w f) = false
+alike (bits v g) (numbers w n f) = false
+alike (bits v g) (bits w f) = false
+
+apart : distinct alike table ≡ true
+unfolding distinct some alike same
+apart = refl
+
+module _ {w : List ℕ} {n : ℕ} {f : (ℕ → ℕ) → Command} where
+  none-alike : (x : Form) {xs : List Form} → some (alike x) xs ≡ false → In w n f xs → alike x (numbers w n f) ≡ false
+  unfolding some
+  none-alike x h (here {xs = xs}) = or-left (alike x (numbers w n f)) (some (alike x) xs) h
+  none-alike x h (there {x = y} {xs = xs} p) = none-alike x (or-right (alike x y) (some (alike x) xs) h) p
+
+  ordered-in : {xs : List Form} → distinct alike xs ≡ true → In w n f xs → (ns : List ℕ) → length ns ≡ n → ordered xs w ns ≡ f (λ k. getD ns (k - 1) 0)
+  unfolding distinct ordered alike
+  ordered-in d here ns e = rw (same-refl w, eq-eqb (length ns) n e)
+  ordered-in d (there {x = numbers v m g} {xs = xs} p) ns e =
+      let o : same v w && eqb n m ≡ false = none-alike (numbers v m g) (not-true (some (alike (numbers v m g)) xs) (and-left (not (some (alike (numbers v m g)) xs)) (distinct alike xs) d)) p in
+      rw (e, o) (ordered-in (and-right (not (some (alike (numbers v m g)) xs)) (distinct alike xs) d) p ns e)
+  ordered-in d (there {x = bits v g} {xs = xs} p) ns e = ordered-in (and-right (not (some (alike (bits v g)) xs)) (distinct alike xs) d) p ns e
+
+  in-kept : {xs : List Form} → Kept xs → In w n f xs → Row w n
+  in-kept q here = q .0
+  in-kept q (there {x = numbers v m g} p) = in-kept (q .1) p
+  in-kept q (there {x = bits v g} p) = in-kept (q .1) p
+
+  -- the line of a row, with as many numbers as it has, is read as the row's command of these numbers
+  pub row-parses : In w n f table → (ns : List ℕ) → length ns ≡ n → Short ns → parse (line w ns) ≡ f (λ k. getD ns (k - 1) 0)
+  row-parses p ns e s = let r = in-kept kept p in line-ordered w ns (r .letters) (r .other) s ∙ ordered-in apart p ns e
+
+-- ---- the line of a change
+-- a word for which the table has a command is that of a row
+ordered-word : (w ns : List ℕ) (xs : List Form) → Kept xs → (ordered xs w ns ≡ Broken → ⊥) → (every isLetter w ≡ true) × (same check w ≡ false)
+unfolding ordered
+ordered-word w ns [] q h = absurd (h refl)
+ordered-word w ns (numbers v n f ∷ xs) q h = go (same v w) refl h (ordered-word w ns xs (q .1))
+  where
+    go : (t : Bool) → same v w ≡ t → (pick (t && eqb (length ns) n) (f (λ k. getD ns (k - 1) 0)) (ordered xs w ns) ≡ Broken → ⊥)
+        → ((ordered xs w ns ≡ Broken → ⊥) → (every isLetter w ≡ true) × (same check w ≡ false)) → (every isLetter w ≡ true) × (same check w ≡ false)
+    go true e h ih = rw (← (same-is v w e)) (q .0 .letters, q .0 .other)
+    go false e h ih = ih h
+ordered-word w ns (bits v f ∷ xs) q h = ordered-word w ns xs (q .1) h
+
+-- it is read as that change
+pub written-parses : (c : change.Change) → Short (lineOf c .values) → parse (written c) ≡ Change c
+written-parses c s =
+    let l = lineOf c in
+    let r = ordered-word (l .word) (l .values) table kept (λ e. absurd (let z : _≡_ {A = ℕ} 0 1 = cc (l .order) in omega arith)) in
+    line-ordered (l .word) (l .values) (r .0) (r .1) s ∙ l .order
 
 -- ---- the field of bits
 bit-plain : (t : Bool) → eqb (nought + pick t 1 0) comma ≡ false
@@ -67,26 +138,8 @@ bits-form : (s : LoadSet) (n : ℕ) → 0 < n → isBits (bitsIn s 1 n) ≡ true
 unfolding isBits
 bits-form s n h = rw (bits-each s n 1, le-leb 1 (length (bitsIn s 1 n)) (omega (arith, bits-count s n 1)))
 
-check-parse : (s : LoadSet) (n : ℕ) → parse (parted (bytes "check") (bitsIn s 1 n ∷ [])) ≡ find table (bytes "check") (bitsIn s 1 n ∷ [])
-unfolding parse parted every
-check-parse s n = rw (fields-first (bitsIn s 1 n) (word (bytes "check") refl), fields-last (bits-plain s n 1))
-
-broken : parse [] ≡ Broken
-unfolding parse fields find same
-broken = refl
-
-pub written-parses : (c : Command) → Writable c → parse (written c) ≡ c
-unfolding written find same every
-written-parses (Change Clear) h = line-parse [] (word (bytes "clear") refl)
-written-parses (Change (Book s g)) h = line-parse (s ∷ g ∷ []) (word (bytes "book") refl) ∙ rw (decimal-form s (h .0), decimal-form g (h .1), decimal-value s, decimal-value g)
-written-parses (Change (Start q)) h = line-parse (q ∷ []) (word (bytes "start") refl) ∙ rw (decimal-form q h, decimal-value q)
-written-parses (Change (End g)) h = line-parse (g ∷ []) (word (bytes "end") refl) ∙ rw (decimal-form g h, decimal-value g)
-written-parses (Change (Rule q m g)) h = line-parse (q ∷ m ∷ g ∷ []) (word (bytes "rule") refl) ∙ rw (decimal-form q (h .0), decimal-form m (h .1), decimal-form g (h .2), decimal-value q, decimal-value m, decimal-value g)
-written-parses (Change (Row g q k)) h = line-parse (g ∷ q ∷ k ∷ []) (word (bytes "row") refl) ∙ rw (decimal-form g (h .0), decimal-form q (h .1), decimal-form k (h .2), decimal-value g, decimal-value q, decimal-value k)
-written-parses (Change (Load p w v)) h = line-parse (p ∷ w ∷ v ∷ []) (word (bytes "load") refl) ∙ rw (decimal-form p (h .0), decimal-form w (h .1), decimal-form v (h .2), decimal-value p, decimal-value w, decimal-value v)
-written-parses (Change (Power k w)) h = line-parse (k ∷ w ∷ []) (word (bytes "power") refl) ∙ rw (decimal-form k (h .0), decimal-form w (h .1), decimal-value k, decimal-value w)
-written-parses (Change (Worth k v)) h = line-parse (k ∷ v ∷ []) (word (bytes "worth") refl) ∙ rw (decimal-form k (h .0), decimal-form v (h .1), decimal-value k, decimal-value v)
-written-parses (Change (Budget w)) h = line-parse (w ∷ []) (word (bytes "budget") refl) ∙ rw (decimal-form w h, decimal-value w)
-written-parses Plan h = line-parse [] (word (bytes "plan") refl)
-written-parses (Check s n) h = check-parse s n ∙ rw (bits-form s n (h .0), ← (h .1), bits-count s n 1)
-written-parses Broken h = broken
+-- the line of a check is read as that check
+pub check-parses : (s : LoadSet) (n : ℕ) → 0 < n → s ≡ loadsOf (bitsIn s 1 n) → parse (writtenCheck s n) ≡ Check s n
+unfolding parse parted find same every
+check-parses s n h e =
+    rw (fields-first (bitsIn s 1 n) (word check refl), fields-last (bits-plain s n 1)) (rw (bits-form s n h, ← e, bits-count s n 1))

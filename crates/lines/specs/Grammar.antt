@@ -1,6 +1,8 @@
 -- The commands, and how a line is read: paper 01, "Lines". `parse` gives every line of bytes its command, and `Broken` to each that is
 -- "no command of the table, wrong field count or form". The length of a line is judged apart (`Length`). Assumes nothing.
 use Prim.Native.Nat.{ℕ, suc, _+_, _-_, _*_}
+use Prim.Native.String.{String}
+use mathlib.Core.Path.{_≡_, refl}
 use mathlib.Core.Bool.{Bool, _&&_, _||_, not}
 use mathlib.Core.List.{List, [], _∷_}
 use lib.Dec.{eqb, leb}
@@ -10,6 +12,7 @@ use Rattle.marks.specs.declared.LoadSet.{LoadSet}
 use Rattle.marks.specs.Sets.{noLoads, joined}
 use Rattle.lines.specs.declared.Command.{Command}
 use Rattle.lines.specs.declared.Command.the-variants.{Change, Plan, Check, Broken}
+use Rattle.lines.specs.declared.Change as change
 use Rattle.lines.specs.declared.Change.the-variants.{Clear, Book, Start, End, Rule, Row, Load, Power, Worth, Budget}
 use Rattle.lines.specs.Text.{bytes, comma, nought, same}
 
@@ -92,15 +95,37 @@ unfoldable pub find : List Form → (word : List ℕ) → (fields : List (List �
 find [] v fs = Broken
 find (x ∷ xs) v fs = pick (fits x v fs) (asked x fs) (find xs v fs)
 
--- what the table has for a word and numbers
-unfoldable pub ordered : List Form → (word : List ℕ) → (values : List ℕ) → Command
-ordered [] v ns = Broken
-ordered (numbers w n c ∷ xs) v ns = pick (same w v && eqb (length ns) n) (c (λ k. getD ns (k - 1) 0)) (ordered xs v ns)
-ordered (bits w c ∷ xs) v ns = ordered xs v ns
-
 abbrev pub command : List (List ℕ) → Command
 command [] = Broken
 command (v ∷ fs) = find table v fs
 
 unfoldable pub parse : List ℕ → Command
 parse s = command (fields s)
+
+-- ---- the line of a change: a word and numbers for which the table has just that change
+-- what the table has for a word and numbers
+unfoldable pub ordered : List Form → (word : List ℕ) → (values : List ℕ) → Command
+ordered [] v ns = Broken
+ordered (numbers w n c ∷ xs) v ns = pick (same w v && eqb (length ns) n) (c (λ k. getD ns (k - 1) 0)) (ordered xs v ns)
+ordered (bits w c ∷ xs) v ns = ordered xs v ns
+
+pub record Line (c : change.Change) : Type 0 where
+  pub word : List ℕ
+  pub values : List ℕ
+  pub order : ordered table word values ≡ Change c
+
+abbrev says : {c : change.Change} (word : String) (values : List ℕ) → ordered table (bytes word) values ≡ Change c → Line c
+says w ns e = record { word = bytes w; values = ns; order = e }
+
+unfoldable pub lineOf : (c : change.Change) → Line c
+unfolding ordered same
+lineOf Clear = says "clear" [] refl
+lineOf (Book s g) = says "book" (s ∷ g ∷ []) refl
+lineOf (Start q) = says "start" (q ∷ []) refl
+lineOf (End g) = says "end" (g ∷ []) refl
+lineOf (Rule q m g) = says "rule" (q ∷ m ∷ g ∷ []) refl
+lineOf (Row g q h) = says "row" (g ∷ q ∷ h ∷ []) refl
+lineOf (Load p w v) = says "load" (p ∷ w ∷ v ∷ []) refl
+lineOf (Power k w) = says "power" (k ∷ w ∷ []) refl
+lineOf (Worth k v) = says "worth" (k ∷ v ∷ []) refl
+lineOf (Budget w) = says "budget" (w ∷ []) refl
