@@ -17,7 +17,7 @@ use Rattle.lines.specs.declared.Command.{Command}
 use Rattle.lines.specs.declared.Command.the-variants.{Broken, Check}
 use Rattle.lines.specs.declared.reading.Word.{Word}
 use Rattle.lines.specs.Text.{comma, same, firstAt, before}
-use Rattle.lines.specs.Grammar.{onFirst, fields, isNumber, valueFrom, value, isBit, isBits, loadsOf, Form, numbers, bits, table, find, parse, ordered}
+use Rattle.lines.specs.Grammar.{onFirst, fields, isNumber, valueFrom, value, isBit, isBits, loadsOf, Form, numbers, bits, table, find, parse, meant}
 use Rattle.lines.specs.Reading.{codeFrom, code, mostLetters, wordOf, fieldsAfter, mostNumbers, numbersIn, bitsOf, rowCode, rows, orMore, mostFrom, mostAfter, placeOf, commandAt, withNumbers}
 use Rattle.lines.proofs.Before.{before-most}
 use Rattle.lines.proofs.Fields.{Cons, cons, fields-cons}
@@ -91,16 +91,16 @@ map-at (f ∷ fs) zero = refl
 map-at (f ∷ fs) (suc i) = map-at fs i
 
 -- with all fields numbers, it is their values that the table is asked for
-pub find-ordered : (w : List ℕ) → same check w ≡ false → (fs : List (List ℕ)) → every isNumber fs ≡ true → (xs : List Form) → Kept xs → find xs w fs ≡ ordered xs w (map value fs)
-unfolding find ordered
-find-ordered w o fs h [] q = refl
-find-ordered w o fs h (numbers v n f ∷ xs) q = rw (h, length-map fs value, find-ordered w o fs h xs (q .1)) (simp map-at (go (same v w) (eqb (length fs) n)))
+pub find-meant : (w : List ℕ) → same check w ≡ false → (fs : List (List ℕ)) → every isNumber fs ≡ true → (xs : List Form) → Kept xs → find xs w fs ≡ meant xs w (map value fs)
+unfolding find meant
+find-meant w o fs h [] q = refl
+find-meant w o fs h (numbers v n f ∷ xs) q = rw (h, length-map fs value, find-meant w o fs h xs (q .1)) (simp map-at (go (same v w) (eqb (length fs) n)))
   where
-    go : (x y : Bool) → pick (x && y && true) (f (λ k. value (getD fs (k - 1) []))) (ordered xs w (map value fs)) ≡ pick (x && y) (f (λ k. value (getD fs (k - 1) []))) (ordered xs w (map value fs))
+    go : (x y : Bool) → pick (x && y && true) (f (λ k. value (getD fs (k - 1) []))) (meant xs w (map value fs)) ≡ pick (x && y) (f (λ k. value (getD fs (k - 1) []))) (meant xs w (map value fs))
     go true true = refl
     go true false = refl
     go false y = refl
-find-ordered w o fs h (bits v f ∷ xs) q = rw (q .0, o) (find-ordered w o fs h xs (q .1))
+find-meant w o fs h (bits v f ∷ xs) q = rw (q .0, o) (find-meant w o fs h xs (q .1))
 
 module _ (w : List ℕ) (b : Bytes w) (other : same check w ≡ false) where
   -- the word of a row is this one exactly if the row's number says so
@@ -110,18 +110,18 @@ module _ (w : List ℕ) (b : Bytes w) (other : same check w ≡ false) where
       rw e (same-short v w (letters-bytes v (r .letters)) b (r .few))
 
   -- the row is found by its number, and it sees no more of the numbers than there are
-  ordered-row : (ns : List ℕ) → length ns ≤ mostNumbers → (xs : List Form) → Kept xs → ordered xs w ns ≡ commandAt xs (placeOf (shortCode w) (length ns) (rows xs)) (laid 0 mostNumbers ns)
-  unfolding ordered firstAt
-  ordered-row ns few [] q = refl
-  ordered-row ns few (numbers v n f ∷ xs) q =
+  meant-row : (ns : List ℕ) → length ns ≤ mostNumbers → (xs : List Form) → Kept xs → meant xs w ns ≡ commandAt xs (placeOf (shortCode w) (length ns) (rows xs)) (laid 0 mostNumbers ns)
+  unfolding meant firstAt
+  meant-row ns few [] q = refl
+  meant-row ns few (numbers v n f ∷ xs) q =
       let e : rowCode v n % 256 ≡ n = omega (arith, q .0 .count) in
-      rw (row-word v n (q .0), e) (go (eqb (shortCode w) (rowCode v n / 256) && eqb (length ns) n) (ordered-row ns few xs (q .1)))
+      rw (row-word v n (q .0), e) (go (eqb (shortCode w) (rowCode v n / 256) && eqb (length ns) n) (meant-row ns few xs (q .1)))
     where
-      go : (t : Bool) → ordered xs w ns ≡ commandAt xs (placeOf (shortCode w) (length ns) (rows xs)) (laid 0 mostNumbers ns)
-          → pick t (f (λ k. getD ns (k - 1) 0)) (ordered xs w ns) ≡ commandAt (numbers v n f ∷ xs) (pick t 0 (suc (placeOf (shortCode w) (length ns) (rows xs)))) (laid 0 mostNumbers ns)
+      go : (t : Bool) → meant xs w ns ≡ commandAt xs (placeOf (shortCode w) (length ns) (rows xs)) (laid 0 mostNumbers ns)
+          → pick t (f (λ k. getD ns (k - 1) 0)) (meant xs w ns) ≡ commandAt (numbers v n f ∷ xs) (pick t 0 (suc (placeOf (shortCode w) (length ns) (rows xs)))) (laid 0 mostNumbers ns)
       go true ih = simp (laid-at 0 mostNumbers ns few)
       go false ih = ih
-  ordered-row ns few (bits v f ∷ xs) q = ordered-row ns few xs (q .1)
+  meant-row ns few (bits v f ∷ xs) q = meant-row ns few xs (q .1)
 
   -- fields that are no numbers, or more of them than any row of the word has
   find-broken : (fs : List (List ℕ)) (xs : List Form) → Kept xs → (k : ℕ) → every isNumber fs && leb (length fs) (mostFrom k (shortCode w) (rows xs)) ≡ false → find xs w fs ≡ Broken
@@ -155,8 +155,8 @@ module _ (w : List ℕ) (b : Bytes w) (other : same check w ≡ false) where
       go : (t : Bool) → every isNumber fs && leb (length fs) m ≡ t → withNumbers (shortCode w) (numbersIn m fs) ≡ find table w fs
       go true e =
           let few = leb-true (length fs) m (and-right (every isNumber fs) (leb (length fs) m) e) in
-          let row = ordered-row (map value fs) (omega (arith, length-map fs value, most-few (shortCode w) table kept 0 (omega arith))) table kept in
-          rw e (sym (find-ordered w other fs (and-left (every isNumber fs) (leb (length fs) m) e) table kept ∙ rw (length-map fs value) at row))
+          let row = meant-row (map value fs) (omega (arith, length-map fs value, most-few (shortCode w) table kept 0 (omega arith))) table kept in
+          rw e (sym (find-meant w other fs (and-left (every isNumber fs) (leb (length fs) m) e) table kept ∙ rw (length-map fs value) at row))
       go false e = rw e (sym (find-broken fs table kept 0 e))
 
 -- ---- one field of bits is the whole rest of the line

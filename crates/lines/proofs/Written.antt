@@ -15,13 +15,13 @@ use Rattle.lines.specs.declared.Change as change
 use Rattle.lines.specs.declared.Command.{Command}
 use Rattle.lines.specs.declared.Command.the-variants.{Change, Check, Broken}
 use Rattle.lines.specs.Text.{bytes, comma, nought, same, decimal}
-use Rattle.lines.specs.Grammar.{fields, isNumber, value, isBit, isBits, loadsOf, Form, numbers, bits, table, find, parse, ordered, lineOf}
+use Rattle.lines.specs.Grammar.{fields, isNumber, value, isBit, isBits, loadsOf, Form, numbers, bits, table, find, parse, meant, lineOf}
 use Rattle.lines.specs.Written.{parted, line, Short, written, bitsIn, writtenCheck}
 use Rattle.lines.proofs.Codes.{same-is, same-refl}
 use Rattle.lines.proofs.Decimal.{decimal-digits, decimal-form, decimal-value}
 use Rattle.lines.proofs.Without.{Without, none, byte, without-digits, fields-first, fields-last}
 use Rattle.lines.proofs.Rows.{check, isLetter, Row, Kept, kept}
-use Rattle.lines.proofs.Commands.{find-ordered}
+use Rattle.lines.proofs.Commands.{find-meant}
 
 -- ---- a word and numbers
 word : (w : List ℕ) → every isLetter w ≡ true → Without comma w
@@ -48,9 +48,9 @@ all-values [] = refl
 all-values (n ∷ ns) = rw (decimal-value n, all-values ns)
 
 -- the line of a word and numbers is read as what the table has for them
-pub line-ordered : (w ns : List ℕ) → every isLetter w ≡ true → same check w ≡ false → Short ns → parse (line w ns) ≡ ordered table w ns
+pub line-meant : (w ns : List ℕ) → every isLetter w ≡ true → same check w ≡ false → Short ns → parse (line w ns) ≡ meant table w ns
 unfolding parse
-line-ordered w ns l o s = rw (line-fields ns (word w l)) (find-ordered w o (map decimal ns) (all-numbers ns s) table kept ∙ rw (all-values ns))
+line-meant w ns l o s = rw (line-fields ns (word w l)) (find-meant w o (map decimal ns) (all-numbers ns s) table kept ∙ rw (all-values ns))
 
 -- ---- the lines of a row: no row stands in the shade of an earlier one
 pub data In (w : List ℕ) (n : ℕ) (f : (ℕ → ℕ) → Command) : List Form → Type 0 where
@@ -73,13 +73,13 @@ module _ {w : List ℕ} {n : ℕ} {f : (ℕ → ℕ) → Command} where
   none-alike x h (here {xs = xs}) = or-left (alike x (numbers w n f)) (some (alike x) xs) h
   none-alike x h (there {x = y} {xs = xs} p) = none-alike x (or-right (alike x y) (some (alike x) xs) h) p
 
-  ordered-in : {xs : List Form} → distinct alike xs ≡ true → In w n f xs → (ns : List ℕ) → length ns ≡ n → ordered xs w ns ≡ f (λ k. getD ns (k - 1) 0)
-  unfolding distinct ordered alike
-  ordered-in d here ns e = rw (same-refl w, eq-eqb (length ns) n e)
-  ordered-in d (there {x = numbers v m g} {xs = xs} p) ns e =
+  meant-in : {xs : List Form} → distinct alike xs ≡ true → In w n f xs → (ns : List ℕ) → length ns ≡ n → meant xs w ns ≡ f (λ k. getD ns (k - 1) 0)
+  unfolding distinct meant alike
+  meant-in d here ns e = rw (same-refl w, eq-eqb (length ns) n e)
+  meant-in d (there {x = numbers v m g} {xs = xs} p) ns e =
       let o : same v w && eqb n m ≡ false = none-alike (numbers v m g) (not-true (some (alike (numbers v m g)) xs) (and-left (not (some (alike (numbers v m g)) xs)) (distinct alike xs) d)) p in
-      rw (e, o) (ordered-in (and-right (not (some (alike (numbers v m g)) xs)) (distinct alike xs) d) p ns e)
-  ordered-in d (there {x = bits v g} {xs = xs} p) ns e = ordered-in (and-right (not (some (alike (bits v g)) xs)) (distinct alike xs) d) p ns e
+      rw (e, o) (meant-in (and-right (not (some (alike (numbers v m g)) xs)) (distinct alike xs) d) p ns e)
+  meant-in d (there {x = bits v g} {xs = xs} p) ns e = meant-in (and-right (not (some (alike (bits v g)) xs)) (distinct alike xs) d) p ns e
 
   in-kept : {xs : List Form} → Kept xs → In w n f xs → Row w n
   in-kept q here = q .0
@@ -88,27 +88,27 @@ module _ {w : List ℕ} {n : ℕ} {f : (ℕ → ℕ) → Command} where
 
   -- the line of a row, with as many numbers as it has, is read as the row's command of these numbers
   pub row-parses : In w n f table → (ns : List ℕ) → length ns ≡ n → Short ns → parse (line w ns) ≡ f (λ k. getD ns (k - 1) 0)
-  row-parses p ns e s = let r = in-kept kept p in line-ordered w ns (r .letters) (r .other) s ∙ ordered-in apart p ns e
+  row-parses p ns e s = let r = in-kept kept p in line-meant w ns (r .letters) (r .other) s ∙ meant-in apart p ns e
 
 -- ---- the line of a change
 -- a word for which the table has a command is that of a row
-ordered-word : (w ns : List ℕ) (xs : List Form) → Kept xs → (ordered xs w ns ≡ Broken → ⊥) → (every isLetter w ≡ true) × (same check w ≡ false)
-unfolding ordered
-ordered-word w ns [] q h = absurd (h refl)
-ordered-word w ns (numbers v n f ∷ xs) q h = go (same v w) refl h (ordered-word w ns xs (q .1))
+meant-word : (w ns : List ℕ) (xs : List Form) → Kept xs → (meant xs w ns ≡ Broken → ⊥) → (every isLetter w ≡ true) × (same check w ≡ false)
+unfolding meant
+meant-word w ns [] q h = absurd (h refl)
+meant-word w ns (numbers v n f ∷ xs) q h = go (same v w) refl h (meant-word w ns xs (q .1))
   where
-    go : (t : Bool) → same v w ≡ t → (pick (t && eqb (length ns) n) (f (λ k. getD ns (k - 1) 0)) (ordered xs w ns) ≡ Broken → ⊥)
-        → ((ordered xs w ns ≡ Broken → ⊥) → (every isLetter w ≡ true) × (same check w ≡ false)) → (every isLetter w ≡ true) × (same check w ≡ false)
+    go : (t : Bool) → same v w ≡ t → (pick (t && eqb (length ns) n) (f (λ k. getD ns (k - 1) 0)) (meant xs w ns) ≡ Broken → ⊥)
+        → ((meant xs w ns ≡ Broken → ⊥) → (every isLetter w ≡ true) × (same check w ≡ false)) → (every isLetter w ≡ true) × (same check w ≡ false)
     go true e h ih = rw (← (same-is v w e)) (q .0 .letters, q .0 .other)
     go false e h ih = ih h
-ordered-word w ns (bits v f ∷ xs) q h = ordered-word w ns xs (q .1) h
+meant-word w ns (bits v f ∷ xs) q h = meant-word w ns xs (q .1) h
 
 -- it is read as that change
 pub written-parses : (c : change.Change) → Short (lineOf c .values) → parse (written c) ≡ Change c
 written-parses c s =
     let l = lineOf c in
-    let r = ordered-word (l .word) (l .values) table kept (λ e. absurd (let z : _≡_ {A = ℕ} 0 1 = cc (l .order) in omega arith)) in
-    line-ordered (l .word) (l .values) (r .0) (r .1) s ∙ l .order
+    let r = meant-word (l .word) (l .values) table kept (λ e. absurd (let z : _≡_ {A = ℕ} 0 1 = cc (l .means) in omega arith)) in
+    line-meant (l .word) (l .values) (r .0) (r .1) s ∙ l .means
 
 -- ---- the field of bits
 bit-plain : (t : Bool) → eqb (nought + pick t 1 0) comma ≡ false

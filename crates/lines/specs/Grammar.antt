@@ -1,5 +1,6 @@
 -- The commands, and how a line is read: paper 01, "Lines". `parse` gives every line of bytes its command, and `Broken` to each that is
--- "no command of the table, wrong field count or form". The length of a line is judged apart (`Length`). Assumes nothing.
+-- "no command of the table, wrong field count or form". The length of a line is judged apart (`Length`). `lineOf` gives every change
+-- its line. Assumes nothing.
 use Prim.Native.Nat.{ℕ, suc, _+_, _-_, _*_}
 use Prim.Native.String.{String}
 use mathlib.Core.Path.{_≡_, refl}
@@ -102,23 +103,24 @@ command (v ∷ fs) = find table v fs
 unfoldable pub parse : List ℕ → Command
 parse s = command (fields s)
 
--- ---- the line of a change: a word and numbers for which the table has just that change
+-- ---- the line of a change
 -- what the table has for a word and numbers
-unfoldable pub ordered : List Form → (word : List ℕ) → (values : List ℕ) → Command
-ordered [] v ns = Broken
-ordered (numbers w n c ∷ xs) v ns = pick (same w v && eqb (length ns) n) (c (λ k. getD ns (k - 1) 0)) (ordered xs v ns)
-ordered (bits w c ∷ xs) v ns = ordered xs v ns
+unfoldable pub meant : List Form → (word : List ℕ) → (values : List ℕ) → Command
+meant [] v ns = Broken
+meant (numbers w n c ∷ xs) v ns = pick (same w v && eqb (length ns) n) (c (λ k. getD ns (k - 1) 0)) (meant xs v ns)
+meant (bits w c ∷ xs) v ns = meant xs v ns
 
+-- a word and numbers for which it has just this change
 pub record Line (c : change.Change) : Type 0 where
   pub word : List ℕ
   pub values : List ℕ
-  pub order : ordered table word values ≡ Change c
+  pub means : meant table word values ≡ Change c
 
-abbrev says : {c : change.Change} (word : String) (values : List ℕ) → ordered table (bytes word) values ≡ Change c → Line c
-says w ns e = record { word = bytes w; values = ns; order = e }
+abbrev says : {c : change.Change} (word : String) (values : List ℕ) → meant table (bytes word) values ≡ Change c → Line c
+says w ns e = record { word = bytes w; values = ns; means = e }
 
 unfoldable pub lineOf : (c : change.Change) → Line c
-unfolding ordered same
+unfolding meant same
 lineOf Clear = says "clear" [] refl
 lineOf (Book s g) = says "book" (s ∷ g ∷ []) refl
 lineOf (Start q) = says "start" (q ∷ []) refl

@@ -72,11 +72,12 @@ rows (bits w f ∷ xs) = rows xs
 abbrev pub orMore : (k c x : ℕ) → ℕ
 orMore k c x = pick (eqb c (x / 256) && ltb k (x % 256)) (x % 256) k
 
--- how many numbers the rows have at most after a word, and at least k; 0 where no row has the word
+-- how many numbers the rows have at most after the word c, where that is more than k, else k
 unfoldable pub mostFrom : (k c : ℕ) → List ℕ → ℕ
 mostFrom k c [] = k
 mostFrom k c (x ∷ xs) = mostFrom (orMore k c x) c xs
 
+-- how many they have at most after it; 0 where none has it
 abbrev pub mostAfter : ℕ → List ℕ → ℕ
 mostAfter c xs = mostFrom 0 c xs
 

@@ -77,10 +77,11 @@ fn read_word(s: &[u8]) -> Word
 fn numbers_of(code: u64) -> usize
     ensures { λ r. ⌜ r ≡ mostAfter code (rows table) ⌝ }
 {
+    let rows = ROWS;
     let mut most: usize = 0;
     let mut i: usize = 0;
-    while i < ROWS.len() {
-        let row = ROWS[i];
+    while i < rows.len() {
+        let row = rows[i];
         let count = (row % 256) as usize;
         if (code == row / 256) & (most < count) {
             most = count;
@@ -94,9 +95,10 @@ fn numbers_of(code: u64) -> usize
 fn row_of(code: u64, count: usize) -> usize
     ensures { λ r. ⌜ r ≡ placeOf code count (rows table) ⌝ }
 {
+    let rows = ROWS;
     let mut i: usize = 0;
-    while i < ROWS.len() {
-        let row = ROWS[i];
+    while i < rows.len() {
+        let row = rows[i];
         if (code == row / 256) & (count == (row % 256) as usize) {
             break;
         }
