@@ -16,23 +16,32 @@ const NOUGHT: u8 = 48;
 // A line has at most so many bytes, its line feed not counted.
 const MOST_BYTES: usize = 80;
 
-// What a change asks for: a line that can print `ok`.
+// What a change asks for: a line that can print `ok`. The numbers of a line stand in its order.
 pub enum Change {
     Clear,
-    Book { states: u32, stages: u32 },
-    Start { state: u32 },
-    End { stage: u32 },
-    Rule { state: u32, mark: u32, stage: u32 },
-    Row { stage: u32, state: u32, next: u32 },
-    Load { parent: u32, power: u32, worth: u32 },
-    Power { number: u32, watts: u32 },
-    Worth { number: u32, figure: u32 },
-    Budget { watts: u32 },
+    // States and stages.
+    Book(u32, u32),
+    // A state.
+    Start(u32),
+    // A stage.
+    End(u32),
+    // State, mark, stage.
+    Rule(u32, u32, u32),
+    // Stage, state, next stage.
+    Row(u32, u32, u32),
+    // Parent, power, worth.
+    Load(u32, u32, u32),
+    // The number of a load, and its power.
+    Power(u32, u32),
+    // The number of a load, and its worth.
+    Worth(u32, u32),
+    // Watts.
+    Budget(u32),
 }
 
 // What a line asks for. `Broken` is a line that is no command of the table, or breaks its form.
 pub enum Command {
-    Change { change: Change },
+    Change(Change),
     Plan,
     // The loads whose bit is 1, as far as a set of loads goes, and the count of all bits.
     Check { set: LoadSet, count: usize },

@@ -212,57 +212,16 @@ fn command_of(row: usize, v: [u32; MOST_NUMBERS]) -> Command
     let b = v[1];
     let c = v[2];
     match row {
-        0 => Command::Change {
-            change: Change::Clear,
-        },
-        1 => Command::Change {
-            change: Change::Book {
-                states: a,
-                stages: b,
-            },
-        },
-        2 => Command::Change {
-            change: Change::Start { state: a },
-        },
-        3 => Command::Change {
-            change: Change::End { stage: a },
-        },
-        4 => Command::Change {
-            change: Change::Rule {
-                state: a,
-                mark: b,
-                stage: c,
-            },
-        },
-        5 => Command::Change {
-            change: Change::Row {
-                stage: a,
-                state: b,
-                next: c,
-            },
-        },
-        6 => Command::Change {
-            change: Change::Load {
-                parent: a,
-                power: b,
-                worth: c,
-            },
-        },
-        7 => Command::Change {
-            change: Change::Power {
-                number: a,
-                watts: b,
-            },
-        },
-        8 => Command::Change {
-            change: Change::Worth {
-                number: a,
-                figure: b,
-            },
-        },
-        9 => Command::Change {
-            change: Change::Budget { watts: a },
-        },
+        0 => Command::Change(Change::Clear),
+        1 => Command::Change(Change::Book(a, b)),
+        2 => Command::Change(Change::Start(a)),
+        3 => Command::Change(Change::End(a)),
+        4 => Command::Change(Change::Rule(a, b, c)),
+        5 => Command::Change(Change::Row(a, b, c)),
+        6 => Command::Change(Change::Load(a, b, c)),
+        7 => Command::Change(Change::Power(a, b)),
+        8 => Command::Change(Change::Worth(a, b)),
+        9 => Command::Change(Change::Budget(a)),
         10 => Command::Plan,
         _ => Command::Broken,
     }

@@ -45,7 +45,7 @@ impl Planner {
         ensures { λ r. ⌜ Decides (stateIn self) (row (stateIn self) c) (now (work .entry)) (now (work .exit)) r ⌝ }
     {
         match c {
-            Command::Change { change } => changed(self.change(change)),
+            Command::Change(change) => changed(self.change(change)),
             Command::Plan => self.plan(work),
             Command::Check { set, count } => self.check(set, count),
             Command::Broken => self.refused(BROKEN),

@@ -190,19 +190,15 @@ impl Planner {
     {
         match c {
             Change::Clear => self.clear(),
-            Change::Book { states, stages } => self.book(states, stages),
-            Change::Start { state } => self.mark(Sort::Load, state),
-            Change::End { stage } => self.mark(Sort::Row, stage),
-            Change::Rule { state, mark, stage } => self.add_rule(Sort::Load, state, mark, stage),
-            Change::Row { stage, state, next } => self.add_rule(Sort::Row, stage, state, next),
-            Change::Load {
-                parent,
-                power,
-                worth,
-            } => self.load(parent, power, worth),
-            Change::Power { number, watts } => self.set_figure(Figure::Power, number, watts),
-            Change::Worth { number, figure } => self.set_figure(Figure::Worth, number, figure),
-            Change::Budget { watts } => self.budget(watts),
+            Change::Book(states, stages) => self.book(states, stages),
+            Change::Start(state) => self.mark(Sort::Load, state),
+            Change::End(stage) => self.mark(Sort::Row, stage),
+            Change::Rule(state, mark, stage) => self.add_rule(Sort::Load, state, mark, stage),
+            Change::Row(stage, state, next) => self.add_rule(Sort::Row, stage, state, next),
+            Change::Load(parent, power, worth) => self.load(parent, power, worth),
+            Change::Power(number, watts) => self.set_figure(Figure::Power, number, watts),
+            Change::Worth(number, worth) => self.set_figure(Figure::Worth, number, worth),
+            Change::Budget(watts) => self.budget(watts),
         }
     }
 }
