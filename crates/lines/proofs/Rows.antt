@@ -1,6 +1,6 @@
 -- The rows of the table as numbers: what the loops over them find, and the command of the row at a place. Assumes nothing.
-use Prim.Native.Nat.{ℕ, zero, suc, _+_, _*_, _/_, _%_, _≤_, _<_}
-use mathlib.Core.Path.{_≡_, refl, _∙_}
+use Prim.Native.Nat.{ℕ, zero, suc, _+_, _/_, _%_, _≤_, _<_}
+use mathlib.Core.Path.{_≡_, refl}
 use mathlib.Core.Bool.{Bool, true, false, _&&_, not}
 use mathlib.Core.List.{List, [], _∷_}
 use native.Mathlib.Nat.{le-trans, le-refl, le-of-suc-le-suc}
@@ -12,11 +12,12 @@ use lib.ListN.{length, getD, drop, drop-of-length-le}
 use lib.Seq.{drop-cons}
 use Rattle.lists.specs.Tests.{pick, every}
 use Rattle.lists.proofs.Bools.{and-left, and-right}
+use Rattle.lines.specs.declared.Command.{Command}
 use Rattle.lines.specs.declared.Command.the-variants.{Broken}
 use Rattle.lines.specs.declared.reading.Numbers.{Numbers}
 use Rattle.lines.specs.Text.{bytes, comma, same, firstAt}
 use Rattle.lines.specs.Grammar.{Form, numbers, bits, table}
-use Rattle.lines.specs.Reading.{code, mostLetters, mostNumbers, rowCode, rows, orMore, mostFrom, placeOf, commandAt, withNumbers}
+use Rattle.lines.specs.Reading.{mostLetters, mostNumbers, rowCode, rows, orMore, mostFrom, placeOf, commandAt, withNumbers}
 use Rattle.lines.proofs.Codes.{same-is}
 
 -- ---- what every row keeps to: few letters, each a byte past the comma, and few numbers. `check` is the word before bits, and no other
@@ -41,25 +42,25 @@ Kept [] = Unit {0}
 Kept (numbers w n f ∷ xs) = Row w n × Kept xs
 Kept (bits w f ∷ xs) = (w ≡ check) × Kept xs
 
-keeps-row : (w : List ℕ) (n : ℕ) (a : Bool) → every isLetter w ≡ a → (b : Bool) → leb (length w) mostLetters ≡ b → (c : Bool) → leb n mostNumbers ≡ c → (d : Bool) → same check w ≡ d
-    → a && b && c && not d ≡ true → Row w n
-keeps-row w n a e b f c g d h k =
-    let l = and-left (a && b && c) (not d) k in
+keeps-row : (w : List ℕ) (n : ℕ) (f : (ℕ → ℕ) → Command) → keeps (numbers w n f) ≡ true → Row w n
+keeps-row w n f k =
+    let a : Bool = every isLetter w in
+    let b : Bool = leb (length w) mostLetters in
+    let c : Bool = leb n mostNumbers in
+    let d : Bool = not (same check w) in
+    let l = and-left (a && b && c) d k in
     let m = and-left (a && b) c l in
     record {
-      letters = e ∙ and-left a b m;
-      few = leb-true (length w) mostLetters (f ∙ and-right a b m);
-      count = leb-true n mostNumbers (g ∙ and-right (a && b) c l);
-      other = h ∙ not-true d (and-right (a && b && c) (not d) k);
+      letters = and-left a b m;
+      few = leb-true (length w) mostLetters (and-right a b m);
+      count = leb-true n mostNumbers (and-right (a && b) c l);
+      other = not-true (same check w) (and-right (a && b && c) d k);
     }
 
 keeps-all : (xs : List Form) → every keeps xs ≡ true → Kept xs
 unfolding every
 keeps-all [] h = tt
-keeps-all (numbers w n f ∷ xs) h = (
-  keeps-row w n (every isLetter w) refl (leb (length w) mostLetters) refl (leb n mostNumbers) refl (same check w) refl (and-left (keeps (numbers w n f)) (every keeps xs) h),
-  keeps-all xs (and-right (keeps (numbers w n f)) (every keeps xs) h),
-)
+keeps-all (numbers w n f ∷ xs) h = (keeps-row w n f (and-left (keeps (numbers w n f)) (every keeps xs) h), keeps-all xs (and-right (keeps (numbers w n f)) (every keeps xs) h))
 keeps-all (bits w f ∷ xs) h = (same-is w check (and-left (same w check) (every keeps xs) h), keeps-all xs (and-right (same w check) (every keeps xs) h))
 
 pub kept : Kept table

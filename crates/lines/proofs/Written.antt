@@ -1,6 +1,6 @@
 -- Lines as they are written are read back: each as the command that it stands for. Assumes nothing.
 use Prim.Native.Nat.{ℕ, zero, suc, _+_, _-_, _<_}
-use mathlib.Core.Path.{_≡_, refl, sym, ap, _∙_}
+use mathlib.Core.Path.{_≡_, refl, ap, _∙_}
 use mathlib.Core.Bool.{Bool, true, false, _&&_, not}
 use mathlib.Core.List.{List, [], _∷_, map}
 use native.Mathlib.Omega.{arith}
@@ -14,7 +14,7 @@ use Rattle.marks.specs.Sets.{hasLoad}
 use Rattle.lines.specs.declared.Change as change
 use Rattle.lines.specs.declared.Command.{Command}
 use Rattle.lines.specs.declared.Command.the-variants.{Change, Check, Broken}
-use Rattle.lines.specs.Text.{bytes, comma, nought, same, decimal}
+use Rattle.lines.specs.Text.{comma, nought, same, decimal}
 use Rattle.lines.specs.Grammar.{fields, isNumber, value, isBit, isBits, loadsOf, Form, numbers, bits, table, find, parse, meant, lineOf}
 use Rattle.lines.specs.Written.{parted, line, Short, written, bitsIn, writtenCheck}
 use Rattle.lines.proofs.Codes.{same-is, same-refl}
