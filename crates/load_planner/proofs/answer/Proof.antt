@@ -4,6 +4,7 @@ use mathlib.Core.List.{[]}
 use borrow.Author.Needs.{needs}
 use native.Mathlib.Omega.{arith}
 use lib.ListN.{length, take}
+use Rattle.tables.specs.declared.rule.Sort.the-variants as sort
 use Rattle.tables.specs.Limits.{maxLoads}
 use Rattle.calls.specs.State.{Sized}
 use Rattle.calls.specs.Rows.{mostBytes}
@@ -17,7 +18,7 @@ use Rattle.load_planner.proofs.answer.Statement.{statement}
 use Rattle.load_planner.proofs.answer.Tie as tie
 
 sized : (c : tie.Start) → Sized maxLoads (held (c .args .s .planner))
-sized c = record { tables = record { loadRules = search (needs, of-map); rowRules = search (needs, of-map) }; places = search (needs, of-map) }
+sized c = record { tables = record { rules = elim [ sort.Load ↦ search (needs, of-map) | sort.Row ↦ search (needs, of-map) ] }; places = search (needs, of-map) }
 
 -- no answer is longer than the output
 show-requires : tie.Need-show-requires
