@@ -42,12 +42,12 @@ Tables tables_of(Cabinet c) {
     srand(6);
     for (int k = 0; k < c.loads; k++) {
         uint8_t parent = (uint8_t)parent_of(c.shape, k);
-        t.loads.items[k] = (Load){parent, (uint16_t)(rand() % (60 * HULMEIDE_MAX_LOADS / c.loads)), (uint16_t)(rand() % 1001)};
+        t.loads.items[k] = (Load){parent, (uint16_t)(rand() % (60 * HULMEIDE_MAX_LOADS / c.loads)), (uint16_t)(rand() % (HULMEIDE_MAX_WORTH + 1))};
     }
     t.loads.count = (size_t)c.loads;
     return t;
 }
 
 size_t cells_of(const Tables *t) {
-    return t->loads.count * (size_t)(t->book.states + t->book.stages) * (size_t)(t->budget + 1);
+    return HULMEIDE_CELLS_NEEDED(t->loads.count, t->book.states, t->book.stages, t->budget);
 }

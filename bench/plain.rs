@@ -1,6 +1,8 @@
 //! A plan in plain Rust, as one writes it from the paper: every cell of every branch and row, in cache order, every split tried.
 //! Loads are numbered from 0 here. A cell is 0 where no run fits, and otherwise the greatest worth and 1.
 
+use hulmeide::{MAX_LOADS, MAX_RULES};
+
 #[repr(C)]
 #[derive(Clone, Copy)]
 pub struct Transition {
@@ -11,7 +13,7 @@ pub struct Transition {
 
 #[repr(C)]
 pub struct TransitionList {
-    items: [Transition; 32],
+    items: [Transition; MAX_RULES],
     count: usize,
 }
 
@@ -25,7 +27,7 @@ pub struct Load {
 
 #[repr(C)]
 pub struct LoadList {
-    items: [Load; 64],
+    items: [Load; MAX_LOADS],
     count: usize,
 }
 
@@ -48,9 +50,9 @@ pub struct Tables {
 
 #[repr(C)]
 pub struct Run {
-    states: [u8; 64],
-    load_rules: [u8; 64],
-    row_rules: [u8; 64],
+    states: [u8; MAX_LOADS],
+    load_rules: [u8; MAX_LOADS],
+    row_rules: [u8; MAX_LOADS],
     set: u64,
 }
 
@@ -240,7 +242,7 @@ fn choose_row(t: &Tables, work: &[u32], run: &mut Run, first: Option<usize>, sta
 
 fn plan(t: &Tables, work: &mut [u32]) -> Outcome {
     fill(t, work);
-    let mut run = Run { states: [0; 64], load_rules: [0; 64], row_rules: [0; 64], set: 0 };
+    let mut run = Run { states: [0; MAX_LOADS], load_rules: [0; MAX_LOADS], row_rules: [0; MAX_LOADS], set: 0 };
     let (mut best, mut root) = (0, 0);
     for state in 1..=t.book.states {
         let cell = work[t.branch_place(0, state) + t.budget as usize];

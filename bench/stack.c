@@ -103,13 +103,16 @@ static void print_calls(const char *name, Shape shape) {
     printf("%s:", name);
     print_line("plan", "plan", HULMEIDE_ACCEPTED);
     print_check_and_judge();
-    print_line("change", "power,64,1", HULMEIDE_ACCEPTED);
+    char change[HULMEIDE_LINE_BYTES];
+    snprintf(change, sizeof change, "power,%d,1", HULMEIDE_MAX_LOADS);
+    print_line("change", change, HULMEIDE_ACCEPTED);
     print_line("refused", "load,1,1,1", HULMEIDE_FULL);
     printf(" plan in plain C %zu, in plain Rust %zu\n", depth(plain_c), depth(plain_rust));
 }
 
 int main(void) {
-    printf("\nBytes of stack: 64 loads, 8 states, 8 stages, 32 + 32 rules, budget 500; ");
+    printf("\nBytes of stack: %d loads, %d states, %d stages, %d + %d rules, budget %d; ", HULMEIDE_MAX_LOADS, HULMEIDE_MAX_STATES,
+        HULMEIDE_MAX_STAGES, HULMEIDE_MAX_RULES, HULMEIDE_MAX_RULES, HULMEIDE_MAX_BUDGET);
     printf("a function that does nothing uses %zu\n", depth(nothing));
     print_calls("random", RANDOM);
     print_calls("star", STAR);

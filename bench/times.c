@@ -148,13 +148,13 @@ static void print_trees(void) {
     print_head("Trees: 8 states, 8 stages, 32 + 32 rules, budget 500", "tree", "loads");
     for (int shape = RANDOM; shape <= CHAIN; shape++)
         for (int loads = 8; loads <= HULMEIDE_MAX_LOADS; loads *= 2)
-            print_row(shapes[shape], loads, (Cabinet){shape, loads, 8, 32, HULMEIDE_MAX_BUDGET});
+            print_row(shapes[shape], loads, (Cabinet){shape, loads, HULMEIDE_MAX_STATES, HULMEIDE_MAX_RULES, HULMEIDE_MAX_BUDGET});
 }
 
 static void print_growth(void) {
     print_head("Growth with loads: random tree, 4 states, 4 stages, 32 + 32 rules, budget 250", "", "loads");
     for (int loads = 8; loads <= HULMEIDE_MAX_LOADS; loads *= 2)
-        print_row("loads", loads, (Cabinet){RANDOM, loads, 4, 32, 250});
+        print_row("loads", loads, (Cabinet){RANDOM, loads, 4, HULMEIDE_MAX_RULES, 250});
     print_head("Growth with rules of each sort: random tree of 64 loads, 4 states, 4 stages, budget 250", "", "rules");
     for (int rules = 8; rules <= HULMEIDE_MAX_RULES; rules += 8)
         print_row("rules", rules, (Cabinet){RANDOM, HULMEIDE_MAX_LOADS, 4, rules, 250});

@@ -3,14 +3,28 @@
 use std::mem::MaybeUninit;
 use std::num::NonZeroU32;
 
+// ---- Sizes, as include/hulmeide.h has them: tests/limits.py compares the two.
+
 /// A line has at most this many bytes, its line feed not counted.
 pub const LINE_BYTES: usize = 80;
+
+/// A number in a line has at most this many digits.
+pub const MAX_DIGITS: usize = 5;
 
 /// So many bytes must be free in the output from the place on.
 pub const FREE_BYTES: usize = 1024;
 
 /// The cells that the line program lends.
 pub const CELLS: usize = 16384;
+
+// The largest cabinet. Power and budget are in watts.
+pub const MAX_LOADS: usize = 64;
+pub const MAX_RULES: usize = 32;
+pub const MAX_STATES: usize = 8;
+pub const MAX_STAGES: usize = 8;
+pub const MAX_POWER: usize = 500;
+pub const MAX_WORTH: usize = 1000;
+pub const MAX_BUDGET: usize = 500;
 
 const PLANNER_BYTES: usize = 616;
 const NOT_A_RUN: u32 = 255;

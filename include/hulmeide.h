@@ -27,10 +27,16 @@ extern "C" {
 #define HULMEIDE_ASSERT(test, message) _Static_assert(test, message)
 #endif
 
-/* ---- Sizes ---- */
+/* ---- Sizes ----
+ *
+ * Each limit stands here, and nowhere else for C; tests/limits.py reads this file for Python, and holds examples/hulmeide.rs to it.
+ */
 
 /* A line has at most this many bytes, its line feed not counted. A longer one is HULMEIDE_LONG_LINE. */
 #define HULMEIDE_LINE_BYTES 80
+
+/* A number in a line has at most this many digits. */
+#define HULMEIDE_MAX_DIGITS 5
 
 /* So many bytes must be free in the output from the place on, whatever the line. No answer is longer. */
 #define HULMEIDE_FREE_BYTES 1024
@@ -38,10 +44,7 @@ extern "C" {
 /* The cells of 32 bits that the line program lends as work. */
 #define HULMEIDE_CELLS 16384
 
-/* The cells that a plan needs: loads x (states + stages) x (budget + 1). With fewer it is HULMEIDE_FEW_CELLS. */
-#define HULMEIDE_CELLS_NEEDED(loads, states, stages, budget) ((size_t)(loads) * ((size_t)(states) + (stages)) * ((size_t)(budget) + 1))
-
-/* The largest cabinet: 64 loads, 8 states, 8 stages and a budget of 500 watts. */
+/* The largest cabinet. There are at most HULMEIDE_MAX_RULES rules of each sort. Power and budget are in watts. */
 #define HULMEIDE_MAX_LOADS 64
 #define HULMEIDE_MAX_RULES 32
 #define HULMEIDE_MAX_STATES 8
@@ -49,6 +52,11 @@ extern "C" {
 #define HULMEIDE_MAX_POWER 500
 #define HULMEIDE_MAX_WORTH 1000
 #define HULMEIDE_MAX_BUDGET 500
+
+/* The cells that a plan needs: loads x (states + stages) x (budget + 1). With fewer it is HULMEIDE_FEW_CELLS. */
+#define HULMEIDE_CELLS_NEEDED(loads, states, stages, budget) ((size_t)(loads) * ((size_t)(states) + (stages)) * ((size_t)(budget) + 1))
+
+/* The cells that a plan of the largest cabinet needs. */
 #define HULMEIDE_MAX_CELLS HULMEIDE_CELLS_NEEDED(HULMEIDE_MAX_LOADS, HULMEIDE_MAX_STATES, HULMEIDE_MAX_STAGES, HULMEIDE_MAX_BUDGET)
 
 /* ---- Numbers returned ----
@@ -70,7 +78,7 @@ enum hulmeide_number {
     HULMEIDE_NO_LOADS = 4,
     /* A value out of its range; bits not one for each load; the judge given not three numbers for each load. */
     HULMEIDE_OUT_OF_RANGE = 5,
-    /* 64 loads, or 32 rules of that sort, already. */
+    /* HULMEIDE_MAX_LOADS loads, or HULMEIDE_MAX_RULES rules of that sort, already. */
     HULMEIDE_FULL = 6,
     /* The same rule is in the book already. */
     HULMEIDE_SAME_RULE = 7,

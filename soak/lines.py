@@ -2,7 +2,7 @@
 
 The weights of the words change from season to season, so that lists run full, books are replaced, and plans are asked for.
 """
-from model import RANGES
+from model import RANGES, Model
 
 SEASON = 150  # lines
 SEASONS = (
@@ -14,14 +14,18 @@ SEASONS = (
 )
 OTHER_WORDS = (b'', b'Plan', b'plans', b'pla', b'save', b'drop', b'last', b'need', b'rules', b'check1', b'cler', b'0', b'no', b'ok')
 STRAY = bytes((0, 1, 9, 11, 13, 32, 34, 43, 44, 45, 46, 47, 48, 49, 57, 58, 65, 97, 127, 128, 255))
-LONG = (79, 80, 81, 82, 100, 1024, 1025, 4095, 4096, 4097, 9000)
+LONG = (*range(Model.most_bytes - 1, Model.most_bytes + 3), Model.most_bytes + 20, 1024, 1025, 4095, 4096, 4097, 9000)
+
+LONG_BITS = tuple(length - len(b'check,') for length in LONG[:3])
 
 
 # ---- lines that are in form
 
 def at_an_edge(rng, low, high):
     """A value at an end of its range, just past it, or far from it."""
-    return max(0, rng.choice((low, high, low - 1, high + 1, high + 1, 0, 1, 9, 64, 65, 500, 1001, 9999, 10000, 99999)))
+    most = 10 ** Model.most_digits
+    others = (0, 1, Model.most_states + 1, Model.most_loads, Model.most_loads + 1, Model.most_power, Model.most_worth + 1)
+    return max(0, rng.choice((low, high, low - 1, high + 1, high + 1, *others, most // 10 - 1, most // 10, most - 1)))
 
 
 def budget(rng, model):
@@ -38,7 +42,7 @@ def budget(rng, model):
 
 def bits(rng, model):
     """Bits for the loads, or a few more or fewer."""
-    count = len(model.loads) if rng.random() < 0.9 else rng.choice((1, len(model.loads) - 1, len(model.loads) + 1, 73, 74, 75))
+    count = len(model.loads) if rng.random() < 0.9 else rng.choice((1, len(model.loads) - 1, len(model.loads) + 1, *LONG_BITS))
     return bytes(rng.choices(b'01', k=max(1, count)))
 
 
@@ -90,8 +94,8 @@ def field_changed(rng, line):
     parts = line.split(b',')
     at = rng.randint(min(1, len(parts) - 1), len(parts) - 1)
     field = parts[at]
-    six_digits = b'1' + field.zfill(5)
-    parts[at] = rng.choice((b'', b'0' + field, b'00' + field, six_digits, b'100000', b'+' + field, b'-' + field, b' ' + field, field + b' '))
+    too_long = b'1' + field.zfill(Model.most_digits)
+    parts[at] = rng.choice((b'', b'0' + field, b'00' + field, too_long, b'%d' % 10**Model.most_digits, b'+' + field, b'-' + field, b' ' + field, field + b' '))
     return b','.join(parts)
 
 
@@ -117,7 +121,7 @@ def made_long(rng, line):
 
 
 def noise(rng, line):
-    return bytes(rng.choices(STRAY, k=rng.choice((0, 0, 1, 2, 5, 12, 80, 81))))
+    return bytes(rng.choices(STRAY, k=rng.choice((0, 0, 1, 2, 5, 12, Model.most_bytes, Model.most_bytes + 1))))
 
 
 DAMAGE = (
@@ -130,7 +134,8 @@ DAMAGE = (
 
 def book_lines(rng):
     """A new book, often the largest, and often one whose states and stages are all marked."""
-    states, stages = rng.choice(((8, 8), (rng.randint(1, 8), rng.randint(1, 8)), (rng.randint(1, 3), rng.randint(1, 3))))
+    most = Model.most_states, Model.most_stages
+    states, stages = rng.choice((most, [rng.randint(1, number) for number in most], (rng.randint(1, 3), rng.randint(1, 3))))
     lines = [b'book,%d,%d' % (states, stages)]
     if rng.random() < 0.5:
         lines += [b'start,%d' % state for state in range(1, states + 1)]

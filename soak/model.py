@@ -1,24 +1,29 @@
 """A plain model of the planner's tables, straight from paper 01: what each line changes, and the refusals that the tables settle.
 
-It does no planning and shares no code with the product, nor with tests/oracle.py.
+It does no planning and shares no code with the product, nor with tests/oracle.py; the limits are those of the header, by tests/limits.py.
 The limits and the steps that wrong.py gets wrong on purpose are attributes and methods of their own.
 """
+import sys
+from pathlib import Path
+
+sys.path.append(str(Path(__file__).resolve().parent.parent / 'tests'))
+import limits  # noqa: E402
 
 
 class Model:
     """The tables, and what a line does to them."""
 
-    most_bytes = 80
-    most_digits = 5
-    most_states = 8
-    most_stages = 8
+    most_bytes = limits.LINE_BYTES
+    most_digits = limits.MAX_DIGITS
+    most_states = limits.MAX_STATES
+    most_stages = limits.MAX_STAGES
     most_mark = 1
-    most_loads = 64
-    most_rules = 32
-    most_power = 500
-    most_worth = 1000
-    most_budget = 500
-    cells_lent = 16384
+    most_loads = limits.MAX_LOADS
+    most_rules = limits.MAX_RULES
+    most_power = limits.MAX_POWER
+    most_worth = limits.MAX_WORTH
+    most_budget = limits.MAX_BUDGET
+    cells_lent = limits.CELLS
 
     def __init__(self):
         self.clear()

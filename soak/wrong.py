@@ -2,24 +2,24 @@
 from model import Model
 
 
-class LineOf81(Model):
-    """A line may have 81 bytes."""
-    most_bytes = 81
+class LongerLine(Model):
+    """A line may have one byte more."""
+    most_bytes = Model.most_bytes + 1
 
 
-class LineOf79(Model):
-    """A line may have 79 bytes only."""
-    most_bytes = 79
+class ShorterLine(Model):
+    """A line may have one byte fewer."""
+    most_bytes = Model.most_bytes - 1
 
 
-class SixDigits(Model):
-    """A number may have six digits."""
-    most_digits = 6
+class MoreDigits(Model):
+    """A number may have one digit more."""
+    most_digits = Model.most_digits + 1
 
 
-class FourDigits(Model):
-    """A number may have four digits only."""
-    most_digits = 4
+class FewerDigits(Model):
+    """A number may have one digit fewer."""
+    most_digits = Model.most_digits - 1
 
 
 class LeadingZero(Model):
@@ -78,14 +78,14 @@ class EmptyBits(Model):
         return super().bits(field) if field else []
 
 
-class NineStates(Model):
-    """A book may have nine states."""
-    most_states = 9
+class MoreStates(Model):
+    """A book may have one state more."""
+    most_states = Model.most_states + 1
 
 
-class SevenStages(Model):
-    """A book may have seven stages only."""
-    most_stages = 7
+class FewerStages(Model):
+    """A book may have one stage fewer."""
+    most_stages = Model.most_stages - 1
 
 
 class MarkTwo(Model):
@@ -93,36 +93,36 @@ class MarkTwo(Model):
     most_mark = 2
 
 
-class Power501(Model):
-    """A load may have 501 watts."""
-    most_power = 501
+class MorePower(Model):
+    """A load may have one watt more."""
+    most_power = Model.most_power + 1
 
 
-class Worth999(Model):
-    """A load may have worth 999 only."""
-    most_worth = 999
+class LessWorth(Model):
+    """A load may have the greatest worth but one only."""
+    most_worth = Model.most_worth - 1
 
 
-class Budget501(Model):
-    """The budget may be 501 watts."""
-    most_budget = 501
+class MoreBudget(Model):
+    """The budget may be one watt more."""
+    most_budget = Model.most_budget + 1
 
 
-class Loads65(Model):
-    """There may be 65 loads."""
-    most_loads = 65
+class MoreLoads(Model):
+    """There may be one load more."""
+    most_loads = Model.most_loads + 1
 
 
-class Rules31(Model):
-    """There may be 31 rules of each sort only."""
-    most_rules = 31
+class FewerRules(Model):
+    """There may be one rule of each sort fewer."""
+    most_rules = Model.most_rules - 1
 
 
 class RulesTogether(Model):
     """The two sorts of rules are counted together."""
 
     def full(self, word):
-        return super().full(word) or word in (b'rule', b'row') and len(self.rules) + len(self.rows) >= 32
+        return super().full(word) or word in (b'rule', b'row') and len(self.rules) + len(self.rows) >= self.most_rules
 
 
 class SixBeforeFive(Model):
@@ -171,7 +171,7 @@ class NoLoadsIsFive(Model):
 
 class OneCellFewer(Model):
     """One cell fewer is lent."""
-    cells_lent = 16383
+    cells_lent = Model.cells_lent - 1
 
 
 class CellsOfTheBudget(Model):

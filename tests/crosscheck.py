@@ -12,6 +12,7 @@ import random
 import subprocess
 import sys
 
+from limits import LINE_BYTES, MAX_BUDGET, MAX_DIGITS, MAX_LOADS, MAX_STATES, MAX_WORTH
 from oracle import Oracle
 
 
@@ -96,7 +97,9 @@ def tree_lines(rng):
 
 
 def figures(rng):
-    return rng.choice(('0', '1', '2', '3', '9', '00', '01', '64', '65', '500', '501', '1000', '1001', '99999', '100000', '', '-1', ' 1', '1 ', 'x'))
+    """A field that may be a number: in range or at an edge, or of the wrong form."""
+    edges = (MAX_STATES + 1, MAX_LOADS, MAX_LOADS + 1, MAX_BUDGET, MAX_BUDGET + 1, MAX_WORTH, MAX_WORTH + 1, 10**MAX_DIGITS - 1, 10**MAX_DIGITS)
+    return rng.choice(('0', '1', '2', '3', '00', '01', *map(str, edges), '', '-1', ' 1', '1 ', 'x'))
 
 
 def damaged(rng):
@@ -108,8 +111,8 @@ def damaged(rng):
     if kind == 4:
         return bytes(rng.choice((0, 9, 13, 32, 44, 48, 49, 57, 99, 112, 128, 255)) for _ in range(rng.randint(0, 12)))
     if kind == 5:
-        return b'check,' + rng.choice((b'0', b'1')) * rng.randint(1, 80)
-    return b'budget,' + b'0' * rng.randint(60, 90)
+        return b'check,' + rng.choice((b'0', b'1')) * rng.randint(1, LINE_BYTES)
+    return b'budget,' + b'0' * rng.randint(LINE_BYTES - 20, LINE_BYTES + 10)
 
 
 def question(rng, loads):

@@ -15,6 +15,7 @@ import sys
 from pathlib import Path
 
 from crosscheck import session
+from limits import CELLS, LINE_BYTES, MAX_BUDGET, MAX_LOADS, MAX_WORTH
 
 WORKED = Path('crates/load_planner/stdin')
 
@@ -25,7 +26,7 @@ def joined(lines):
 
 def long_lines(rng):
     """Lines around the most bytes, and far beyond it."""
-    lengths = [0, 1, 79, 80, 81, 82, 160, 255, 256, 257, 4095, 4096, 4097, 20000]
+    lengths = [0, 1, *range(LINE_BYTES - 1, LINE_BYTES + 3), 2 * LINE_BYTES, 255, 256, 257, 4095, 4096, 4097, 20000]
     lines = [b'check,' + b'1' * length for length in lengths]
     lines += [bytes(rng.choice(b'01,plan\r\x00\xff') for _ in range(length)) for length in lengths]
     return joined(lines + [b'plan'])
@@ -38,14 +39,15 @@ def every_byte():
 
 
 def large_cabinet(rng):
-    """64 loads under a book with two states and two stages, and plans with as many cells as the line program lends."""
+    """The most loads under a book with two states and two stages, and plans with as many cells as the line program lends."""
     lines = [b'clear', b'book,2,2', b'start,1', b'start,2', b'end,1', b'end,2']
     lines += [b'rule,1,1,1', b'rule,1,0,2', b'rule,2,0,2', b'row,1,1,1', b'row,2,2,2', b'row,1,2,1']
-    for k in range(65):
-        lines.append(b'load,%d,%d,%d' % (rng.randint(1, k) if k else 0, rng.randint(0, 9), rng.randint(0, 1000)))
-    for budget in (0, 1, 20, 62, 63, 64, 500):
-        lines += [b'budget,%d' % budget, b'plan', b'check,' + bytes(rng.choice(b'01') for _ in range(64))]
-    return joined(lines + [b'check,' + b'0' * 64, b'check,' + b'1' * 64])
+    for k in range(MAX_LOADS + 1):
+        lines.append(b'load,%d,%d,%d' % (rng.randint(1, k) if k else 0, rng.randint(0, 9), rng.randint(0, MAX_WORTH)))
+    last = CELLS // (4 * MAX_LOADS) - 1
+    for budget in (0, 1, 20, last - 1, last, last + 1, MAX_BUDGET):
+        lines += [b'budget,%d' % budget, b'plan', b'check,' + bytes(rng.choice(b'01') for _ in range(MAX_LOADS))]
+    return joined(lines + [b'check,' + b'0' * MAX_LOADS, b'check,' + b'1' * MAX_LOADS])
 
 
 def inputs(rng, sessions):

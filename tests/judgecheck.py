@@ -13,7 +13,8 @@ import random
 import sys
 
 from crosscheck import LeafAlwaysEnds, StageRestarts, book_lines, few_runs, tree_lines
-from library import NOT_A_RUN, Library, Planner
+from library import Library, Planner
+from limits import MAX_RULES, MAX_STATES, NOT_A_RUN
 from oracle import Oracle
 
 
@@ -44,7 +45,7 @@ def verdict(oracle, runs, numbers):
 
 
 def any_number(rng):
-    return rng.choice((0, 1, 1, 2, 2, 3, 3, 4, 5, 6, 7, 9, 33, 255, 256, 257, 65537, 2**32 - 1))
+    return rng.choice((0, 1, 1, 2, 2, 3, 3, 4, 5, 6, 7, MAX_STATES + 1, MAX_RULES + 1, 255, 256, 257, 65537, 2**32 - 1))
 
 
 def proposal(rng, oracle, runs):

@@ -1,11 +1,14 @@
-"""Paper 01 by plain enumeration: every run of every set, straight from the text. It shares no code with the product.
+"""Paper 01 by plain enumeration: every run of every set, straight from the text. It shares no code with the product, and with the header of
+the product only the limits.
 
 It is slow on purpose. Trees of up to five or six loads and small books are what it is for.
 """
 import re
 
+from limits import CELLS, LINE_BYTES, MAX_BUDGET, MAX_DIGITS, MAX_LOADS, MAX_POWER, MAX_RULES, MAX_STAGES, MAX_STATES, MAX_WORTH
+
 WORDS = {'clear': 0, 'book': 2, 'start': 1, 'end': 1, 'rule': 3, 'row': 3, 'load': 3, 'power': 2, 'worth': 2, 'budget': 1, 'plan': 0}
-NUMBER = re.compile(rb'(0|[1-9][0-9]{0,4})\Z')
+NUMBER = re.compile(rb'(0|[1-9][0-9]{0,%d})\Z' % (MAX_DIGITS - 1))
 BITS = re.compile(rb'[01]+\Z')
 
 
@@ -174,7 +177,7 @@ class Oracle:
         """Is every value of a command in its range?"""
         n, states, stages = len(self.loads), self.states, self.stages
         if word == 'book':
-            return 1 <= f[0] <= 8 and 1 <= f[1] <= 8
+            return 1 <= f[0] <= MAX_STATES and 1 <= f[1] <= MAX_STAGES
         if word == 'start':
             return 1 <= f[0] <= states
         if word == 'end':
@@ -184,13 +187,13 @@ class Oracle:
         if word == 'row':
             return 1 <= f[0] <= stages and 1 <= f[1] <= states and 1 <= f[2] <= stages
         if word == 'load':
-            return (f[0] == 0 if n == 0 else 1 <= f[0] <= n) and f[1] <= 500 and f[2] <= 1000
+            return (f[0] == 0 if n == 0 else 1 <= f[0] <= n) and f[1] <= MAX_POWER and f[2] <= MAX_WORTH
         if word == 'power':
-            return 1 <= f[0] <= n and f[1] <= 500
+            return 1 <= f[0] <= n and f[1] <= MAX_POWER
         if word == 'worth':
-            return 1 <= f[0] <= n and f[1] <= 1000
+            return 1 <= f[0] <= n and f[1] <= MAX_WORTH
         if word == 'budget':
-            return f[0] <= 500
+            return f[0] <= MAX_BUDGET
         return word != 'check' or len(f) == n
 
     def refusal(self, command, cells):
@@ -202,7 +205,7 @@ class Oracle:
             return 4
         if not self.in_range(word, f):
             return 5
-        kept, most = {'load': (self.loads, 64), 'rule': (self.rules, 32), 'row': (self.rows, 32)}.get(word, ([], 1))
+        kept, most = {'load': (self.loads, MAX_LOADS), 'rule': (self.rules, MAX_RULES), 'row': (self.rows, MAX_RULES)}.get(word, ([], 1))
         if len(kept) >= most:
             return 6
         if word in ('rule', 'row') and tuple(f) in kept:
@@ -241,9 +244,9 @@ class Oracle:
     def lines_of(self, run):
         return ['%d,%d,%d,%d,%d' % (k, *run[k]) for k in sorted(run)]
 
-    def answer(self, line, cells=16384):
+    def answer(self, line, cells=CELLS):
         """The lines printed for a line."""
-        if len(line) > 80:
+        if len(line) > LINE_BYTES:
             return ['no,2']
         command = parse(line)
         number = self.refusal(command, cells)
