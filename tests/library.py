@@ -5,17 +5,10 @@ touch.
 """
 import ctypes
 
-PLANNER_BYTES = 616  # sizeof(struct hulmeide_planner)
-FREE_BYTES = 1024
-CELLS = 16384
+import script
+from limits import CELLS, FREE_BYTES, PLANNER_BYTES, Reply, Tables
+
 GUARD = bytes(range(160, 224))
-
-NOT_A_RUN = 255
-
-
-class Reply(ctypes.Structure):
-    """What a call on a line returns."""
-    _fields_ = [('number', ctypes.c_uint32), ('count', ctypes.c_size_t)]
 
 
 class Library:
@@ -69,6 +62,38 @@ class Planner:
         return output[:count].decode('latin-1').split('\n')[:-1]
 
     def judge(self, numbers):
-        """0 for a run, 255 for none, or the number of the refusal."""
+        """0 for a run, NOT_A_RUN for none, or the number of the refusal."""
         run = (ctypes.c_uint32 * len(numbers))(*numbers)
         return self.library.judge(self.state.memory, run, len(numbers))
+
+
+# ---- A planner's bytes, and the planner of a script (script.py) that they hold
+
+
+def tables_with(p):
+    """The bytes of a planner that holds this."""
+    tables = Tables()
+    book, loads = tables.book, tables.loads
+    book.states, book.stages, book.starts, book.ends = p.states, p.stages, p.starts, p.ends
+    book.load_rules.items[:], book.load_rules.count = p.load_rules, p.load_rule_count
+    book.row_rules.items[:], book.row_rules.count = p.row_rules, p.row_rule_count
+    loads.items[:], loads.count = p.loads, p.load_count
+    tables.budget = p.budget
+    return bytes(tables)
+
+
+def held(content):
+    """What the bytes of a planner hold."""
+    tables, p = Tables.from_buffer_copy(content), script.Planner()
+    book, loads = tables.book, tables.loads
+    p.states, p.stages, p.starts, p.ends = book.states, book.stages, book.starts, book.ends
+    p.load_rules, p.load_rule_count = figures(book.load_rules), book.load_rules.count
+    p.row_rules, p.row_rule_count = figures(book.row_rules), book.row_rules.count
+    p.loads, p.load_count = figures(loads), loads.count
+    p.budget = tables.budget
+    return p
+
+
+def figures(items):
+    """The figures of each place of a list."""
+    return [tuple(getattr(item, name) for name, _ in item._fields_) for item in items.items]

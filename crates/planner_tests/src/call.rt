@@ -1,17 +1,14 @@
-// A call on a line, and one line of report: the line, its number, count and answer, and what became of the rest of the output, of the work
-// and of the tables.
-use crate::compare::same_tables;
+// A call on a line, and its report: the line, its number and count, how many bytes and cells still hold what they held before, how many cells
+// are 0, and the answer.
 use crate::printing::print;
-use crate::printing::print_answer;
 use crate::printing::print_count;
 use crate::text::end_of;
-use crate::text::line_of;
 use crate::text::past;
 use planner::Planner;
 use planner::call::Called;
 ghost use Prim.Native.Nat.{_≤_};
 
-// What output and work hold before each call.
+// What output and work hold before each call. No byte of an answer is this one.
 const RUBBISH_BYTE: u8 = 170;
 
 const RUBBISH_CELL: u32 = 2863311530;
@@ -41,111 +38,76 @@ fn least(a: usize, b: usize) -> usize
     if a < b { a } else { b }
 }
 
-// Do the bytes from one place up to another still hold what they held?
-fn bytes_kept(out: &[u8], from: usize, to: usize) -> bool {
-    for i in from..to {
-        if out.len() <= i {
-            return false;
-        }
-        if out[i] != RUBBISH_BYTE {
-            return false;
-        }
-    }
-    true
+fn one_if(test: bool) -> usize
+    ensures { λ r. ⌜ r ≤ 1 ⌝ }
+{
+    if test { 1 } else { 0 }
 }
 
-// How many cells at the start are 0?
-fn zero_cells(work: &[u32]) -> usize {
+// How many bytes still hold what they held?
+fn bytes_kept(out: &[u8]) -> usize {
+    let mut count: usize = 0;
+    for i in 0..out.len() {
+        count = count + one_if(out[i] == RUBBISH_BYTE);
+    }
+    count
+}
+
+// How many cells hold this value?
+fn cells_with(work: &[u32], value: u32) -> usize {
+    let mut count: usize = 0;
     for i in 0..work.len() {
-        if work[i] != 0 {
-            return i;
-        }
+        count = count + one_if(work[i] == value);
     }
-    work.len()
+    count
 }
 
-// Do the cells from a place on still hold what they held?
-fn cells_kept(work: &[u32], from: usize) -> bool {
-    for i in from..work.len() {
-        if work[i] != RUBBISH_CELL {
-            return false;
-        }
-    }
-    true
-}
-
-fn print_kept(what: &[u8], kept: bool) {
-    print(what);
-    if kept {
-        print(b" kept");
-    } else {
-        print(b" changed");
+// The answer, which ends its last line itself. Where there is none, the line of the report is ended here.
+fn print_answer(out: &[u8], place: usize, count: usize) {
+    let start = least(place, out.len());
+    let end = start + least(count, out.len() - start);
+    print(&out[start..end]);
+    if count == 0 {
+        print(b"\n");
     }
 }
 
-// The word, the number and the count.
-fn print_reply(word: &[u8], number: u8, count: usize) {
-    print(word);
+fn print_kept(out: &[u8], work: &[u32]) {
+    print_count(b" | ", bytes_kept(out));
+    print_count(b" bytes kept, ", cells_with(work, 0));
+    print_count(b" cells 0, ", cells_with(work, RUBBISH_CELL));
+    print(b" kept | ");
+}
+
+fn print_reply(line: &[u8], number: u8, count: usize) {
+    print(line);
     print_count(b" | ", number as usize);
     print_count(b" ", count);
-    print(b" ");
 }
 
-// The answer, and whether the rest of the output is kept.
-fn print_output(out: &[u8], place: usize, count: usize) {
-    let all = out.len();
-    let start = least(place, all);
-    if all - start < count {
-        return print(b" | answer past the end");
-    }
-    let end = start + count;
-    print_answer(&out[start..end]);
-    print_kept(
-        b" | output",
-        bytes_kept(out, 0, start) & bytes_kept(out, end, all),
-    );
+// The call itself, apart from what lends to it: its contract is long.
+fn asked(p: Planner, line: &[u8], out: &mut [u8], place: usize, work: &mut [u32]) -> Called {
+    p.call(line, out, place, work)
 }
 
-// How many cells are 0, and whether the others are kept.
-fn print_work(work: &[u32]) {
-    let zeros = zero_cells(work);
-    print_count(b", ", zeros);
-    print_kept(b" cells 0, others", cells_kept(work, zeros));
-}
-
-fn print_tables(before: Planner, after: Planner) {
-    print_kept(b", tables", same_tables(before.tables, after.tables));
-    print(b"\n");
-}
-
-// The call on the line that a word stands for.
-fn answered(p: Planner, lent: Lent, word: &[u8], out: &mut [u8], work: &mut [u32]) -> Called {
-    let line = line_of(word);
-    let text = line.bytes;
-    let count = line.count;
+// The call on a line, with a part of output and work lent.
+fn answered(p: Planner, lent: Lent, line: &[u8], out: &mut [u8], work: &mut [u32]) -> Called {
     let bytes = least(lent.bytes, out.len());
     let cells = least(lent.cells, work.len());
-    p.call(
-        &text[0..count],
-        &mut out[0..bytes],
-        lent.place,
-        &mut work[0..cells],
-    )
+    asked(p, line, &mut out[0..bytes], lent.place, &mut work[0..cells])
 }
 
 // The planner after a call, which is reported if it is refused or every call is.
-fn called(p: Planner, lent: Lent, word: &[u8], every: bool) -> Planner {
+fn called(p: Planner, lent: Lent, line: &[u8], every: bool) -> Planner {
     let mut out = [RUBBISH_BYTE; ALL_BYTES];
     let mut work = [RUBBISH_CELL; ALL_CELLS];
-    let called = answered(p, lent, word, &mut out, &mut work);
-    let next = called.planner;
+    let called = answered(p, lent, line, &mut out, &mut work);
     if every | (called.number != 0) {
-        print_reply(word, called.number, called.count);
-        print_output(&out, lent.place, called.count);
-        print_work(&work);
-        print_tables(p, next);
+        print_reply(line, called.number, called.count);
+        print_kept(&out, &work);
+        print_answer(&out, lent.place, called.count);
     }
-    next
+    called.planner
 }
 
 // Each line of a text, on the planner that the one before left. The lines are parted by blanks.

@@ -1,5 +1,4 @@
 // What the report is written with.
-use crate::text::end_of;
 use libc::STDOUT_FILENO;
 
 pub(crate) fn print(text: &[u8]) {
@@ -16,18 +15,4 @@ pub(crate) fn print_count(text: &[u8], n: usize) {
 pub(crate) fn print_line(text: &[u8]) {
     print(text);
     print(b"\n");
-}
-
-// An answer on one line: `/` stands for each line feed.
-pub(crate) fn print_answer(answer: &[u8]) {
-    let mut at: usize = 0;
-    while at < answer.len() {
-        let end = end_of(answer, at, b'\n');
-        print(&answer[at..end]);
-        if answer.len() <= end {
-            return;
-        }
-        print(b"/");
-        at = end + 1;
-    }
 }

@@ -1,32 +1,33 @@
 // The judge on a run, and one line of report.
 use crate::printing::print;
 use crate::printing::print_count;
-use crate::text::MOST_NUMBERS;
-use crate::text::NumberList;
+use crate::text::numbers;
 use judge::Verdict;
 use planner::Planner;
 
-// The number, or the verdict.
-fn print_verdict(p: Planner, run: &[u32]) {
-    let verdict = p.judge(run);
-    let number = verdict.number() as usize;
+// Yes, no, or the number of the refusal.
+fn print_verdict(verdict: Verdict) {
     match verdict {
-        Verdict::Yes => print(b" yes"),
-        Verdict::No => print(b" no"),
-        _ => print_count(b" ", number),
+        Verdict::Yes => print(b": yes\n"),
+        Verdict::No => print(b": no\n"),
+        _ => {
+            print_count(b": ", verdict.number() as usize);
+            print(b"\n");
+        }
     }
 }
 
-// The verdict on these numbers.
-pub(crate) fn judged(p: Planner, run: NumberList) {
-    let mut figures = [0u32; MOST_NUMBERS];
-    let items = run.items;
-    for i in 0..MOST_NUMBERS {
-        figures[i] = (items[i] % 4294967296) as u32;
+// The verdict on the first of these figures.
+fn judge_first(p: Planner, figures: &[u32], count: usize) {
+    if count <= figures.len() {
+        print_verdict(p.judge(&figures[0..count]));
     }
-    let count = run.count;
-    if MOST_NUMBERS < count {
-        return;
-    }
-    print_verdict(p, &figures[0..count]);
+}
+
+// `judge 1 2 0 ..`: a run.
+pub(crate) fn judged(p: Planner, line: &[u8]) {
+    print(line);
+    let run = numbers(line);
+    let figures = run.items;
+    judge_first(p, &figures, run.count);
 }

@@ -1,9 +1,7 @@
-// A script: each line is one step. The head of tests/expected.py lists the steps; the first letter of its word tells a step from the others.
+// A script: each line is one step. The head of tests/script.py lists the steps; the first letter of its word tells a step from the others.
 use crate::call::Lent;
 use crate::call::ROOM;
 use crate::call::called_on_each;
-use crate::damage::damaged;
-use crate::printing::print;
 use crate::printing::print_line;
 use crate::runs::judged;
 use crate::text::end_of;
@@ -17,21 +15,6 @@ struct Test {
     lent: Lent,
 }
 
-// `judge 1 2 0 ..`: the verdict on a run.
-fn judge(p: Planner, line: &[u8]) {
-    print(line);
-    print(b":");
-    judged(p, numbers(line));
-    print(b"\n");
-}
-
-// `with marks 7 3`: calls and a run for the planner with this change, which is then forgotten.
-fn handed_in(p: Planner, change: &[u8]) {
-    let q = damaged(p, change);
-    called_on_each(q, ROOM, b"plan % clear", true);
-    judge(q, b"judge 1 2 0 1 2 1 1 2 1 1 1 1");
-}
-
 // The planner after a step: `call`, `told` and `fresh` give another.
 fn planner_after(p: Planner, lent: Lent, letter: u8, rest: &[u8]) -> Planner {
     match letter {
@@ -42,15 +25,12 @@ fn planner_after(p: Planner, lent: Lent, letter: u8, rest: &[u8]) -> Planner {
     }
 }
 
-// What a step reports but for calls: the step itself, and what `judge` and `with` find.
-fn reported(p: Planner, letter: u8, line: &[u8], rest: &[u8]) {
+// What a step reports but for calls: the step itself, and what `judge` finds.
+fn reported(p: Planner, letter: u8, line: &[u8]) {
     match letter {
         b'c' => {}
-        b'j' => judge(p, line),
+        b'j' => judged(p, line),
         _ => print_line(line),
-    }
-    if letter == b'w' {
-        handed_in(p, rest);
     }
 }
 
@@ -75,7 +55,7 @@ fn obey(t: Test, line: &[u8]) -> Test {
     }
     let letter = line[0];
     let start = past(line, end_of(line, 0, b' '));
-    reported(t.planner, letter, line, &line[start..]);
+    reported(t.planner, letter, line);
     let planner = planner_after(t.planner, t.lent, letter, &line[start..]);
     let lent = lent_after(t.lent, letter, &line[start..]);
     Test { planner, lent }

@@ -1,4 +1,4 @@
-// The words of a text, and what they stand for.
+// The words of a text, and the numbers among them.
 ghost use Prim.Native.Nat.{_+_, _≤_, min};
 ghost use mathlib.Core.Path.{_≡_};
 ghost use lib.ListN.{length};
@@ -6,18 +6,9 @@ ghost use lib.ListN.{length};
 // The most numbers that a step has: those of a run of eight loads.
 pub const MOST_NUMBERS: usize = 24;
 
-// The longest line that a word stands for.
-const MOST_LINE: usize = 128;
-
 // The numbers of a text, in order.
 pub struct NumberList {
-    pub items: [u64; MOST_NUMBERS],
-    pub count: usize,
-}
-
-// A line, as it is handed to the planner.
-pub struct Line {
-    pub bytes: [u8; MOST_LINE],
+    pub items: [u32; MOST_NUMBERS],
     pub count: usize,
 }
 
@@ -50,15 +41,15 @@ fn is_digit(byte: u8) -> bool {
 }
 
 // The number that the digits at the start of a word give.
-fn number(word: &[u8]) -> u64 {
-    let mut value: u64 = 0;
+fn number(word: &[u8]) -> u32 {
+    let mut value: u32 = 0;
     for i in 0..word.len() {
         let byte = word[i];
         if !is_digit(byte) {
             return value;
         }
-        let digit = (byte % 16) as u64;
-        if (u64::MAX - digit) / 10 < value {
+        let digit = (byte % 16) as u32;
+        if (u32::MAX - digit) / 10 < value {
             return value;
         }
         value = value * 10 + digit;
@@ -86,59 +77,4 @@ pub(crate) fn numbers(text: &[u8]) -> NumberList {
         at = past(text, end);
     }
     found
-}
-
-// The value of a digit of base 16, `0` to `9` or `a` to `f`.
-fn hex(digit: u8) -> u8
-    ensures { λ r. ⌜ r ≤ 15 ⌝ }
-{
-    if digit <= 57 {
-        digit % 16
-    } else {
-        (digit % 16 + 9) % 16
-    }
-}
-
-// How many bytes of a word stand for a byte of its line, where the first of them is this one.
-fn width(byte: u8) -> usize
-    ensures { λ r. ⌜ (1 ≤ r) × (r ≤ 3) ⌝ }
-{
-    if byte == b'%' { 3 } else { 1 }
-}
-
-// The byte that they stand for.
-fn decoded(code: &[u8]) -> u8 {
-    if 3 <= code.len() {
-        return hex(code[1]) * 16 + hex(code[2]);
-    }
-    if 1 <= code.len() {
-        return code[0];
-    }
-    0
-}
-
-// The line that a word stands for: `%` with two digits of base 16 stands for a byte, and `%` without them for nothing.
-pub(crate) fn line_of(word: &[u8]) -> Line
-    ensures { λ r. ⌜ r .count ≤ length (r .bytes) ⌝ }
-{
-    let mut line = Line {
-        bytes: [0; MOST_LINE],
-        count: 0,
-    };
-    let mut at: usize = 0;
-    while at < word.len() {
-        let used = width(word[at]);
-        let count = line.count;
-        if word.len() - at < used {
-            return line;
-        }
-        if MOST_LINE <= count {
-            return line;
-        }
-        let end = at + used;
-        line.bytes[count] = decoded(&word[at..end]);
-        line.count = count + 1;
-        at = end;
-    }
-    line
 }

@@ -1,14 +1,15 @@
--- `bytes_kept` is safe and ends: the measure is what is left of the bytes. Assumes nothing.
+-- `bytes_kept` is safe and ends: no more bytes are counted than were passed, and the measure is what is left of them. Assumes nothing.
 use Prim.Native.Nat.{_≤_, _-_}
+use lib.ListN.{length}
 use borrow.Author.Needs.{needs}
 use Rattle.planner_tests.proofs.call.bytes_kept.Statement.{statement}
 use Rattle.planner_tests.proofs.call.bytes_kept.Tie as tie
 
 abbrev Inv-loop : tie.InvT-loop
-Inv-loop out from to i₀ i = from ≤ i
+Inv-loop out count₀ i₀ i-end count i = (count ≤ i) × (i ≤ length out)
 
 abbrev μ-loop : tie.MeasureT-loop
-μ-loop out from to i₀ i = to - i
+μ-loop out count₀ i₀ i-end count i = length out - i
 
 pub bytes-kept-spec : {M : Type 1} → statement M
 bytes-kept-spec =
@@ -18,7 +19,7 @@ bytes-kept-spec =
     μ-loop
     (λ c. search needs)
     (λ c. search needs)
-    (λ c. search needs)
+    (λ c κs. search needs)
     (λ c. search needs)
     (λ c. search needs)
     (λ c. search needs)
