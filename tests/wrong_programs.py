@@ -5,7 +5,9 @@ An edit of crates/NAME/must-fail or crates/NAME/wrong makes a wrong program of t
 that call each other are proved together: all of them, parted by commas, stand for one.) An edit of
 a definition has the line 'refused: law NAME', for a law or a need that no longer holds. `rt ci` refuses
 the edits of must-fail from nothing; here all of them run on what is already checked, which takes
-seconds, and the reason is compared too. Of every public function of a library two wrong programs at
+seconds, and the reason is compared too. What is checked of a library stands in its rlib, as `rt ci`
+or `rt check` left it: each worker begins an edit with that in its incremental folder, so that only
+what the edit touches is checked. Of every public function of a library two wrong programs at
 least must be refused: its own, or that of a function that it calls in the same crate.
 
 Usage: wrong_programs.py [NAME[/LABEL]..]   from the root of the repository, after `rt check`
@@ -125,12 +127,42 @@ def check(scratch, crate):
     return ended.returncode, ended.stdout
 
 
-def keep_checked(scratch, crate, store):
-    """Checks the crate as it stands, and keeps what was checked for its edits."""
+def incremental(folder, crate):
+    return folder / "target" / "inc" / crate
+
+
+def build_of(scratch):
+    """The folder that the prover keeps in an incremental folder: its name tells one build of the prover from another."""
+    first = crates()[0]
+    check(scratch, first)
+    return next(incremental(scratch, first).iterdir()).name
+
+
+def keep_checked(scratch, crate, store, build):
+    """Keeps what is checked of the crate as it stands, for its edits. The rlib of a library has that; a program is checked anew."""
+    modules = scratch / "target" / "rlib" / f"{crate}.rlib" / "toolchain" / "checked"
+    if modules.exists():
+        shutil.copytree(modules, incremental(scratch, crate) / build, dirs_exist_ok=True)
     status, _ = check(scratch, crate)
     if status != 0:
         raise RuntimeError(f"{crate} is not proved as it stands")
-    shutil.move(scratch / "target" / "inc" / crate, store / "inc" / crate)
+    shutil.copytree(incremental(scratch, crate), incremental(store, crate))
+
+
+def states_of(folder):
+    """Each file of a folder by its path in it, with what tells that it was written."""
+    return {path.relative_to(folder): (path.stat().st_mtime_ns, path.stat().st_size) for path in folder.rglob("*") if path.is_file()}
+
+
+def restore(folder, kept):
+    """Makes a folder as the kept one is: what was written in it, or removed, since it was copied."""
+    now, then = states_of(folder) if folder.exists() else {}, states_of(kept)
+    for path in now.keys() - then.keys():
+        (folder / path).unlink()
+    for path, state in then.items():
+        if now.get(path) != state:
+            (folder / path).parent.mkdir(parents=True, exist_ok=True)
+            shutil.copy2(kept / path, folder / path)
 
 
 def failed_needs(report):
@@ -169,21 +201,18 @@ def fault_in(edit, status, report):
 
 
 def try_edit(edit, scratch, store):
-    """Makes the wrong program in a worker's copy, checks it, and puts the crate back."""
-    folder = scratch / "crates" / edit.crate
-    checked = scratch / "target" / "inc" / edit.crate
-    shutil.copytree(store / "inc" / edit.crate, checked)
+    """Makes the wrong program in a worker's copy, where the crate stands as it is kept, and checks it."""
+    restore(scratch / "crates" / edit.crate, store / "crates" / edit.crate)
+    restore(incremental(scratch, edit.crate), incremental(store, edit.crate))
     began = time.monotonic()
     try:
-        edit.apply(folder)
+        edit.apply(scratch / "crates" / edit.crate)
         status, report = check(scratch, edit.crate)
         fault = fault_in(edit, status, report)
     except ValueError as error:
         fault = str(error)
     finally:
-        shutil.rmtree(folder)
-        shutil.copytree(store / "crates" / edit.crate, folder)
-        shutil.rmtree(checked)
+        restore(scratch / "crates" / edit.crate, store / "crates" / edit.crate)
     print(f"{edit.name()}: {fault or 'refused, at ' + edit.refused} ({time.monotonic() - began:.0f} s)", flush=True)
     return fault is None
 
@@ -192,7 +221,6 @@ def run(edits):
     """Tries every edit, as many at a time as there are workers. Returns how many are refused as they must be."""
     with tempfile.TemporaryDirectory() as folder, ThreadPoolExecutor(WORKERS) as pool:
         store = Path(folder) / "store"
-        (store / "inc").mkdir(parents=True)
         shutil.copytree(ROOT / "crates", store / "crates")
         free = Queue()
         for number in range(WORKERS):
@@ -207,9 +235,15 @@ def run(edits):
             finally:
                 free.put(scratch)
 
-        edited = sorted({edit.crate for edit in edits})
-        list(pool.map(lambda c: with_scratch(lambda s: keep_checked(s, c, store)), edited))
-        return sum(pool.map(lambda e: with_scratch(lambda s: try_edit(e, s, store)), edits))
+        build = with_scratch(build_of)
+        edited = sorted({edit.crate for edit in edits}, key=is_library)
+        kept = {crate: pool.submit(with_scratch, keep_checked, crate, store, build) for crate in edited}
+
+        def refused(edit):
+            kept[edit.crate].result()
+            return with_scratch(lambda scratch: try_edit(edit, scratch, store))
+
+        return sum(pool.map(refused, edits))
 
 
 def counts_of(edits):
