@@ -2,6 +2,7 @@
 use Prim.Native.Nat.{ℕ, _<_}
 use mathlib.Core.Path.{_≡_, refl, sym, ap, _∙_}
 use mathlib.Core.Bool.{Bool, true, false, _||_}
+use mathlib.Core.Logic.{_⊎_, inl, inr}
 use native.Mathlib.Omega.{arith}
 use borrow.Author.Tests.{eqb-true}
 use lib.Dec.{eqb}
@@ -18,7 +19,7 @@ use Rattle.calls.specs.Causes.{here, there, allCauses}
 use Rattle.calls.specs.Printing.{zeroed, searched}
 use Rattle.calls.specs.Calls.{Call, Done, rowFor}
 use Rattle.calls.specs.Demand1.{Demand1, ByCommand}
-use Rattle.calls.proofs.Rows.{line-right}
+use Rattle.calls.proofs.Rows.{line-right, works-plan}
 use Rattle.calls.proofs.Work.{clash}
 
 -- a number below that of "no allowed set fits" is not of a search, if it is not 0
@@ -63,23 +64,16 @@ module _ (p : StoredState) (c : Call) (d : Done) (x : Demand1 p c d) where
       go false e = x .cleared h ∙ ap (λ (r : Row). zeroed (cellsFor r) (c .work)) (at-row line.Plan q e)
 
   unchanged : (parse (c .line) ≡ line.Plan → searched (d .reply .number) ≡ true → ⊥) → d .reply .work ≡ c .work
-  unfolding row
-  unchanged h = go (tooLong (c .line)) refl (parse (c .line)) refl
+  unchanged h = go (tooLong (c .line)) refl (works-plan s (parse (c .line)))
     where
-      go-long : (b : Bool) → searched (d .reply .number) ≡ b → tooLong (c .line) ≡ true → b ≡ false
-      go-long true e f = absurd (long f e)
-      go-long false e f = refl
+      none : (b : Bool) → searched (d .reply .number) ≡ b → (b ≡ true → ⊥) → d .reply .work ≡ c .work
+      none true e f = absurd (f refl)
+      none false e f = x .unchanged e
 
-      at : (b : Bool) → searched (d .reply .number) ≡ b → parse (c .line) ≡ line.Plan → d .reply .work ≡ c .work
-      at true e q = absurd (h q e)
-      at false e q = x .unchanged e
-
-      go : (b : Bool) → tooLong (c .line) ≡ b → (k : Command) → parse (c .line) ≡ k → d .reply .work ≡ c .work
-      go true e k q = x .unchanged (go-long (searched (d .reply .number)) refl e)
-      go false e (line.Change k) q = still (ap cellsFor (at-row (line.Change k) q e))
-      go false e line.Plan q = at (searched (d .reply .number)) refl q
-      go false e (line.Check σ n) q = still (ap cellsFor (at-row (line.Check σ n) q e))
-      go false e line.Broken q = still (ap cellsFor (at-row line.Broken q e))
+      go : (b : Bool) → tooLong (c .line) ≡ b → (parse (c .line) ≡ line.Plan) ⊎ (cellsFor (row s (parse (c .line))) ≡ 0) → d .reply .work ≡ c .work
+      go true e w = none (searched (d .reply .number)) refl (long e)
+      go false e (inl q) = none (searched (d .reply .number)) refl (h q)
+      go false e (inr z) = still (ap cellsFor (at-row (parse (c .line)) refl e) ∙ z)
 
   pub by-command : ByCommand p c d
   by-command = record {

@@ -33,7 +33,7 @@ use Rattle.meaning.specs.Claims.{EachLoad}
 use Rattle.meaning.specs.Cells.{cellsOf}
 use Rattle.meaning.proofs.Claims.{claims}
 use Rattle.calls.specs.State.{State, Within}
-use Rattle.calls.specs.Rows.{Changing, Shown, shownText, Row, changes, shows, rule, load, isLoad, noneFits, notAllowed, marking, ruleCauses, adding, setting, changing, refuses, row, lineRow, bytesOf, mostBytes, causesOf, effectOf, shownOf}
+use Rattle.calls.specs.Rows.{Changing, Shown, shownText, Row, changes, shows, rule, load, isLoad, noneFits, notAllowed, marking, ruleCauses, adding, setting, changing, refuses, row, lineRow, bytesOf, mostBytes, causesOf, effectOf, shownOf, cellsFor}
 use Rattle.calls.specs.Causes.{lowest}
 use Rattle.calls.proofs.Numbers.{passed, passed-not, Ascending}
 use Rattle.calls.proofs.Answers.{positive}
@@ -161,3 +161,11 @@ line-right s n l = go (tooLong l)
     go : (b : Bool) → Right s n (pick b (refuses no.tooLong) (row s (parse l)))
     go true = refuses-right s n no.tooLong (lit≤ tt) (lit≤ tt)
     go false = right s n (parse l)
+
+-- of all commands only a plan works in cells
+pub works-plan : (s : State) (c : Command) → (c ≡ line.Plan) ⊎ (cellsFor (row s c) ≡ 0)
+unfolding row
+works-plan s (line.Change c) = inr refl
+works-plan s line.Plan = inl refl
+works-plan s (line.Check σ n) = inr refl
+works-plan s line.Broken = inr refl
