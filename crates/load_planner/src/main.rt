@@ -5,6 +5,7 @@ use lines::splitting::MOST_KEPT;
 use lines::splitting::take_line;
 use planner::Planner;
 use planner::call::Called;
+use planner::call::FREE_BYTES;
 ghost use Prim.Native.Nat.{_≤_};
 ghost use mathlib.Core.Path.{_≡_};
 ghost use mathlib.Core.Bool.{true, false};
@@ -14,7 +15,7 @@ ghost use Rattle.planner.specs.Calls.{doneOf};
 ghost use Rattle.load_planner.specs.Session.{leftOf, carriedOf, Within, Stepped};
 
 // "The line program lends 1,024 bytes and 16,384 cells."
-const LENT_BYTES: usize = 1024;
+const LENT_BYTES: usize = FREE_BYTES;
 
 const LENT_CELLS: usize = 16384;
 

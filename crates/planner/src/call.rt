@@ -20,7 +20,7 @@ ghost use Rattle.planner.specs.Decided.{unshown, Decides};
 ghost use Rattle.planner.specs.Calls.{callOf, doneOf, turnedAway};
 
 // "1,024 bytes must be free from there."
-const FREE_BYTES: usize = 1024;
+pub const FREE_BYTES: usize = 1024;
 
 // What a call returns: the next planner, the number, 0 if accepted, and the count of bytes written.
 pub struct Called {
