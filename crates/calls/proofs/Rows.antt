@@ -25,7 +25,7 @@ use Rattle.tables.specs.declared.rule.Transition.{Transition}
 use Rattle.tables.specs.Refusals as no
 use Rattle.tables.specs.Tables.{Tables, sizeFor, rulesFor}
 use Rattle.tables.specs.Limits.{between, bookSize, sameRule, maxRules, loadIn, figureIn, budgetIn, Limits}
-use Rattle.tables.proofs.Parts.{limits-parts}
+use Rattle.tables.proofs.Lawful.{lawful}
 use Rattle.tables.proofs.Keeps.{fresh-limits, new-book-keeps, mark-keeps, add-rule-keeps, add-load-keeps, set-figure-keeps, set-budget-keeps}
 use Rattle.meaning.specs.Best.{bestPlan, bestCheck}
 use Rattle.tables.specs.declared.entry.Entry.{Entry}
@@ -67,7 +67,7 @@ set-sound t f k x =
 
 sound : (t : Tables) (c : Change) → Sound t (changing t c)
 unfolding changing
-sound t to.Clear = is-sound (lit≤ tt) (λ h e. fresh-limits (t .places) (limits-parts t h .places))
+sound t to.Clear = is-sound (lit≤ tt) (λ h e. fresh-limits (t .places) (lawful t h .places))
 sound t (to.Book s g) = is-sound (lit≤ tt, lit≤ tt) (λ h e. new-book-keeps t h s g (passed-not no.outOfRange (bookSize s g) [] (lit< tt) e .0))
 sound t (to.Start q) = mark-sound t sort.Load q
 sound t (to.End g) = mark-sound t sort.Row g

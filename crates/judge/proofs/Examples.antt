@@ -5,13 +5,14 @@ use mathlib.Core.Bool.{Bool, true, false}
 use mathlib.Core.List.{List, [], _∷_}
 use Rattle.marks.specs.Bits.{hasMark}
 use Rattle.tables.specs.Tables.{Book}
+use Rattle.tables.specs.Limits.{maxLoads}
 use Rattle.meaning.specs.Forest.{row, tree}
 use Rattle.meaning.specs.Judge.{judge, judgeTree}
 use Rattle.meaning.specs.Cases.{fourLoads, bookF, bookK}
 use Rattle.judge.specs.Verdict.{isRun}
 
 on-four : Book → List ℕ → Bool
-on-four b ns = isRun (record { book = b; loads = fourLoads; budget = 0; places = 64 }) ns
+on-four b ns = isRun (record { book = b; loads = fourLoads; budget = 0; places = maxLoads }) ns
 
 -- the run that the plan of the session shows
 session : on-four bookF (1 ∷ 2 ∷ 0 ∷ 1 ∷ 2 ∷ 1 ∷ 1 ∷ 2 ∷ 1 ∷ 1 ∷ 1 ∷ 1 ∷ []) ≡ true

@@ -8,15 +8,15 @@ use borrow.Author.Tests.{eq-eqb, le-leb}
 use lib.Dec.{eqb}
 use lib.ListN.{length}
 use Rattle.lists.specs.Tests.{pick}
-use Rattle.lists.proofs.Bools.{and-left, or-true}
+use Rattle.lists.proofs.Bools.{or-true}
 use Rattle.tables.specs.declared.rule.RuleRange.{RuleRange}
 use Rattle.tables.specs.declared.rule.Sort.the-variants as sort
 use Rattle.tables.specs.declared.rule.Transition.{Transition}
 use Rattle.tables.specs.declared.load.Load.{Load}
 use Rattle.tables.specs.Tables.{Book}
-use Rattle.tables.specs.Limits.{between, ruleIn, rulesIn}
+use Rattle.tables.specs.Limits.{between, rangeFor}
+use Rattle.tables.specs.Lawful.{RuleFits}
 use Rattle.tables.specs.Stored.{tablesOf}
-use Rattle.tables.proofs.Parts.{BookParts, limits-parts}
 use Rattle.meaning.specs.Forest.{Item, Forest, nil, node, planned, row, tree, total, sum}
 use Rattle.meaning.specs.Runs.{Assigned, ruleAt, rule, Begins, BranchRun, Run, TreeRun}
 use Rattle.meaning.specs.Judge.{ownMarks}
@@ -27,33 +27,27 @@ use Rattle.judge.specs.Verdict.{proposed}
 use Rattle.judge.specs.Claims.{named, YesNames}
 use Rattle.judge.proofs.Answers.{answers-exactly}
 use Rattle.tables.proofs.Kept.{kept}
-use Rattle.judge.proofs.Rules.{fit-at}
 
 -- a rule that begins somewhere is one of the list, and begins within its range
 begins-counted : (ts : List Transition) (n x : ℕ) → Begins ts n x → between 1 (length ts) n ≡ true
 begins-counted ts zero x h = absurd h
 begins-counted ts (suc j) x h = rw (le-leb 1 (suc j) (omega arith), le-leb (suc j) (length ts) (h .0))
 
-begins-within : (m : RuleRange) (ts : List Transition) → rulesIn m ts ≡ true → (n x : ℕ) → Begins ts n x → between 1 (m .from) x ≡ true
-unfolding ruleIn
-begins-within m ts lawful zero x h = absurd h
-begins-within m ts lawful (suc j) x h =
-    let r = ruleAt ts j in
-    let a = between 1 (m .from) (r .from) in
-    let b = between (m .low) (m .high) (r .label) in
-    rw (h .1) at (and-left a b (and-left (a && b) (between 1 (m .to) (r .to)) (fit-at m ts lawful j (h .0))))
+begins-within : (m : RuleRange) (ts : List Transition) → ((j : ℕ) → j < length ts → RuleFits m (ruleAt ts j)) → (n x : ℕ) → Begins ts n x → between 1 (m .from) x ≡ true
+begins-within m ts fit zero x h = absurd h
+begins-within m ts fit (suc j) x h = let b = fit j (h .0) .begins in rw (le-leb 1 x (omega (arith, h .1))) (le-leb x (m .from) (omega (arith, h .1)))
 
 -- ---- how many loads have a number that names nothing
 lacking : Book → (ℕ → Assigned) → ℕ → Item → ℕ
 lacking b ρ k i = pick (named b k (ρ k)) 0 1
 
-module _ (b : Book) (parts : BookParts b) (σ : ℕ → ℕ) (ρ : ℕ → Assigned) where
+module _ (b : Book) (fit : (j : ℕ) → j < length (b .loadRules) → RuleFits (rangeFor b sort.Load) (ruleAt (b .loadRules) j)) (σ : ℕ → ℕ) (ρ : ℕ → Assigned) where
   -- a load with a run of its branch, the root by its row rule 0 or another by the row rule it begins with
   none-lacking : (k : ℕ) (i : Item) (below : ℕ → Type 0) → BranchRun b (σ k) (ρ k .loadRule) i below (ρ k .state)
       → (eqb k 1 && eqb (ρ k .rowRule) 0) || between 1 (length (b .rowRules)) (ρ k .rowRule) ≡ true → lacking b ρ k i ≡ 0
   unfolding lacking
   none-lacking k i below r h =
-      rw (begins-within _ (b .loadRules) (parts .rules sort.Load) (ρ k .loadRule) (ρ k .state) (r .begins), begins-counted (b .loadRules) (ρ k .loadRule) (ρ k .state) (r .begins), h)
+      rw (begins-within _ (b .loadRules) fit (ρ k .loadRule) (ρ k .state) (r .begins), begins-counted (b .loadRules) (ρ k .loadRule) (ρ k .state) (r .begins), h)
 
   row-lacks-none : (f : Forest) (g : ℕ) → Run b σ ρ f g → total (lacking b ρ) f ≡ 0
   unfolding total
@@ -95,7 +89,7 @@ yes-names s ns e k pos few =
     let t = tablesOf s in
     let ρ = proposed ns in
     let p = answers-exactly s ns Yes .0 e in
-    let parts = limits-parts t (kept s (p .0 .lawful) .lawful) in
-    let none = sym (tree-total planned (lacking (t .book) ρ) (t .loads) (loads-ordered (t .loads) (parts .loads)))
-    ∙ tree-lacks-none (t .book) (parts .book) (ownMarks (t .book) ρ) ρ (t .loads) (p .1) in
+    let lawful = kept s (p .0 .lawful) .lawful in
+    let none = sym (tree-total planned (lacking (t .book) ρ) (t .loads) (loads-ordered (t .loads) (lawful .load)))
+    ∙ tree-lacks-none (t .book) (lawful .rule sort.Load) (ownMarks (t .book) ρ) ρ (t .loads) (p .1) in
     found (named (t .book) k (ρ k)) (sum-none (λ k. pick (named (t .book) k (ρ k)) 0 1) 1 (t .loads) none (k - 1) (omega arith) k (omega arith))

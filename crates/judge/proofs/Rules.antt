@@ -5,19 +5,17 @@ use mathlib.Core.Bool.{Bool, true, false, _&&_}
 use mathlib.Core.List.{List}
 use mathlib.Core.Logic.{_⊎_, inl, inr}
 use native.Mathlib.Omega.{arith}
-use borrow.Author.Tests.{eqb-true, eq-eqb, leb-true, ltb-true, lt-ltb}
-use lib.Dec.{eqb, leb, ltb}
+use borrow.Author.Tests.{eqb-true, eq-eqb, ltb-true, lt-ltb}
+use lib.Dec.{eqb, ltb}
 use lib.ListN.{length, getD, length-take, List·getD-eq-default}
 use lib.Seq.{getD-take}
 use Rattle.lists.specs.Argmax.{guard}
 use Rattle.lists.proofs.Bools.{and-left, and-right, below-or}
-use Rattle.lists.proofs.Tests.{every-at}
-use Rattle.lists.proofs.Places.{limited-parts}
 use Rattle.tables.specs.declared.rule.RuleRange.{RuleRange}
 use Rattle.tables.specs.declared.rule.Transition.{Transition}
 use Rattle.tables.specs.declared.rule.TransitionList.{TransitionList}
 use Rattle.tables.specs.Tables.{noRule}
-use Rattle.tables.specs.Limits.{between, maxRules, ruleIn, sameRule, rulesIn}
+use Rattle.tables.specs.Lawful.{RuleFits}
 use Rattle.tables.specs.Stored.{rulesOf}
 use Rattle.meaning.specs.Runs.{ruleAt, rule}
 use Rattle.meaning.specs.Judge.{begins}
@@ -68,18 +66,11 @@ guard-pass : (t : Bool) (x : ℕ) → 0 < guard t x → (t ≡ true) × (guard t
 guard-pass true x h = (refl, refl)
 guard-pass false x h = absurd (omega arith)
 
-module _ (m : RuleRange) (ts : List Transition) (lawful : rulesIn m ts ≡ true) where
-  pub fit-at : (j : ℕ) → j < length ts → ruleIn m (ruleAt ts j) ≡ true
-  fit-at j h = every-at (ruleIn m) noRule ts j (limited-parts (ruleIn m) sameRule maxRules ts lawful .inside) h
-
+module _ (m : RuleRange) (ts : List Transition) (fit : (j : ℕ) → j < length ts → RuleFits m (ruleAt ts j)) where
   -- a rule that is named leads to a stage
   leads : (n : ℕ) → Named ts n → 0 < rule ts n .to
-  unfolding ruleIn
   leads zero h = absurd h
-  leads (suc j) h =
-      let r = ruleAt ts j in
-      let to = and-right (between 1 (m .from) (r .from) && between (m .low) (m .high) (r .label)) (between 1 (m .to) (r .to)) (fit-at j h) in
-      leb-true 1 (r .to) (and-left (leb 1 (r .to)) (leb (r .to) (m .to)) to)
+  leads (suc j) h = fit j h .leads .0
 
   module _ (n q : ℕ) (x : Bool) where
     -- the load rule begins with the state, or gives no stage

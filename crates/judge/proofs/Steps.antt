@@ -10,8 +10,7 @@ use Rattle.marks.specs.Bits.{hasMark}
 use Rattle.marks.specs.declared.Marks.{Marks}
 use Rattle.tables.specs.declared.rule.Sort.the-variants as sort
 use Rattle.tables.specs.Tables.{Tables, noLoad}
-use Rattle.tables.specs.Limits.{Limits}
-use Rattle.tables.proofs.Parts.{limits-parts}
+use Rattle.tables.specs.Lawful.{Lawful}
 use Rattle.meaning.specs.Forest.{planned}
 use Rattle.meaning.specs.Cells.{firstChild, nextSibling}
 use Rattle.meaning.specs.Runs.{Assigned, rule}
@@ -34,17 +33,17 @@ module _ (t : Tables) (ρ : ℕ → Assigned) where
   unfolding rowRuns branchRuns judge
   row-step j g = rw (row-after planned (t .loads) (suc j) (suc j), row-after planned (t .loads) (getD (t .loads) j noLoad .parent) (suc j))
 
-  module _ (lawful : Limits t) where
+  module _ (lawful : Lawful t) where
     -- the branch of load k
     branch-none : (k : ℕ) → stepAt t ρ k .begin ≡ 0 → false ≡ branchRuns t ρ k
     unfolding branchRuns stepOf
-    branch-none k e = sym (load-none _ (t .book .loadRules) (limits-parts t lawful .book .rules sort.Load) (ρ k .loadRule) (ρ k .state) _ e)
+    branch-none k e = sym (load-none _ (t .book .loadRules) (lawful .rule sort.Load) (ρ k .loadRule) (ρ k .state) _ e)
 
     branch-some : (k : ℕ) → 0 < stepAt t ρ k .begin → rowRuns t ρ (firstChild (t .loads) k) (stepAt t ρ k .begin) ≡ branchRuns t ρ k
     unfolding branchRuns stepOf
     branch-some k h =
         let row = rowRuns t ρ (firstChild (t .loads) k) in
-        let p = load-some _ (t .book .loadRules) (limits-parts t lawful .book .rules sort.Load) (ρ k .loadRule) (ρ k .state)
+        let p = load-some _ (t .book .loadRules) (lawful .rule sort.Load) (ρ k .loadRule) (ρ k .state)
         (row (rule (t .book .loadRules) (ρ k .loadRule) .to)) h in
         ap row (p .1) ∙ sym (p .0)
 
@@ -53,14 +52,14 @@ module _ (t : Tables) (ρ : ℕ → Assigned) where
     unfolding stepOf
     row-stops zero g h other = absurd (omega arith)
     row-stops (suc j) g h other =
-        sym (row-step j g ∙ row-none _ (t .book .rowRules) (limits-parts t lawful .book .rules sort.Row) (ρ (suc j) .rowRule) (ρ (suc j) .state) _ g other)
+        sym (row-step j g ∙ row-none _ (t .book .rowRules) (lawful .rule sort.Row) (ρ (suc j) .rowRule) (ρ (suc j) .state) _ g other)
 
     row-goes : (k g : ℕ) → 0 < k → stepAt t ρ k .stage ≡ g → 0 < g
         → (branchRuns t ρ k && rowRuns t ρ (nextSibling (t .loads) k) (stepAt t ρ k .next) ≡ rowRuns t ρ k g) × (0 < stepAt t ρ k .next)
     unfolding stepOf
     row-goes zero g h e pos = absurd (omega arith)
     row-goes (suc j) g h e pos =
-        let p = row-some _ (t .book .rowRules) (limits-parts t lawful .book .rules sort.Row) (ρ (suc j) .rowRule) (ρ (suc j) .state)
+        let p = row-some _ (t .book .rowRules) (lawful .rule sort.Row) (ρ (suc j) .rowRule) (ρ (suc j) .state)
         (branchRuns t ρ (suc j) && rowRuns t ρ (nextSibling (t .loads) (suc j)) (rule (t .book .rowRules) (ρ (suc j) .rowRule) .to)) g e pos in
         (sym (row-step j g ∙ p .0), p .1)
 

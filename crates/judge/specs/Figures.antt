@@ -11,7 +11,7 @@ use Rattle.marks.specs.declared.Marks.{Marks}
 use Rattle.tables.specs.declared.rule.Transition.{Transition}
 use Rattle.tables.specs.declared.load.Load.{Load}
 use Rattle.tables.specs.Tables.{Tables, noLoad}
-use Rattle.tables.specs.Limits.{Limits}
+use Rattle.tables.specs.Lawful.{Lawful}
 use Rattle.meaning.specs.Runs.{rule, Assigned}
 use Rattle.judge.specs.declared.figures.Step.{Step}
 
@@ -33,7 +33,7 @@ ParentsOf ls ps = (j : ℕ) → j < length ls → getD ps j 0 ≡ getD ls j noLo
 
 -- lists hold the figures of the n loads of tables that keep the limits
 pub record LookedUp (t : Tables) (ρ : ℕ → Assigned) (n : ℕ) (ends : Marks) (parents begins stages nexts : List ℕ) : Type 0 where
-  pub lawful : Limits t
+  pub lawful : Lawful t
   pub count : length (t .loads) ≡ n
   pub endStages : t .book .ends ≡ ends
   pub parent : ParentsOf (t .loads) parents

@@ -45,6 +45,12 @@ module _ {A : Type 0} where
   pub rest-cons : (d : A) (xs : List A) (n i : ℕ) → i < n → i < length xs → rest xs n i ≡ getD xs i d ∷ rest xs n (i + 1)
   rest-cons d xs n i h l = rw add-one (rest-suc d xs n i h l)
 
+  -- ---- what holds of each element, and of d, holds at every place
+  pub at-every : (P : ℕ → A → Type 0) (d : A) (xs : List A) → ((i : ℕ) → P i d) → ((i : ℕ) → i < length xs → P i (getD xs i d)) → (i : ℕ) → P i (getD xs i d)
+  at-every P d [] z h i = z i
+  at-every P d (x ∷ xs) z h zero = h 0 (omega arith)
+  at-every P d (x ∷ xs) z h (suc i) = at-every (λ j. P (suc j)) d xs (λ j. z (suc j)) (λ j b. h (suc j) (suc-le-suc b)) i
+
   -- ---- a list laid out
   pub length-laid : (d : A) (n : ℕ) (xs : List A) → length (laid d n xs) ≡ n
   unfolding laid

@@ -6,7 +6,6 @@ pub mod Optimal
 pub mod Entries
 pub mod Ranges
 pub mod InOrder
-pub mod Limits
 pub mod Lowest
 pub mod Plan
 pub mod Check

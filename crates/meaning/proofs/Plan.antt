@@ -6,7 +6,7 @@ use mathlib.Core.Logic.{_↔_, _⊎_, inl, inr}
 use native.Mathlib.Nat.{le-trans, le-of-eq, eq-zero-or-pos}
 use native.Mathlib.Omega.{arith}
 use Rattle.tables.specs.Tables.{Tables}
-use Rattle.meaning.specs.Forest.{Forest, nil, node, planned, total}
+use Rattle.meaning.specs.Forest.{Forest, nil, node, planned, IsTree, total}
 use Rattle.meaning.specs.Cell.{cell, powerLimit, _⊕_, draw, gain, score, drawn, gained, scored}
 use Rattle.meaning.specs.Sets.{treeOf, power, worth, Allowed, Fits, Optimum, NoneFits}
 use Rattle.meaning.specs.Best.{bestPlan}
@@ -15,7 +15,7 @@ use Rattle.meaning.specs.Runs.{Assigned, TreeRun}
 use Rattle.meaning.specs.Order.{_≼_, treeNumbers}
 use Rattle.meaning.proofs.Cell.{cell-add, cell-pos, cell-le, cell-same}
 use Rattle.meaning.proofs.Optimal.{tree-complete, tree-sound}
-use Rattle.meaning.proofs.Tree.{Lawful, tree-rooted, tree-total}
+use Rattle.meaning.proofs.Tree.{tree-rooted, tree-total}
 use Rattle.meaning.proofs.Entries.{plan-follows}
 use Rattle.meaning.proofs.Lowest.{tree-lowest}
 
@@ -28,14 +28,15 @@ scored-is σ (node k i below later) h =
     ∙ ap (λ x. x ⊕ cell (drawn σ later) (gained σ later)) (cell-add (draw i (σ k)) (gain i (σ k)) (drawn σ below) (gained σ below) (omega arith))
     ∙ cell-add _ _ (drawn σ later) (gained σ later) h
 
-module _ (t : Tables) (o : Lawful t) where
+-- loads that form a tree, and a budget that a cell can tell from the powers above it
+module _ (t : Tables) (o : IsTree (t .loads)) (small : t .budget < powerLimit) where
   pub drawn-power : (σ : ℕ → ℕ) → drawn σ (treeOf t) ≡ power t σ
-  drawn-power σ = tree-total planned (λ k i. draw i (σ k)) (t .loads) (o .ordered)
+  drawn-power σ = tree-total planned (λ k i. draw i (σ k)) (t .loads) o
 
   tree-cell : (σ : ℕ → ℕ) → Fits t σ → scored σ (treeOf t) ≡ cell (power t σ) (worth t σ)
   tree-cell σ h =
-      scored-is σ (treeOf t) (omega (arith, drawn-power σ, o .limited))
-      ∙ ap₂ cell (drawn-power σ) (tree-total planned (λ k i. gain i (σ k)) (t .loads) (o .ordered))
+      scored-is σ (treeOf t) (omega (arith, drawn-power σ, small))
+      ∙ ap₂ cell (drawn-power σ) (tree-total planned (λ k i. gain i (σ k)) (t .loads) o)
 
   -- no allowed set that fits exceeds the plan's cell
   pub plan-bound : (τ : ℕ → ℕ) → Allowed t τ → Fits t τ → cell (power t τ) (worth t τ) ≤ bestPlan t
@@ -46,7 +47,7 @@ module _ (t : Tables) (o : Lawful t) where
 
   -- refusal 9
   pub plan-none : bestPlan t ≡ 0 → NoneFits t
-  plan-none e τ a h = absurd (omega (arith, plan-bound τ a h, cell-pos (power t τ) (worth t τ) (omega (arith, o .limited))))
+  plan-none e τ a h = absurd (omega (arith, plan-bound τ a h, cell-pos (power t τ) (worth t τ) (omega (arith, small))))
 
   -- the plan
   pub plan-optimal : 0 < bestPlan t
@@ -54,13 +55,13 @@ module _ (t : Tables) (o : Lawful t) where
   unfolding bestPlan plan
   plan-optimal h =
       let σ = marksOf (plan t) in
-      let s = tree-sound (t .book) σ (assignedBy (plan t)) (treeOf t) (tree-rooted planned (t .loads)) (t .budget) h (plan-follows t (o .ordered)) in
+      let s = tree-sound (t .book) σ (assignedBy (plan t)) (treeOf t) (tree-rooted planned (t .loads)) (t .budget) h (plan-follows t o) in
       let w : Fits t σ = le-trans (le-of-eq (sym (drawn-power σ))) (s .1) in
       let e : bestPlan t ≡ cell (power t σ) (worth t σ) = sym (s .2) ∙ tree-cell σ w in (
         record {
           allowed = (assignedBy (plan t), s .0);
           fits = w;
-          greatest = λ τ a f. cell-le (power t τ) (worth t τ) (power t σ) (worth t σ) (omega (arith, o .limited)) (omega (arith, o .limited)) (le-trans (plan-bound τ a f) (le-of-eq e));
+          greatest = λ τ a f. cell-le (power t τ) (worth t τ) (power t σ) (worth t σ) (omega (arith, small)) (omega (arith, small)) (le-trans (plan-bound τ a f) (le-of-eq e));
         },
         e,
       )
@@ -69,7 +70,7 @@ module _ (t : Tables) (o : Lawful t) where
   pub plan-run : 0 < bestPlan t → TreeRun (t .book) (marksOf (plan t)) (assignedBy (plan t)) (treeOf t)
   unfolding bestPlan plan
   plan-run h =
-      tree-sound (t .book) (marksOf (plan t)) (assignedBy (plan t)) (treeOf t) (tree-rooted planned (t .loads)) (t .budget) h (plan-follows t (o .ordered)) .0
+      tree-sound (t .book) (marksOf (plan t)) (assignedBy (plan t)) (treeOf t) (tree-rooted planned (t .loads)) (t .budget) h (plan-follows t o) .0
 
   -- refusal 9 exactly if no allowed set fits
   pub plan-refused : (bestPlan t ≡ 0) ↔ NoneFits t
@@ -84,6 +85,6 @@ module _ (t : Tables) (o : Lawful t) where
       → treeNumbers (marksOf (plan t)) (assignedBy (plan t)) (treeOf t) ≼ treeNumbers σ ρ (treeOf t)
   unfolding bestPlan plan
   plan-lowest h σ ρ r f e =
-      tree-lowest (t .book) (marksOf (plan t)) (assignedBy (plan t)) σ ρ (treeOf t) (tree-rooted planned (t .loads)) (t .budget) h (plan-follows t (o .ordered)) r
+      tree-lowest (t .book) (marksOf (plan t)) (assignedBy (plan t)) σ ρ (treeOf t) (tree-rooted planned (t .loads)) (t .budget) h (plan-follows t o) r
       (le-trans (le-of-eq (drawn-power σ)) f)
       (tree-cell σ f ∙ cell-same _ _ _ _ e ∙ sym (plan-optimal h .1))

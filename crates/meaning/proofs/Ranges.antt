@@ -1,11 +1,19 @@
 -- The figures of a chosen entry are in the ranges that the book gives them. Assumes nothing.
-use Prim.Native.Nat.{ℕ, suc, _+_, _-_, _≤_, zero-le}
+use Prim.Native.Nat.{ℕ, suc, _≤_, _<_, zero-le}
 use mathlib.Core.Bool.{Bool, true, false, cond}
 use mathlib.Core.List.{List, [], _∷_, _++_}
+use native.Mathlib.Nat.{le-trans}
 use lib.Dec.{eqb, lit≤}
 use lib.ListN.{length}
+use Rattle.lists.specs.Argmax.{argmax}
+use Rattle.lists.proofs.Arrays.{at-every}
 use Rattle.lists.proofs.Argmax.{argmax-within}
-use Rattle.tables.specs.Tables.{Book, Tables}
+use Rattle.tables.specs.declared.rule.Sort.{Sort}
+use Rattle.tables.specs.declared.rule.Sort.the-variants as sort
+use Rattle.tables.specs.declared.rule.Transition.{Transition}
+use Rattle.tables.specs.Tables.{Tables, noRule, rulesFor}
+use Rattle.tables.specs.Limits.{maxStates, maxRules, rangeFor}
+use Rattle.tables.specs.Lawful.{Lawful}
 use Rattle.meaning.specs.Forest.{Item, Forest, nil, node, planned, checked, tree}
 use Rattle.meaning.specs.Runs.{ruleAt}
 use Rattle.tables.specs.declared.entry.Entry.{Entry}
@@ -29,51 +37,52 @@ all-find P z (e ∷ es) n (more h f) = go (eqb (e .number) n) (all-find P z es n
     go true ih = h
     go false ih = ih
 
--- the figures of a book that entries show, and of an entry
-pub record Narrow (b : Book) : Type 0 where
-  pub marks : (j : ℕ) → ruleAt (b .loadRules) j .label ≤ 1
-  pub labels : (j : ℕ) → ruleAt (b .rowRules) j .label ≤ 8
-  pub states : b .states ≤ 8
-  pub loadRules : length (b .loadRules) ≤ 32
-  pub rowRules : length (b .rowRules) ≤ 32
-
+-- the figures of an entry
 pub record Bounded (e : Entry) : Type 0 where
   pub mark : e .mark ≤ 1
-  pub state : e .state ≤ 8
-  pub rule : e .rule ≤ 32
-  pub row : e .row ≤ 32
+  pub state : e .state ≤ maxStates
+  pub rule : e .rule ≤ maxRules
+  pub row : e .row ≤ maxRules
 
-module _ (b : Book) (w : Narrow b) where
-  bounded : (k q j r : ℕ) → q ≤ 8 → suc j ≤ 32 → r ≤ 32
-      → Bounded (record { number = k; mark = ruleAt (b .loadRules) j .label; state = q; rule = suc j; row = r })
-  bounded k q j r a d e = record { mark = w .marks j; state = a; rule = d; row = e }
+module _ (t : Tables) (w : Lawful t) where
+  -- the label of every rule is in its range, and so is that of the rule of zeros
+  label-most : (k : Sort) (j : ℕ) → ruleAt (rulesFor (t .book) k) j .label ≤ rangeFor (t .book) k .high
+  label-most k = at-every (λ j (r : Transition). r .label ≤ rangeFor (t .book) k .high) noRule (rulesFor (t .book) k) (λ j. zero-le) (λ j l. w .rule k j l .gives .1)
+
+  bounded : (k q j r : ℕ) → q ≤ maxStates → suc j ≤ maxRules → r ≤ maxRules
+      → Bounded (record { number = k; mark = ruleAt (t .book .loadRules) j .label; state = q; rule = suc j; row = r })
+  bounded k q j r a d e = record { mark = label-most sort.Load j; state = a; rule = d; row = e }
 
   abbrev BoundedFrom : Forest → Type 0
-  BoundedFrom f = (g c : ℕ) → All Bounded (choose b f g c)
+  BoundedFrom f = (g c : ℕ) → All Bounded (choose (t .book) f g c)
+
+  -- the number of the rule chosen among those of a sort
+  numbered : (k : Sort) (f : ℕ → ℕ) → argmax f (length (rulesFor (t .book) k)) .index < maxRules
+  numbered k f = argmax-within f (length (rulesFor (t .book) k)) maxRules (w .rules k) (lit≤ tt)
 
   bounded-node : (k : ℕ) (i : Item) (below later : Forest) → BoundedFrom below → BoundedFrom later → BoundedFrom (node k i below later)
   unfolding choose
   bounded-node k i below later p q g c =
-      all-append (more (bounded k _ _ _ (w .labels _) (argmax-within _ (length (b .loadRules)) 32 (w .loadRules) (lit≤ tt)) (argmax-within _ (length (b .rowRules)) 32 (w .rowRules) (lit≤ tt))) (p _ _)) (q _ _)
+      all-append (more (bounded k _ _ _ (le-trans (label-most sort.Row _) (w .states)) (numbered sort.Load _) (numbered sort.Row _)) (p _ _)) (q _ _)
 
   bounded-choose : (f : Forest) → BoundedFrom f
   unfolding choose
   bounded-choose nil = λ g c. done
   bounded-choose (node k i below later) = bounded-node k i below later (bounded-choose below) (bounded-choose later)
 
-  bounded-tree : (f : Forest) (c : ℕ) → All Bounded (chooseTree b f c)
+  bounded-tree : (f : Forest) (c : ℕ) → All Bounded (chooseTree (t .book) f c)
   unfolding chooseTree
   bounded-tree nil c = done
   bounded-tree (node k i below later) c =
-      more (bounded k _ _ 0 (argmax-within _ (b .states) 8 (w .states) (lit≤ tt)) (argmax-within _ (length (b .loadRules)) 32 (w .loadRules) (lit≤ tt)) zero-le) (bounded-choose below _ _)
+      more (bounded k _ _ 0 (argmax-within _ (t .book .states) maxStates (w .states) (lit≤ tt)) (numbered sort.Load _) zero-le) (bounded-choose below _ _)
 
 none-bounded : Bounded noEntry
 none-bounded = record { mark = zero-le; state = zero-le; rule = zero-le; row = zero-le }
 
-pub plan-bounded : (t : Tables) → Narrow (t .book) → (n : ℕ) → Bounded (find (plan t) n)
+pub plan-bounded : (t : Tables) → Lawful t → (n : ℕ) → Bounded (find (plan t) n)
 unfolding plan
-plan-bounded t w n = all-find Bounded none-bounded _ n (bounded-tree (t .book) w (tree planned (t .loads)) (t .budget))
+plan-bounded t w n = all-find Bounded none-bounded _ n (bounded-tree t w (tree planned (t .loads)) (t .budget))
 
-pub check-bounded : (t : Tables) → Narrow (t .book) → (σ : ℕ → ℕ) → (n : ℕ) → Bounded (find (check t σ) n)
+pub check-bounded : (t : Tables) → Lawful t → (σ : ℕ → ℕ) → (n : ℕ) → Bounded (find (check t σ) n)
 unfolding check
-check-bounded t w σ n = all-find Bounded none-bounded _ n (bounded-tree (t .book) w (tree (checked σ) (t .loads)) 0)
+check-bounded t w σ n = all-find Bounded none-bounded _ n (bounded-tree t w (tree (checked σ) (t .loads)) 0)

@@ -14,14 +14,8 @@ use lib.ListN.{length, getD, drop-of-length-le}
 use lib.Seq.{drop-cons}
 use Rattle.lists.specs.Argmax.{guard}
 use Rattle.tables.specs.declared.load.Load.{Load}
-use Rattle.tables.specs.Tables.{Tables, noLoad}
+use Rattle.tables.specs.Tables.{noLoad}
 use Rattle.meaning.specs.Forest.{Item, Forest, nil, node, row, tree, Ordered, IsTree, total, sum, first, after, rowAfter, rowAt}
-use Rattle.meaning.specs.Cell.{powerLimit}
-
--- what the search needs of the tables
-pub record Lawful (t : Tables) : Type 0 where
-  pub ordered : IsTree (t .loads)
-  pub limited : t .budget < powerLimit
 
 -- a tree: at most one root
 abbrev pub Rooted : Forest → Type 0

@@ -22,7 +22,7 @@ use Rattle.tables.specs.Tables.{Tables, sizeFor, rulesFor}
 use Rattle.tables.specs.Limits.{between, ruleIn, rangeFor, sameRule, maxRules, loadIn, figureIn, maxLoads}
 use Rattle.tables.specs.Stored.{heldSize, stored, bookOf, tablesOf, Holds}
 use Rattle.tables.specs.Operations.{accepted, addingNumber, ruleNumber, loadNumber, ruleAdded, figureChanged}
-use Rattle.tables.proofs.Parts.{limits-parts}
+use Rattle.tables.proofs.Lawful.{inside, lawful}
 use Rattle.tables.proofs.Changes.{rule-added, figure-changed}
 use Rattle.calls.specs.Rows.{Cause, _if_, isLoad, Row, changes, effectOf, unless, adding, setting}
 use Rattle.calls.specs.Causes.{lowest}
@@ -34,7 +34,6 @@ use Rattle.planner.specs.declared.changes.NamedRule.{NamedRule}
 use Rattle.planner.specs.declared.changes.NamedLoad.{NamedLoad}
 use Rattle.planner.specs.Planner.{held, stateIn, Lawful}
 use Rattle.planner.specs.Changes.{namedRule, namedLoad, settled, madeBy}
-use Rattle.planner.proofs.Ranges.{inside}
 
 -- ---- numbers: "value out of its range" comes first, then what the list of rules or loads says
 out : (b : Bool) (cs : List Cause) → b ≡ false → lowest ((no.outOfRange if not b) ∷ cs) ≡ no.outOfRange
@@ -70,7 +69,7 @@ module _ (p : Planner) (h : Lawful p) where
   load-count = tables-count (p .tables) (h .tables)
 
   pub few : p .tables .loads .count ≤ maxLoads
-  few = omega (arith, load-count, places (p .tables) (h .tables), limits-parts (stateIn p .tables) (kept-within (held p) h .tables) .few)
+  few = omega (arith, load-count, places (p .tables) (h .tables), lawful (stateIn p .tables) (kept-within (held p) h .tables) .loads)
 
 -- how many states or stages
 pub size-held : (u : StoredTables) (k : Sort) → heldSize (u .book) k ≡ sizeFor (tablesOf u .book) k

@@ -1,5 +1,4 @@
--- The laws of the definitions in specs/, from the ranges of a line's numbers to a whole call.
-pub mod Ranges
+-- The laws of the definitions in specs/, from a change of the tables to a whole call.
 pub mod Commands
 pub mod RunLines
 pub mod Writing

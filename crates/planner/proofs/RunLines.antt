@@ -16,7 +16,7 @@ use Rattle.lines.proofs.Answers.{entries-more}
 use Rattle.lines.proofs.Wrote.{wrote-none, wrote-then}
 use Rattle.tables.specs.Tables.{Tables}
 use Rattle.tables.specs.Limits.{maxLoads, Limits}
-use Rattle.tables.proofs.Parts.{limits-parts}
+use Rattle.tables.proofs.Lawful.{lawful}
 use Rattle.tables.specs.declared.entry.Entry.{Entry}
 use Rattle.meaning.specs.Choice.{noEntry}
 use Rattle.meaning.specs.Claims.{Numbered}
@@ -108,4 +108,4 @@ shown-lines t h places x (inl no-lines) = no-lines _
 shown-lines t h places x (inr o) =
     let n = o .loads .all in
     ap (λ (ls : List Entry). textOf (x .answer) ls)
-    (ap (entriesTo (runOf (x .entries))) (sym n) ∙ lines-shown (x .entries) (o .loads .each) (omega (arith, n, places, limits-parts t h .few)) (o .ranged))
+    (ap (entriesTo (runOf (x .entries))) (sym n) ∙ lines-shown (x .entries) (o .loads .each) (omega (arith, n, places, lawful t h .loads)) (o .ranged))

@@ -15,13 +15,13 @@ use Rattle.tables.specs.declared.tables.StoredTables.{StoredTables}
 use Rattle.tables.specs.Refusals as no
 use Rattle.tables.specs.Limits.{maxLoads}
 use Rattle.tables.specs.Stored.{bookOf, tablesOf, keepsLimits, Holds}
-use Rattle.tables.proofs.Parts.{limits-parts}
+use Rattle.tables.proofs.Lawful.{lawful}
 use Rattle.tables.proofs.Stored.{stored-keeps}
 use Rattle.meaning.specs.Sets.{power, worth}
 use Rattle.meaning.specs.Best.{bestPlan, bestCheck}
 use Rattle.tables.specs.declared.entry.Entry.{Entry}
 use Rattle.meaning.specs.Choice.{planEntries, checkEntries}
-use Rattle.meaning.proofs.Limits.{lawful as lawful-tree}
+use Rattle.meaning.proofs.Ordered.{loads-ordered}
 use Rattle.meaning.specs.Cells.{cellsOf}
 use Rattle.calls.specs.State.{State, storedState}
 use Rattle.calls.specs.Rows.{Row, noneFits, notAllowed, row, causesOf, cellsFor}
@@ -129,8 +129,9 @@ module _ (p : Planner) (h : Lawful p) where
   unfolding decidedBy row
   plans n z r is v w k a b d =
       let t = stateIn p .tables in
-      let tree = lawful-tree t (kept-within (held p) h .tables) .ordered in
-      let most : length (t .loads) ≤ maxLoads = omega (arith, places (p .tables) (h .tables), limits-parts t (kept-within (held p) h .tables) .few) in
+      let l = lawful t (kept-within (held p) h .tables) in
+      let tree = loads-ordered (t .loads) (l .load) in
+      let most : length (t .loads) ≤ maxLoads = omega (arith, places (p .tables) (h .tables), l .loads) in
       let set : markIn (r .set) ≡ _ = ap (λ (x : Run). markIn (x .set)) is ∙ plan-set t tree most in
       let worths = a ∙ ap (worth t) set in
       let powers = b ∙ ap (power t) set in

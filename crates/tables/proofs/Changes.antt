@@ -20,8 +20,7 @@ use Rattle.tables.specs.Limits.{maxRules, Limits}
 use Rattle.tables.specs.Stored.{heldRules, storedRules, storedLoads, placesOf, storedBook, stored}
 use Rattle.tables.specs.Changes.{withBook, withLoads, withRules, newBook, mark, addRule, addLoad, withFigure, onLoad, setFigure, setBudget}
 use Rattle.tables.specs.Operations.{ruleNumber, loadNumber, accepted, appended, loadAppended, loadAt, loadReplaced, figureSet, putLoads, putRules, bookBegun, markSet, ruleAdded, loadAdded, figureChanged, budgetChanged}
-use Rattle.tables.proofs.Parts.{limits-parts}
-use Rattle.tables.proofs.Stored.{rules-few}
+use Rattle.tables.proofs.Lawful.{lawful}
 use Rattle.tables.proofs.Numbers.{rule-new, load-new}
 
 -- ---- lists: rules of both sorts, and loads
@@ -121,7 +120,7 @@ module _ (t : Tables) where
 module _ (t : Tables) (h : Limits t) where
   pub figure-changed : (f : Figure) (k x : ℕ) → 1 ≤ k → k ≤ length (t .loads) → figureChanged (stored t) f k x ≡ stored (setFigure t f k x)
   unfolding figureChanged figureSet stored
-  figure-changed f k x one most = ap (putLoads (stored t)) (figure-stored (λ l. withFigure f l x) (t .places) (t .loads) k one most (limits-parts t h .few))
+  figure-changed f k x one most = ap (putLoads (stored t)) (figure-stored (λ l. withFigure f l x) (t .places) (t .loads) k one most (lawful t h .loads))
 
   -- ---- those that give one
   pub rule-added : (k : Sort) (r : Transition) → let n = ruleNumber (rulesFor (t .book) k) r in
@@ -129,7 +128,7 @@ module _ (t : Tables) (h : Limits t) where
   unfolding ruleAdded stored
   rule-added k r =
       let rs = rulesFor (t .book) k in
-      rw (held-rules k (t .book), appended-stored rs r (rules-few _ rs (limits-parts t h .book .rules k)), put-rules k (t .book))
+      rw (held-rules k (t .book), appended-stored rs r (lawful t h .rules k), put-rules k (t .book))
       (both-ways (λ (l : List Transition). withBook t (withRules k (t .book) l)) (ruleNumber rs r) (rs ++ (r ∷ [])) rs
       ∙ rw (same-rules k (t .book)))
 
@@ -137,5 +136,5 @@ module _ (t : Tables) (h : Limits t) where
       loadAdded (stored t) l ≡ record { number = n; tables = stored (accepted n (addLoad t l) t) }
   unfolding loadAdded stored
   load-added l =
-      rw (load-appended-stored (t .places) (t .loads) l (limits-parts t h .few))
+      rw (load-appended-stored (t .places) (t .loads) l (lawful t h .loads))
       (both-ways (withLoads t) (loadNumber (t .places) (t .loads)) (t .loads ++ (l ∷ [])) (t .loads))

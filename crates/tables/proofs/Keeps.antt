@@ -21,14 +21,14 @@ use Rattle.tables.specs.declared.rule.Sort.the-variants as sort
 use Rattle.tables.specs.declared.load.Figure.{Figure}
 use Rattle.tables.specs.declared.load.Figure.the-variants as figure
 use Rattle.tables.specs.Tables.{Sort, Transition, Load, Book, Tables, noLoad, sizeFor, marksFor, rulesFor, emptyBook, fresh}
-use Rattle.tables.specs.Limits.{between, bookSize, sizeIn, marksIn, ruleIn, ruleRange, rangeFor, sameRule, maxRules, rulesIn, parentIn, figureIn, budgetIn, loadIn, mostPlaces, Limits}
+use Rattle.tables.specs.Limits.{between, maxStates, bookSize, sizeIn, marksIn, ruleIn, ruleRange, rangeFor, sameRule, maxRules, rulesIn, parentIn, figureIn, budgetIn, loadIn, mostPlaces, Limits}
 use Rattle.tables.specs.Changes.{withBook, withLoads, withMarks, withRules, newBook, mark, addRule, addLoad, withFigure, setFigure, setBudget}
 use Rattle.tables.proofs.Parts.{BookParts, Parts, limits-parts, limits-whole}
 
 -- ---- marks
-set-fits : (n x q : ℕ) → x < 2 ^ n → 1 ≤ q → q ≤ n → withMark 8 x q < 2 ^ n
+set-fits : (n x q : ℕ) → x < 2 ^ n → 1 ≤ q → q ≤ n → withMark maxStates x q < 2 ^ n
 unfolding withMark
-set-fits n x q h one most = go (within 8 q)
+set-fits n x q h one most = go (within maxStates q)
   where
     go : (w : Bool) → pick w (setBit x (q - 1)) x < 2 ^ n
     go true = or-lt n x (2 ^ (q - 1)) h (pow-lt (omega arith))

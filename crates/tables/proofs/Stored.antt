@@ -12,16 +12,16 @@ use Rattle.lists.specs.Arrays.{laid}
 use Rattle.lists.specs.Places.{restFree}
 use Rattle.lists.proofs.Bools.{and-left, and-right}
 use Rattle.lists.proofs.Arrays.{length-laid, take-laid}
-use Rattle.lists.proofs.Places.{limited-parts, laid-free, free-laid, free-few, taken-length}
-use Rattle.tables.specs.declared.rule.RuleRange.{RuleRange}
+use Rattle.lists.proofs.Places.{laid-free, free-laid, free-few, taken-length}
 use Rattle.tables.specs.declared.rule.TransitionList.{TransitionList}
 use Rattle.tables.specs.declared.load.LoadList.{LoadList}
 use Rattle.tables.specs.declared.tables.StoredTables.{StoredTables}
 use Rattle.tables.specs.declared.rule.Sort.the-variants as sort
-use Rattle.tables.specs.Tables.{Sort, Transition, Load, Tables, noRule, noLoad, rulesFor}
-use Rattle.tables.specs.Limits.{maxRules, ruleIn, sameRule, rulesIn, limits, Limits}
+use Rattle.tables.specs.Tables.{Transition, Load, Tables, noRule, noLoad}
+use Rattle.tables.specs.Limits.{maxRules, Limits}
 use Rattle.tables.specs.Stored.{storedRules, storedLoads, storedBook, stored, rulesOf, loadsOf, placesOf, bookOf, tablesOf, zeroRule, zeroLoad, rulesFree, loadsFree, keepsLimits, Lengths, Holds}
-use Rattle.tables.proofs.Parts.{limits-parts}
+use Rattle.tables.proofs.Lawful.{lawful}
+use Rattle.tables.proofs.Kept.{tested}
 
 -- the three numbers of a place that holds 0
 zeros : (a b d : ℕ) → eqb a 0 && eqb b 0 && eqb d 0 ≡ true → (a ≡ 0) × (b ≡ 0) × (d ≡ 0)
@@ -41,9 +41,6 @@ unfolding zeroLoad
 load-zero l h = let z = zeros (l .parent) (l .power) (l .worth) h in λ i. record { parent = z .0 i; power = z .1 i; worth = z .2 i }
 
 -- ---- a list laid out passes the test of its unused places, and what passes it is a list laid out
-pub rules-few : (m : RuleRange) (rs : List Transition) → rulesIn m rs ≡ true → length rs ≤ maxRules
-rules-few m rs h = limited-parts (ruleIn m) sameRule maxRules rs h .few
-
 rules-free : (rs : List Transition) → length rs ≤ maxRules → restFree zeroRule maxRules (length rs) (laid noRule maxRules rs) ≡ true
 unfolding zeroRule
 rules-free rs h = laid-free noRule zeroRule refl rule-zero maxRules rs h
@@ -67,9 +64,6 @@ loads-laid l h =
 
 -- ---- tables that keep the limits
 module _ (t : Tables) (h : Limits t) where
-  few-rules : (k : Sort) → length (rulesFor (t .book) k) ≤ maxRules
-  few-rules k = rules-few _ (rulesFor (t .book) k) (limits-parts t h .book .rules k)
-
   pub tables-stored : tablesOf (stored t) ≡ t
   unfolding tablesOf bookOf stored storedBook
   tables-stored = λ i. record {
@@ -78,10 +72,10 @@ module _ (t : Tables) (h : Limits t) where
       stages = t .book .stages;
       starts = t .book .starts;
       ends = t .book .ends;
-      loadRules = take-laid noRule maxRules (t .book .loadRules) (few-rules sort.Load) i;
-      rowRules = take-laid noRule maxRules (t .book .rowRules) (few-rules sort.Row) i;
+      loadRules = take-laid noRule maxRules (t .book .loadRules) (lawful t h .rules sort.Load) i;
+      rowRules = take-laid noRule maxRules (t .book .rowRules) (lawful t h .rules sort.Row) i;
     };
-    loads = take-laid noLoad (t .places) (t .loads) (limits-parts t h .few) i;
+    loads = take-laid noLoad (t .places) (t .loads) (lawful t h .loads) i;
     budget = t .budget;
     places = length-laid noLoad (t .places) (t .loads) i;
   }
@@ -90,10 +84,10 @@ module _ (t : Tables) (h : Limits t) where
   unfolding keepsLimits stored storedBook
   stored-keeps =
       rw (
-        rules-free (t .book .loadRules) (few-rules sort.Load),
-        rules-free (t .book .rowRules) (few-rules sort.Row),
+        rules-free (t .book .loadRules) (lawful t h .rules sort.Load),
+        rules-free (t .book .rowRules) (lawful t h .rules sort.Row),
         length-laid noLoad (t .places) (t .loads),
-        loads-free (t .places) (t .loads) (limits-parts t h .few),
+        loads-free (t .places) (t .loads) (lawful t h .loads),
         tables-stored,
       )
       h
@@ -101,16 +95,12 @@ module _ (t : Tables) (h : Limits t) where
 -- ---- tables that are handed in
 module _ (s : StoredTables) (len : Lengths s) where
   pub keeps-stored : keepsLimits s ≡ true → (s ≡ stored (tablesOf s)) × Limits (tablesOf s)
-  unfolding keepsLimits stored storedBook tablesOf bookOf
+  unfolding stored storedBook tablesOf bookOf
   keeps-stored h =
-      let load-free = rulesFree (s .book .«load_rules») in
-      let row-free = rulesFree (s .book .«row_rules») in
-      let free = loadsFree (s .loads) in
-      let h3 = and-left (load-free && row-free && free) (limits (tablesOf s)) h in
-      let h2 = and-left (load-free && row-free) free h3 in
-      let load-rules = rules-laid (s .book .«load_rules») (len .rules sort.Load) (and-left load-free row-free h2) in
-      let row-rules = rules-laid (s .book .«row_rules») (len .rules sort.Row) (and-right load-free row-free h2) in
-      let loads = loads-laid (s .loads) (and-right (load-free && row-free) free h3) in (
+      let p = tested s h in
+      let load-rules = rules-laid (s .book .«load_rules») (len .rules sort.Load) (p .rules sort.Load) in
+      let row-rules = rules-laid (s .book .«row_rules») (len .rules sort.Row) (p .rules sort.Row) in
+      let loads = loads-laid (s .loads) (p .loads) in (
         λ i. record {
           book = record {
             states = s .book .states;
@@ -123,7 +113,7 @@ module _ (s : StoredTables) (len : Lengths s) where
           loads = loads i;
           budget = s .budget;
         },
-        and-right (load-free && row-free && free) (limits (tablesOf s)) h,
+        p .within,
       )
 
   -- the test is true exactly if they are `stored t` for tables t that keep the limits

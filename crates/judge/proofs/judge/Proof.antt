@@ -11,7 +11,7 @@ use Rattle.tables.specs.Limits.{maxLoads}
 use Rattle.tables.specs.Stored.{tablesOf, keepsLimits}
 use Rattle.judge.specs.declared.Verdict.the-variants.{Yes, No}
 use Rattle.judge.specs.Verdict.{judged}
-use Rattle.tables.proofs.Kept.{kept, loads-counted, few-loads}
+use Rattle.tables.proofs.Kept.{kept, few-loads}
 use Rattle.judge.proofs.Answers.{limit-broken, no-loads, not-three, says}
 use Rattle.judge.proofs.judge.Statement.{statement}
 use Rattle.judge.proofs.judge.Tie as tie
@@ -21,7 +21,7 @@ keeps : (c : tie.Else1) → keepsLimits (c .before .before .before .args .t) ≡
 keeps c = sym (c .before .keeps-limits .ensures .0) ∙ not-false (c .before .keeps-limits .result) (c .if1 .left)
 
 counted : (c : tie.Else1) → length (tablesOf (c .before .before .before .args .t) .loads) ≡ c .before .before .before .args .t .loads .count
-counted c = let t = c .before .before .before .args .t in loads-counted t (kept t (keeps c))
+counted c = let t = c .before .before .before .args .t in kept t (keeps c) .counted
 
 returns : tie.Need-returns
 returns c =

@@ -8,7 +8,7 @@ use lib.ListN.{length, getD}
 use Rattle.lists.proofs.Arrays.{of-map}
 use Rattle.tables.specs.Limits.{maxLoads}
 use Rattle.tables.specs.Stored.{bookOf, tablesOf}
-use Rattle.tables.proofs.Kept.{kept, loads-counted, few-loads}
+use Rattle.tables.proofs.Kept.{kept, few-loads}
 use Rattle.meaning.specs.Judge.{starts}
 use Rattle.judge.specs.Verdict.{proposed}
 use Rattle.judge.proofs.Root.{root-no-start, root-row-rule, root-runs}
@@ -17,7 +17,7 @@ use Rattle.judge.proofs.tree_runs.Tie as tie
 
 -- there is a load
 some-load : (s : tie.Start) → 0 < length (tablesOf (s .args .t) .loads)
-some-load s = omega (arith, loads-counted (s .args .t) (kept (s .args .t) (s .pre .0)))
+some-load s = omega (arith, kept (s .args .t) (s .pre .0) .counted)
 
 -- what the first test looks at
 start-at : (c : tie.After-is-start) → (let a = c .before .before .before .args in starts (tablesOf (a .t) .book) (getD (a .run .now) 0 0)) ≡ c .is-start .result

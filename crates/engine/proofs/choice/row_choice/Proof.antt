@@ -3,6 +3,7 @@ use Prim.Native.Nat.{_<_}
 use mathlib.Core.Path.{_≡_}
 use native.Mathlib.Omega.{arith}
 use borrow.Author.Needs.{needs}
+use Rattle.tables.specs.Limits.{maxRules}
 use Rattle.meaning.specs.Cells.{nextSibling}
 use Rattle.cells.specs.Problem.{loadsFor}
 use Rattle.engine.proofs.Reading.{next-is, row-used, share-fits, row-chosen}
@@ -32,7 +33,7 @@ used c =
     row-used (s .args .p) (s .args .work .now) (s .pre .0) (s .args .k) (s .args .g) (s .args .c) _ (s .pre .1 .0) (s .pre .1 .1) (s .pre .1 .2) (next n) (n .next-child .ensures .1)
     (s .pre .1 .3) _ (h .shape-of .ensures) (c .best-row-rule .result) (c .best-row-rule .ensures)
 
-few : (c : tie.After-best-row-rule) → c .best-row-rule .result .index < 32
+few : (c : tie.After-best-row-rule) → c .best-row-rule .result .index < maxRules
 few c = omega (arith, used c, c .before .before .before .before .before .before .before .before .before .pre .0 .lawful .rows .few)
 
 best-share-requires : tie.Need-best-share-requires

@@ -16,7 +16,7 @@ use Rattle.tables.specs.Stored.{rulesOf, bookOf, tablesOf}
 use Rattle.judge.specs.declared.figures.Step.{Step}
 use Rattle.judge.specs.Verdict.{proposed}
 use Rattle.judge.specs.Figures.{stepOf}
-use Rattle.tables.proofs.Kept.{kept, loads-counted, few-loads}
+use Rattle.tables.proofs.Kept.{kept, few-loads}
 use Rattle.judge.proofs.Places.{Filled, fill-none, fill-next}
 use Rattle.judge.proofs.figures.look_up.Statement.{statement}
 use Rattle.judge.proofs.figures.look_up.Tie as tie
@@ -81,7 +81,7 @@ returns c =
     let loads = s .args .t .loads in
     let k = kept (s .args .t) (s .pre .0) in
     let inv = c .before .loop .inv in
-    let counted = loads-counted (s .args .t) k in
+    let counted = k .counted in
     record {
       lawful = k .lawful;
       count = counted;

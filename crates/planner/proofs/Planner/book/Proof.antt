@@ -9,9 +9,9 @@ use Rattle.tables.specs.declared.tables.StoredTables.{StoredTables}
 use Rattle.tables.specs.Limits.{bookSize}
 use Rattle.tables.specs.Stored.{tablesOf}
 use Rattle.tables.specs.Operations.{bookBegun}
+use Rattle.tables.proofs.Lawful.{size-inside}
 use Rattle.tables.proofs.Changes.{book-begun}
 use Rattle.calls.specs.Rows.{changing}
-use Rattle.planner.proofs.Ranges.{book-inside}
 use Rattle.calls.proofs.State.{is-stored}
 use Rattle.planner.proofs.Commands.{out-of-range, accepts}
 use Rattle.planner.proofs.Planner.book.Statement.{statement}
@@ -32,10 +32,10 @@ returns c =
     (sym (tested k) ∙ not-true _ (c .before .if1 .taken)) (c .settled .ensures)
 
 cast-new-book : tie.Need-cast-new-book
-cast-new-book c = let a = c .before .before .before .args in omega (arith, book-inside (a .states) (a .stages) (passed c) .0)
+cast-new-book c = let a = c .before .before .before .args in omega (arith, size-inside (a .states) (a .stages) (passed c) .0 .1)
 
 cast-new-book-2 : tie.Need-cast-new-book-2
-cast-new-book-2 c = let a = c .before .before .before .args in omega (arith, book-inside (a .states) (a .stages) (passed c) .1)
+cast-new-book-2 c = let a = c .before .before .before .args in omega (arith, size-inside (a .states) (a .stages) (passed c) .1 .1)
 
 returns-2 : tie.Need-returns-2
 unfolding changing

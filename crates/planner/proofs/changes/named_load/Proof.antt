@@ -1,5 +1,5 @@
 -- `named_load` meets its contract. Assumes nothing.
-use Prim.Native.Nat.{ℕ, _≤_}
+use Prim.Native.Nat.{ℕ}
 use mathlib.Core.Path.{_≡_, sym, _∙_}
 use mathlib.Core.Bool.{Bool, true, false}
 use native.Mathlib.Omega.{arith}
@@ -8,10 +8,11 @@ use borrow.Author.Tests.{not-true, not-false}
 use Rattle.tables.specs.declared.load.Load.{Load}
 use Rattle.tables.specs.Tables.{noLoad}
 use Rattle.tables.specs.Limits.{loadIn}
+use Rattle.tables.specs.Lawful.{LoadFits}
+use Rattle.tables.proofs.Lawful.{load-inside}
 use Rattle.tables.proofs.Places.{load-range}
 use Rattle.calls.specs.Rows.{load}
 use Rattle.planner.specs.Changes.{namedLoad}
-use Rattle.planner.proofs.Ranges.{load-inside}
 use Rattle.planner.proofs.changes.named_load.Statement.{statement}
 use Rattle.planner.proofs.changes.named_load.Tie as tie
 
@@ -27,24 +28,25 @@ within k l b is e = let f : loadIn k l ≡ true = sym is ∙ e in rw (e, f)
 named : tie.Start → Load
 named e = load (e .args .parent) (e .args .power) (e .args .worth)
 
-passed : (c : tie.Else1) → let a = c .before .args in (a .parent ≤ a .number) × (a .power ≤ 500) × (a .worth ≤ 1000)
+passed : (c : tie.Else1) → LoadFits (c .before .args .number) (named (c .before))
 unfolding named
-passed c =
-    let a = c .before .args in
-    load-inside (a .number) (a .parent) (a .power) (a .worth) (sym (load-range (a .number) (named (c .before))) ∙ not-false _ (c .if1 .left))
+passed c = load-inside _ _ (sym (load-range (c .before .args .number) (named (c .before))) ∙ not-false _ (c .if1 .left))
 
 returns : tie.Need-returns
 unfolding named
 returns c = out _ _ _ (load-range (c .before .args .number) (named (c .before))) (not-true _ (c .if1 .taken))
 
 cast-t16 : tie.Need-cast-t16
-cast-t16 c = omega (arith, passed c .0, c .before .pre)
+unfolding named
+cast-t16 c = omega (arith, passed c .parent, c .before .pre)
 
 cast-t17 : tie.Need-cast-t17
-cast-t17 c = omega (arith, passed c .1)
+unfolding named
+cast-t17 c = omega (arith, passed c .power)
 
 cast-t18 : tie.Need-cast-t18
-cast-t18 c = omega (arith, passed c .2)
+unfolding named
+cast-t18 c = omega (arith, passed c .worth)
 
 returns-2 : tie.Need-returns-2
 unfolding named

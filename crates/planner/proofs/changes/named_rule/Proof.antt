@@ -1,5 +1,4 @@
 -- `named_rule` meets its contract. Assumes nothing.
-use Prim.Native.Nat.{_≤_}
 use mathlib.Core.Path.{_≡_, sym, _∙_}
 use mathlib.Core.Bool.{Bool, true, false, _&&_}
 use native.Mathlib.Omega.{arith}
@@ -9,9 +8,10 @@ use Rattle.tables.specs.declared.rule.RuleRange.{RuleRange}
 use Rattle.tables.specs.declared.rule.Transition.{Transition}
 use Rattle.tables.specs.Tables.{noRule}
 use Rattle.tables.specs.Limits.{ruleIn}
+use Rattle.tables.specs.Lawful.{RuleFits}
+use Rattle.tables.proofs.Lawful.{rule-inside}
 use Rattle.calls.specs.Rows.{rule}
 use Rattle.planner.specs.Changes.{namedRule}
-use Rattle.planner.proofs.Ranges.{rule-inside}
 use Rattle.planner.proofs.changes.named_rule.Statement.{statement}
 use Rattle.planner.proofs.changes.named_rule.Tie as tie
 
@@ -28,23 +28,20 @@ tested : (c : tie.After-between3) → let a = c .before .before .before .before 
 unfolding ruleIn
 tested c = rw (c .between3 .ensures, c .before .before .between2 .ensures, c .before .before .before .before .before .between .ensures)
 
-passed : (c : tie.Else1) → let a = c .before .before .before .before .before .before .before .before .args in
-    (a .from ≤ a .range .from) × (a .label ≤ a .range .high) × (a .to ≤ a .range .to)
-passed c =
-    let a = c .before .before .before .before .before .before .before .before .args in
-    rule-inside (a .range) (a .from) (a .label) (a .to) (sym (tested (c .before)) ∙ not-false _ (c .if1 .left))
+passed : (c : tie.Else1) → let a = c .before .before .before .before .before .before .before .before .args in RuleFits (a .range) (rule (a .from) (a .label) (a .to))
+passed c = rule-inside _ _ (sym (tested (c .before)) ∙ not-false _ (c .if1 .left))
 
 returns : tie.Need-returns
 returns c = out _ _ _ (tested (c .before)) (not-true _ (c .if1 .taken))
 
 cast-t18 : tie.Need-cast-t18
-cast-t18 c = omega (arith, passed c .0, c .before .before .before .before .before .before .before .struct-known .given)
+cast-t18 c = omega (arith, passed c .begins .1, c .before .before .before .before .before .before .before .struct-known .given)
 
 cast-t19 : tie.Need-cast-t19
-cast-t19 c = omega (arith, passed c .1, c .before .before .before .before .struct-known3 .given)
+cast-t19 c = omega (arith, passed c .gives .1, c .before .before .before .before .struct-known3 .given)
 
 cast-t20 : tie.Need-cast-t20
-cast-t20 c = omega (arith, passed c .2, c .before .before .struct-known4 .given)
+cast-t20 c = omega (arith, passed c .leads .1, c .before .before .struct-known4 .given)
 
 returns-2 : tie.Need-returns-2
 returns-2 c = within _ _ _ (tested (c .before)) (not-false _ (c .if1 .left))
