@@ -1,5 +1,5 @@
 -- The limits of "Loads and book" of paper 01 as facts, a field a limit: what tables that keep them give to those who use them.
--- proofs/Lawful takes the tests apart, here and nowhere else. Assumes nothing.
+-- proofs/Lawful proves them from the test of the limits, once for all who use them. Assumes nothing.
 use Prim.Native.Nat.{ℕ, suc, _≤_, _<_}
 use lib.ListN.{length, getD}
 use Rattle.tables.specs.declared.rule.RuleRange.{RuleRange}
