@@ -15,7 +15,7 @@ use Rattle.calls.specs.State.{State, StoredState, storedState, stateOf, 
 use Rattle.calls.specs.Rows.{Cause, _if_, Row, bytesOf}
 use Rattle.calls.specs.Causes.{lowest, allCauses, refusal}
 use Rattle.calls.specs.Printing.{text}
-use Rattle.calls.specs.Calls.{Call, Reply, rowFor, numberOf, reply, answer, turnedAway, handled, calledIf, called}
+use Rattle.calls.specs.Calls.{Call, Reply, rowFor, numberFor, reply, answer, turnedAway, handled, calledIf, called}
 use Rattle.calls.specs.Demand1.{Demand1}
 use Rattle.calls.proofs.State.{state-stored, keeps-stored, keeps-kept, kept-within, kept-stored}
 use Rattle.calls.proofs.Rows.{Right, line-right}
@@ -72,7 +72,7 @@ module _ (s : State) (h : Within s) (c : Call) where
   r = rowFor s c
 
   abbrev n : ℕ
-  n = numberOf s c
+  n = numberFor s c
 
   abbrev bs : List ℕ
   bs = text n r

@@ -18,7 +18,7 @@ use Rattle.calls.specs.State.{State, Within}
 use Rattle.calls.specs.Rows.{_if_, Row, checkText, notAllowed, row}
 use Rattle.calls.specs.Causes.{lowest, refusal}
 use Rattle.calls.specs.Printing.{text, zeroed, workAfter}
-use Rattle.calls.specs.Calls.{Call, rowFor, numberOf, answer}
+use Rattle.calls.specs.Calls.{Call, rowFor, numberFor, answer}
 use Rattle.calls.specs.Demand2.{CheckCall, CheckAllowed, CheckRefused, CheckRight}
 use Rattle.calls.proofs.Answers.{positive, roomy, row-is, answer-at}
 
@@ -33,7 +33,7 @@ module _ (s : State) (c : Call) (σ : LoadSet) (k : CheckCall (s .tables) c σ) 
   check-row : rowFor s c ≡ r
   check-row = row-is s c (Check σ (length (s .tables .loads))) (k .line) (k .short)
 
-  check-number : (b : Bool) → notAllowed (s .tables) (markIn σ) ≡ b → numberOf s c ≡ refusedIf b
+  check-number : (b : Bool) → notAllowed (s .tables) (markIn σ) ≡ b → numberFor s c ≡ refusedIf b
   unfolding row lowest
   check-number b e =
       ap (refusal (length (c .work)) (length (c .output)) (c .place)) check-row ∙ roomy (length (c .work)) (length (c .output)) (c .place) r (k .free)

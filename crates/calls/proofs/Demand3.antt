@@ -19,7 +19,7 @@ use Rattle.calls.specs.State.{State, StoredState, fresh, storedState, Wi
 use Rattle.calls.specs.Rows.{_if_, Row, planText, noneFits, row}
 use Rattle.calls.specs.Causes.{lowest, refusal}
 use Rattle.calls.specs.Printing.{text, workAfter, zeroed}
-use Rattle.calls.specs.Calls.{Call, Reply, Done, rowFor, after, numberOf, answer}
+use Rattle.calls.specs.Calls.{Call, Reply, Done, rowFor, after, numberFor, answer}
 use Rattle.calls.specs.Demand3.{printedSet, Exchange, History, last, paperFrom, PlanCall, PlanAnswered, PlanRight, Right, Demand3}
 use Rattle.calls.proofs.State.{fresh-within}
 use Rattle.calls.proofs.Keeps.{after-within}
@@ -43,7 +43,7 @@ module _ (s : State) (c : Call) (k : PlanCall (s .tables) c) where
   plan-row : rowFor s c ≡ r
   plan-row = row-is s c Plan (k .line) (k .short)
 
-  plan-number : (b : Bool) → noneFits (s .tables) ≡ b → numberOf s c ≡ refusedIf b
+  plan-number : (b : Bool) → noneFits (s .tables) ≡ b → numberFor s c ≡ refusedIf b
   unfolding row lowest
   plan-number b e =
       ap (refusal (length (c .work)) (length (c .output)) (c .place)) plan-row ∙ roomy (length (c .work)) (length (c .output)) (c .place) r (k .free)

@@ -26,7 +26,7 @@ use Rattle.meaning.proofs.Entries.{Listed, plan-listed, check-listed}
 use Rattle.meaning.proofs.InOrder.{listed-length}
 use Rattle.meaning.proofs.Ordered.{loads-ordered}
 use Rattle.meaning.proofs.Claims.{claims}
-use Rattle.calls.specs.Rows.{noneFits, planned, allowed, shownText}
+use Rattle.calls.specs.Rows.{noneFits, showingPlan, showingCheck, shownText}
 use Rattle.calls.proofs.Answers.{positive}
 
 -- ---- load lines
@@ -90,7 +90,7 @@ module _ (t : Tables) (h : Limits t) where
   unfolding checkEntries
   check-few σ = omega (arith, few, listed-length (check t σ) (length (t .loads)) (check-listed t listed σ))
 
-  pub planned-fits : noneFits t ≡ false → length (shownText (planned t (planEntries t))) ≤ freeBytes
+  pub planned-fits : noneFits t ≡ false → length (shownText (showingPlan t (planEntries t))) ≤ freeBytes
   unfolding noneFits
   planned-fits e =
       let σ = shownSet (planEntries t) in
@@ -98,5 +98,5 @@ module _ (t : Tables) (h : Limits t) where
       plan-fits (planEntries t) plan-ranged plan-few (worth t σ) (power t σ) (numberOn t σ)
       (all-worth t w σ) (omega (arith, fits, w .budget)) (all-on t w σ)
 
-  pub checked-fits : (σ : ℕ → ℕ) → length (shownText (allowed (checkEntries t σ))) ≤ freeBytes
+  pub checked-fits : (σ : ℕ → ℕ) → length (shownText (showingCheck (checkEntries t σ))) ≤ freeBytes
   checked-fits σ = check-fits (checkEntries t σ) (check-ranged σ) (check-few σ)

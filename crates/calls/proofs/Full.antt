@@ -19,7 +19,7 @@ use Rattle.tables.specs.Changes.{addLoad}
 use Rattle.calls.specs.State.{State, fresh, storedState}
 use Rattle.calls.specs.Rows.{_if_, Row, load, changing, row}
 use Rattle.calls.specs.Causes.{lowest, refusal}
-use Rattle.calls.specs.Calls.{Call, Reply, rowFor, after, numberOf, answer}
+use Rattle.calls.specs.Calls.{Call, Reply, rowFor, after, numberFor, answer}
 use Rattle.calls.specs.Demand3.{Exchange, History, Right}
 use Rattle.calls.specs.Full.{LoadCall, LoadCalls, numberAt, FullAfter}
 use Rattle.calls.proofs.Refusals.{after-number}
@@ -34,7 +34,7 @@ module _ (n k : ℕ) (s : State) (places : s .tables .places ≡ n) (loads : len
   load-row : rowFor s c ≡ r
   load-row = row-is s c (line.Change (to.Load (l .parent) (l .power) (l .worth))) (l .line) (l .short)
 
-  load-number : numberOf s c ≡ pick (leb n k) no.full 0
+  load-number : numberFor s c ≡ pick (leb n k) no.full 0
   unfolding row changing lowest
   load-number =
       ap (refusal (length (c .work)) (length (c .output)) (c .place)) load-row ∙ roomy (length (c .work)) (length (c .output)) (c .place) r (l .free)

@@ -14,7 +14,7 @@ use Rattle.calls.specs.State.{State}
 use Rattle.calls.specs.Rows.{_if_, Row, changes, shows, works, causesOf}
 use Rattle.calls.specs.Causes.{lowest, allCauses, refusal, Lowest}
 use Rattle.calls.specs.Effects.{acted, changed, stateBy}
-use Rattle.calls.specs.Calls.{Call, rowFor, after, numberOf}
+use Rattle.calls.specs.Calls.{Call, rowFor, after, numberFor}
 use Rattle.calls.proofs.Numbers.{ascending-from, lowest-given, lowest-least, lowest-range}
 use Rattle.calls.proofs.Rows.{Right}
 
@@ -51,13 +51,13 @@ acts-alike t m n room place (works b k before after x) = still (refusal m room p
     still (suc i) = refl
 
 -- a call acts exactly if its number is 0
-pub after-number : (s : State) (c : Call) → after s c ≡ stateBy s (numberOf s c) (rowFor s c)
+pub after-number : (s : State) (c : Call) → after s c ≡ stateBy s (numberFor s c) (rowFor s c)
 unfolding changed
 after-number s c = λ i. record { tables = acts-alike (s .tables) 0 (length (c .work)) (length (c .output)) (c .place) (rowFor s c) i }
 
 -- "a refused one not at all"
-pub refused-keeps : (s : State) (c : Call) → 0 < numberOf s c → after s c ≡ s
-refused-keeps s c h = after-number s c ∙ go (numberOf s c) h
+pub refused-keeps : (s : State) (c : Call) → 0 < numberFor s c → after s c ≡ s
+refused-keeps s c h = after-number s c ∙ go (numberFor s c) h
   where
     go : (n : ℕ) → 0 < n → stateBy s n (rowFor s c) ≡ s
     go zero l = absurd (omega arith)

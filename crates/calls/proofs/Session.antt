@@ -8,7 +8,7 @@ use Rattle.lists.specs.Argmax.{argmax}
 use Rattle.marks.specs.Bits.{hasMark, withMark}
 use Rattle.marks.specs.Sets.{joined, hasLoad}
 use Rattle.lines.specs.Text.{same, decimalTo, decimal, field}
-use Rattle.lines.specs.Grammar.{fields, isNumber, valueFrom, isBits, joinedFrom, parse, find as findForm}
+use Rattle.lines.specs.Grammar.{fields, isNumber, valueFrom, isBits, joinedFrom, parse, findForm}
 use Rattle.lines.specs.Answers.{refused, planLine, entryLine, entryLines}
 use Rattle.lines.specs.Input.{lines}
 use Rattle.tables.specs.Tables.{fresh}

@@ -17,7 +17,7 @@ use Rattle.calls.specs.State.{StoredState, stateOf, keeps}
 use Rattle.calls.specs.Rows.{Cause, _if_, bytesOf, cellsFor}
 use Rattle.calls.specs.Causes.{allCauses, Lowest}
 use Rattle.calls.specs.Printing.{zeroed, searched}
-use Rattle.calls.specs.Calls.{Call, rowFor, Done, written, turnedAway}
+use Rattle.calls.specs.Calls.{Call, rowFor, Done, writtenBy, turnedAway}
 
 -- every cause of the table, in its order: "a planner handed in that breaks a limit", then those of its state
 abbrev pub causesOf : StoredState → Call → List Cause
@@ -32,7 +32,7 @@ pub record Demand1 (p : StoredState) (c : Call) (d : Done) : Type 0 where
   -- 1: "number, 0 bytes", and "everything" is left as it was
   pub one : d .reply .number ≡ no.unusable → d .reply ≡ turnedAway c
   -- from 2 on: "number, `no,N`"
-  pub prints : no.unusable < d .reply .number → written c (d .reply) ≡ refused (d .reply .number)
+  pub prints : no.unusable < d .reply .number → writtenBy c (d .reply) ≡ refused (d .reply .number)
   -- "1,024 bytes must be free from there": no answer is longer than the bytes that its line needs
   pub fits : d .reply .count ≤ bytesOf (rowFor (stateOf p) c)
   -- "Bytes before the place and after the answer keep their values."

@@ -64,21 +64,21 @@ abbrev pub alone : Answer → Shown
 alone a = record { answer = a; entries = [] }
 
 -- "A plan prints `plan,worth,power,n`, n being the number of loads on": the figures of the set shown
-abbrev pub planned : Tables → List Entry → Shown
-planned t es = record { answer = Planned (worth t (shownSet es)) (power t (shownSet es)) (numberOn t (shownSet es)); entries = es }
+abbrev pub showingPlan : Tables → List Entry → Shown
+showingPlan t es = record { answer = Planned (worth t (shownSet es)) (power t (shownSet es)) (numberOn t (shownSet es)); entries = es }
 
 -- "An allowed check prints `yes` and the same load lines."
-abbrev pub allowed : List Entry → Shown
-allowed es = record { answer = Allowed; entries = es }
+abbrev pub showingCheck : List Entry → Shown
+showingCheck es = record { answer = Allowed; entries = es }
 
 abbrev pub shownText : Shown → List ℕ
 shownText x = textOf (x .answer) (x .entries)
 
 unfoldable pub planText : Tables → List Entry → List ℕ
-planText t es = shownText (planned t es)
+planText t es = shownText (showingPlan t es)
 
 unfoldable pub checkText : List Entry → List ℕ
-checkText es = shownText (allowed es)
+checkText es = shownText (showingCheck es)
 
 -- ---- the table
 -- the rule or the load that a line names
@@ -138,12 +138,12 @@ unfoldable pub row : State → Command → Row
 row s (line.Change c) = changes (changing (s .tables) c)
 row s line.Plan =
     let t = s .tables in
-    works freeBytes (cellsOf t) ((no.noLoads if eqb (length (t .loads)) 0) ∷ []) ((no.noneFits if noneFits t) ∷ []) (planned t (planEntries t))
+    works freeBytes (cellsOf t) ((no.noLoads if eqb (length (t .loads)) 0) ∷ []) ((no.noneFits if noneFits t) ∷ []) (showingPlan t (planEntries t))
 row s (line.Check σ n) =
     let t = s .tables in
     shows freeBytes
     ((no.noLoads if eqb (length (t .loads)) 0) ∷ (no.outOfRange if not (eqb n (length (t .loads)))) ∷ (no.notAllowed if notAllowed t (markIn σ)) ∷ [])
-    (allowed (checkEntries t (markIn σ)))
+    (showingCheck (checkEntries t (markIn σ)))
 row s line.Broken = refuses no.broken
 
 -- of a line: "line over 80 bytes" is judged before its form

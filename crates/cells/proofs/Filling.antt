@@ -11,7 +11,7 @@ use lib.Seq.{getD-drop, ext-getD}
 use Rattle.cells.specs.declared.problem.Problem.{Problem}
 use Rattle.cells.specs.declared.problem.Shape.{Shape}
 use Rattle.cells.specs.Problem.{shapeOf}
-use Rattle.cells.specs.Work.{placeOf, cellsNeeded, cellOf, Holds, Filled}
+use Rattle.cells.specs.Work.{placeOf, cellsNeeded, cellOf, FilledTo, Filled}
 use Rattle.cells.specs.Strip.{Stored}
 
 -- the quotient is known from the number
@@ -76,10 +76,10 @@ module _ (sh : Shape) where
 
 module _ (p : Problem) where
   -- no cell is asked for
-  pub holds-none : (w : List ℕ) → Holds p w 0
+  pub holds-none : (w : List ℕ) → FilledTo p w 0
   holds-none w = record { at = λ k x a b1 b2 b3 b4 l. absurd (omega arith) }
 
-  pub holds-less : (w : List ℕ) (i j : ℕ) → i ≤ j → Holds p w j → Holds p w i
+  pub holds-less : (w : List ℕ) (i j : ℕ) → i ≤ j → FilledTo p w j → FilledTo p w i
   holds-less w i j l h = record { at = λ k x a b1 b2 b3 b4 m. h .at k x a b1 b2 b3 b4 (omega arith) }
 
   pub filled-none : (w : List ℕ) (i : ℕ) → Filled p w w i i
@@ -101,7 +101,7 @@ module _ (p : Problem) where
   -- a strip that is stored at its places fills its stretch
   module _ (w v s : List ℕ) (k x from to at : ℕ) (lk : k ≤ shapeOf p .loads) (lx : x < shapeOf p .states + shapeOf p .stages)
       (le : to ≤ shapeOf p .budget + 1) (e : at ≡ placeOf (shapeOf p) k x) (st : Stored w s v at from to)
-      (cells : Holds p w (placeOf (shapeOf p) k x) → (a : ℕ) → from ≤ a → a < to → getD s a 0 ≡ cellOf p k x a) where
+      (cells : FilledTo p w (placeOf (shapeOf p) k x) → (a : ℕ) → from ≤ a → a < to → getD s a 0 ≡ cellOf p k x a) where
     pub filled-stretch : Filled p w v (placeOf (shapeOf p) k x + from) (placeOf (shapeOf p) k x + to)
     filled-stretch = record {
       below = λ i l. st .below i (omega arith);
@@ -109,7 +109,7 @@ module _ (p : Problem) where
       holds = λ h. record { at = λ k′ x′ a′ b1 b2 b3 b4 m. go h k′ x′ a′ b1 b2 b3 b4 m (decLt (placeOf (shapeOf p) k′ x′ + a′) (at + from)) };
     }
       where
-        go : Holds p w (placeOf (shapeOf p) k x + from) → (k′ x′ a′ : ℕ) → 0 < k′ → k′ ≤ shapeOf p .loads → x′ < shapeOf p .states + shapeOf p .stages
+        go : FilledTo p w (placeOf (shapeOf p) k x + from) → (k′ x′ a′ : ℕ) → 0 < k′ → k′ ≤ shapeOf p .loads → x′ < shapeOf p .states + shapeOf p .stages
             → a′ ≤ shapeOf p .budget → placeOf (shapeOf p) k′ x′ + a′ < placeOf (shapeOf p) k x + to → Dec (placeOf (shapeOf p) k′ x′ + a′ < at + from)
             → getD v (placeOf (shapeOf p) k′ x′ + a′) 0 ≡ cellOf p k′ x′ a′
         go h k′ x′ a′ b1 b2 b3 b4 m (yes b) = st .below _ b ∙ h .at k′ x′ a′ b1 b2 b3 b4 (omega arith)

@@ -24,7 +24,7 @@ use Rattle.cells.specs.declared.problem.Problem.{Problem}
 use Rattle.cells.specs.declared.problem.StoredItem.{StoredItem}
 use Rattle.cells.specs.Problem.{bookFor, loadsFor, itemsIf, itemsFor, itemOf, shapeOf, Lawful}
 use Rattle.tables.specs.Limits.{maxWorth}
-use Rattle.cells.specs.Work.{placeOf, cellLimit, heldIn, heldBranch, heldRow, branchFor, rowFor, cellOf, Holds}
+use Rattle.cells.specs.Work.{placeOf, cellLimit, heldIn, heldBranch, heldRow, branchFor, rowFor, cellOf, FilledTo}
 use Rattle.cells.specs.Strip.{Rising, Rises}
 use Rattle.cells.proofs.Numbers.{cell-fits, held-same}
 use Rattle.cells.proofs.Tables.{loads-length, rule-to, rule-label}
@@ -64,7 +64,7 @@ module _ (p : Problem) (ok : Lawful p) where
       (branch-fits (bookFor p) (itemsFor p) maxWorth (loadsFor p) (ok .loads .ordered) cheap (ok .loads .parents) j q c)
 
   -- the cells of a load that stand below i are read as they are to be
-  module _ (w : List ℕ) (i : ℕ) (h : Holds p w i) where
+  module _ (w : List ℕ) (i : ℕ) (h : FilledTo p w i) where
     pub row-held : (k : ℕ) → k ≤ shapeOf p .loads
         → ((x a : ℕ) → 0 < k → x < shapeOf p .states + shapeOf p .stages → a ≤ shapeOf p .budget → placeOf (shapeOf p) k x + a < i)
         → (g c : ℕ) → 0 < g → g ≤ shapeOf p .stages → c ≤ shapeOf p .budget → heldRow (shapeOf p) w k g c ≡ rowFor p k g c
@@ -95,7 +95,7 @@ module _ (p : Problem) (ok : Lawful p) where
   rising f cells x to g e c d l m = omega (arith, e c (omega arith), e d m, g x c d l)
 
   -- a stretch from the cells below it
-  module _ (w : List ℕ) (j x : ℕ) (l : suc j ≤ shapeOf p .loads) (h : Holds p w (placeOf (shapeOf p) (suc j) x)) where
+  module _ (w : List ℕ) (j x : ℕ) (l : suc j ≤ shapeOf p .loads) (h : FilledTo p w (placeOf (shapeOf p) (suc j) x)) where
     -- the row of a child after the load
     later-held : (q k : ℕ) → k ≡ after (loadsFor p) (suc j) q → (g c : ℕ) → 0 < g → g ≤ shapeOf p .stages → c ≤ shapeOf p .budget
         → heldRow (shapeOf p) w k g c ≡ rowFor p k g c

@@ -61,7 +61,7 @@ cellOf p k x a =
     cond (ltb x (p .tables .book .states)) (branchFor p k (suc x) a) (rowFor p k (suc (x - p .tables .book .states)) a)
 
 -- the cells below i hold what they are to hold
-pub record Holds (p : Problem) (w : List ℕ) (i : ℕ) : Type 0 where
+pub record FilledTo (p : Problem) (w : List ℕ) (i : ℕ) : Type 0 where
   pub at : (k x a : ℕ) → 0 < k → k ≤ shapeOf p .loads → x < shapeOf p .states + shapeOf p .stages → a ≤ shapeOf p .budget
       → placeOf (shapeOf p) k x + a < i → getD w (placeOf (shapeOf p) k x + a) 0 ≡ cellOf p k x a
 
@@ -69,4 +69,4 @@ pub record Holds (p : Problem) (w : List ℕ) (i : ℕ) : Type 0 where
 pub record Filled (p : Problem) (w v : List ℕ) (from to : ℕ) : Type 0 where
   pub below : (i : ℕ) → i < from → getD v i 0 ≡ getD w i 0
   pub above : (i : ℕ) → to ≤ i → getD v i 0 ≡ getD w i 0
-  pub holds : Holds p w from → Holds p v to
+  pub holds : FilledTo p w from → FilledTo p v to

@@ -25,7 +25,7 @@ ghost use Rattle.meaning.specs.Cell.{powerLimit};
 ghost use Rattle.meaning.specs.Best.{bestRule, loadReach, rowReach, shares};
 ghost use Rattle.cells.specs.Problem.{itemOf, shapeOf, RulesIn, Lawful};
 ghost use Rattle.tables.specs.Limits.{maxWorth};
-ghost use Rattle.cells.specs.Work.{cellLimit, placeOf, Ready, heldBranch, heldRow, cellOf, Holds, Filled};
+ghost use Rattle.cells.specs.Work.{cellLimit, placeOf, Ready, heldBranch, heldRow, cellOf, FilledTo, Filled};
 ghost use Rattle.cells.specs.Strip.{moved, Raised, Rises};
 
 // The cells of a strip: one for each allowance from 0 to 500, and more.
@@ -193,7 +193,7 @@ fn raise(p: Problem, work: &[u32], strip: &mut [u32], k: usize, x: usize, from: 
     requires { ⌜ Lawful p ⌝ }
     requires { ⌜ Ready (shapeOf p) (now work) ⌝ }
     requires { ⌜ (0 < k) × (k ≤ shapeOf p .loads) × (x < shapeOf p .states + shapeOf p .stages) × (to ≤ shapeOf p .budget + 1) × (to ≤ length (now strip)) ⌝ }
-    ensures { λ _. ⌜ (Holds p (now (work .entry)) (placeOf (shapeOf p) k x) → Raised (now (strip .entry)) (now (strip .exit)) from to (cellOf p k x)) ⌝ }
+    ensures { λ _. ⌜ (FilledTo p (now (work .entry)) (placeOf (shapeOf p) k x) → Raised (now (strip .entry)) (now (strip .exit)) from to (cellOf p k x)) ⌝ }
 {
     let sh = shape_of(p);
     let tables = p.tables;

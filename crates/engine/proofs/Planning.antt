@@ -13,7 +13,7 @@ use Rattle.meaning.specs.Choice.{inOrder, plan, check, planEntries, checkEntrie
 use Rattle.cells.specs.declared.problem.Problem.{Problem}
 use Rattle.cells.specs.Problem.{planProblem, checkProblem, loadsFor, shapeOf, Lawful}
 use Rattle.marks.specs.Sets.{markIn}
-use Rattle.cells.specs.Work.{cellsNeeded, Holds, Filled}
+use Rattle.cells.specs.Work.{cellsNeeded, FilledTo, Filled}
 use Rattle.cells.proofs.Filling.{holds-none}
 use Rattle.cells.proofs.Places.{cells-small}
 use Rattle.cells.proofs.Stretches.{loads-long}
@@ -28,7 +28,7 @@ pub complete : (p : Problem) → Lawful p → (w v : List ℕ) (n : ℕ) → n �
 complete p ok w v n e f l room = record {
   lawful = ok;
   ready = record { sane = ok .sane; room = omega arith };
-  holds = subst (λ i. Holds p v i) e (f .holds (holds-none p w));
+  holds = subst (λ i. FilledTo p v i) e (f .holds (holds-none p w));
 }
 
 -- what a search of a problem answers

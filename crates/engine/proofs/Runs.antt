@@ -20,7 +20,7 @@ use Rattle.tables.specs.declared.entry.Entry.{Entry}
 use Rattle.meaning.specs.Choice.{noEntry, find, inOrder, marksOf, shownSet}
 use Rattle.meaning.specs.Claims.{Numbered}
 use Rattle.engine.specs.declared.run.Run.{Run}
-use Rattle.engine.specs.Shown.{marking, markAll, runOf, withEntry, outcomeOf}
+use Rattle.engine.specs.Shown.{joinedIfOn, markAll, runOf, withEntry, outcomeOf}
 
 -- ---- entries in load order
 pub order-length : (es : List Entry) (k n : ℕ) → length (inOrder es k n) ≡ n
@@ -47,10 +47,10 @@ map-snoc : (f : Entry → ℕ) (es : List Entry) (e : Entry) → map f (es ++ (e
 map-snoc f [] e = refl
 map-snoc f (x ∷ es) e = ap (λ (l : List ℕ). f x ∷ l) (map-snoc f es e)
 
-mark-snoc : (s : LoadSet) (es : List Entry) (e : Entry) → markAll s (es ++ (e ∷ [])) ≡ marking (markAll s es) e
+mark-snoc : (s : LoadSet) (es : List Entry) (e : Entry) → markAll s (es ++ (e ∷ [])) ≡ joinedIfOn (markAll s es) e
 unfolding markAll
 mark-snoc s [] e = refl
-mark-snoc s (x ∷ es) e = mark-snoc (marking s x) es e
+mark-snoc s (x ∷ es) e = mark-snoc (joinedIfOn s x) es e
 
 laid-more : (f : Entry → ℕ) (es : List Entry) (e : Entry) (n : ℕ) → n ≡ suc (length es) → length es < maxLoads
     → set (laid 0 maxLoads (map f es)) (n - 1) (f e) ≡ laid 0 maxLoads (map f (es ++ (e ∷ [])))
@@ -66,7 +66,7 @@ runFrom a b c s = record { states = a; «load_rules» = b; «row_rules» = c; se
 pub run-snoc : (es : List Entry) (e : Entry) → e .number ≡ suc (length es) → length es < maxLoads → withEntry (runOf es) e ≡ runOf (es ++ (e ∷ []))
 unfolding runOf withEntry
 run-snoc es e q h =
-    ap₂ (λ a b. runFrom a b (set (laid 0 maxLoads (map (λ e. e .row) es)) (e .number - 1) (e .row)) (marking (markAll noLoads es) e))
+    ap₂ (λ a b. runFrom a b (set (laid 0 maxLoads (map (λ e. e .row) es)) (e .number - 1) (e .row)) (joinedIfOn (markAll noLoads es) e))
     (laid-more (λ e. e .state) es e (e .number) q h) (laid-more (λ e. e .rule) es e (e .number) q h)
     ∙ ap₂ (λ a s. runFrom (laid 0 maxLoads (map (λ e. e .state) (es ++ (e ∷ [])))) (laid 0 maxLoads (map (λ e. e .rule) (es ++ (e ∷ [])))) a s)
     (laid-more (λ e. e .row) es e (e .number) q h) (sym (mark-snoc noLoads es e))
@@ -87,7 +87,7 @@ has-marked : (s : LoadSet) (es : List Entry) (k n : ℕ) → Numbered (suc k) es
 unfolding markAll find
 has-marked s [] k n o h = refl
 has-marked s (e ∷ es) k n o h =
-    has-marked (marking s e) es (suc k) n (o .1) (omega arith) ∙ go (eqb (e .number) n) refl
+    has-marked (joinedIfOn s e) es (suc k) n (o .1) (omega arith) ∙ go (eqb (e .number) n) refl
   where
     here : e .number ≡ n → (t : Bool) → eqb (e .mark) 1 ≡ t → hasLoad (pick t (joined s (e .number)) s) n ≡ t || hasLoad s n
     here q true m = subst (λ i. hasLoad (joined s (e .number)) i ≡ true) q (has-joined-same s (e .number) (omega (arith, o .0)) (omega (arith, o .0)))
@@ -97,9 +97,9 @@ has-marked s (e ∷ es) k n o h =
     there q true = has-joined-other s (e .number) n (λ x. q (sym x))
     there q false = refl
 
-    go : (t : Bool) → eqb (e .number) n ≡ t → eqb (find es n .mark) 1 || hasLoad (marking s e) n ≡ eqb (cond t e (find es n) .mark) 1 || hasLoad s n
+    go : (t : Bool) → eqb (e .number) n ≡ t → eqb (find es n .mark) 1 || hasLoad (joinedIfOn s e) n ≡ eqb (cond t e (find es n) .mark) 1 || hasLoad s n
     go true q =
-        ap (λ (x : Entry). eqb (x .mark) 1 || hasLoad (marking s e) n) (find-before es (suc (suc k)) n (o .1) (omega (arith, o .0, eqb-true (e .number) n q)))
+        ap (λ (x : Entry). eqb (x .mark) 1 || hasLoad (joinedIfOn s e) n) (find-before es (suc (suc k)) n (o .1) (omega (arith, o .0, eqb-true (e .number) n q)))
         ∙ here (eqb-true _ _ q) (eqb (e .mark) 1) refl
     go false q = ap (λ b. eqb (find es n .mark) 1 || b) (there (eqb-false _ _ q) (eqb (e .mark) 1))
 

@@ -15,7 +15,7 @@ use Rattle.meaning.specs.Choice.{chooseTree, inOrder, marksOf, assignedBy}
 use Rattle.meaning.specs.Cells.{firstChild, nextSibling}
 use Rattle.cells.specs.declared.problem.Problem.{Problem}
 use Rattle.cells.specs.Problem.{bookFor, loadsFor, itemsFor, shapeOf, Lawful}
-use Rattle.cells.specs.Work.{cellsNeeded, Ready, Holds}
+use Rattle.cells.specs.Work.{cellsNeeded, Ready, FilledTo}
 use Rattle.engine.specs.declared.pass.Rows.{Rows}
 use Rattle.engine.specs.declared.pass.Pass.{Pass}
 use Rattle.engine.specs.declared.choice.LoadChoice.{LoadChoice}
@@ -34,7 +34,7 @@ entriesFor p = chooseTree (bookFor p) (tree (itemsFor p) (loadsFor p)) (p .table
 pub record Complete (p : Problem) (w : List ℕ) : Type 0 where
   pub lawful : Lawful p
   pub ready : Ready (shapeOf p) w
-  pub holds : Holds p w (cellsNeeded (shapeOf p))
+  pub holds : FilledTo p w (cellsNeeded (shapeOf p))
 
 -- what is chosen for load k in state q with allowance c
 unfoldable pub loadChoice : Problem → (k q c : ℕ) → LoadChoice

@@ -16,13 +16,13 @@ use Rattle.engine.specs.declared.run.Run.{Run}
 use Rattle.engine.specs.declared.run.Outcome.{Outcome}
 
 -- a set with the load of an entry, if it is on
-abbrev pub marking : LoadSet → Entry → LoadSet
-marking s e = pick (eqb (e .mark) 1) (joined s (e .number)) s
+abbrev pub joinedIfOn : LoadSet → Entry → LoadSet
+joinedIfOn s e = pick (eqb (e .mark) 1) (joined s (e .number)) s
 
 -- a set with the loads of the entries that are on
 unfoldable pub markAll : LoadSet → List Entry → LoadSet
 markAll s [] = s
-markAll s (e ∷ es) = markAll (marking s e) es
+markAll s (e ∷ es) = markAll (joinedIfOn s e) es
 
 -- the run that entries in load order show
 unfoldable pub runOf : List Entry → Run
@@ -39,7 +39,7 @@ withEntry r e = record {
   states = set (r .states) (e .number - 1) (e .state);
   «load_rules» = set (r .«load_rules») (e .number - 1) (e .rule);
   «row_rules» = set (r .«row_rules») (e .number - 1) (e .row);
-  set = marking (r .set) e;
+  set = joinedIfOn (r .set) e;
 }
 
 -- what a search answers: its best cell is 0 where it finds nothing

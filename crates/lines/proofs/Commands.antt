@@ -17,7 +17,7 @@ use Rattle.lines.specs.declared.Command.{Command}
 use Rattle.lines.specs.declared.Command.the-variants.{Broken, Check}
 use Rattle.lines.specs.declared.reading.Word.{Word}
 use Rattle.lines.specs.Text.{comma, same, firstAt, before}
-use Rattle.lines.specs.Grammar.{onFirst, fields, isNumber, valueFrom, value, isBit, isBits, loadsOf, Form, numbers, bits, table, find, parse, meant}
+use Rattle.lines.specs.Grammar.{onFirst, fields, isNumber, valueFrom, value, isBit, isBits, loadsOf, Form, numbers, bits, table, findForm, parse, meant}
 use Rattle.lines.specs.Reading.{codeFrom, code, mostLetters, wordOf, fieldsAfter, mostNumbers, numbersIn, bitsOf, rowCode, rows, orMore, mostFrom, mostAfter, placeOf, commandAt, withNumbers}
 use Rattle.lines.proofs.Before.{before-most}
 use Rattle.lines.proofs.Fields.{Cons, cons, fields-cons}
@@ -91,8 +91,8 @@ map-at (f ∷ fs) zero = refl
 map-at (f ∷ fs) (suc i) = map-at fs i
 
 -- with all fields numbers, it is their values that the table is asked for
-pub find-meant : (w : List ℕ) → same check w ≡ false → (fs : List (List ℕ)) → every isNumber fs ≡ true → (xs : List Form) → Kept xs → find xs w fs ≡ meant xs w (map value fs)
-unfolding find meant
+pub find-meant : (w : List ℕ) → same check w ≡ false → (fs : List (List ℕ)) → every isNumber fs ≡ true → (xs : List Form) → Kept xs → findForm xs w fs ≡ meant xs w (map value fs)
+unfolding findForm meant
 find-meant w o fs h [] q = refl
 find-meant w o fs h (numbers v n f ∷ xs) q = rw (h, length-map fs value, find-meant w o fs h xs (q .1)) (simp map-at (go (same v w) (eqb (length fs) n)))
   where
@@ -124,8 +124,8 @@ module _ (w : List ℕ) (b : Bytes w) (other : same check w ≡ false) where
   meant-row ns few (bits v f ∷ xs) q = meant-row ns few xs (q .1)
 
   -- fields that are no numbers, or more of them than any row of the word has
-  find-broken : (fs : List (List ℕ)) (xs : List Form) → Kept xs → (k : ℕ) → every isNumber fs && leb (length fs) (mostFrom k (shortCode w) (rows xs)) ≡ false → find xs w fs ≡ Broken
-  unfolding find mostFrom
+  find-broken : (fs : List (List ℕ)) (xs : List Form) → Kept xs → (k : ℕ) → every isNumber fs && leb (length fs) (mostFrom k (shortCode w) (rows xs)) ≡ false → findForm xs w fs ≡ Broken
+  unfolding findForm mostFrom
   find-broken fs [] q k h = refl
   find-broken fs (numbers v n f ∷ xs) q k h = rw (row-word v n (q .0), no (eqb (shortCode w) (x / 256)) refl) (find-broken fs xs (q .1) next h)
     where
@@ -145,14 +145,14 @@ module _ (w : List ℕ) (b : Bytes w) (other : same check w ≡ false) where
   find-broken fs (bits v f ∷ xs) q k h = rw (q .0, other) (find-broken fs xs (q .1) k h)
 
   -- the command that is found by the rows is that of the grammar
-  with-find : (fs : List (List ℕ)) → withNumbers (shortCode w) (numbersIn (mostAfter (shortCode w) (rows table)) fs) ≡ find table w fs
+  with-find : (fs : List (List ℕ)) → withNumbers (shortCode w) (numbersIn (mostAfter (shortCode w) (rows table)) fs) ≡ findForm table w fs
   unfolding withNumbers numbersIn
   with-find fs = go (every isNumber fs && leb (length fs) m) refl
     where
       m : ℕ
       m = mostAfter (shortCode w) (rows table)
 
-      go : (t : Bool) → every isNumber fs && leb (length fs) m ≡ t → withNumbers (shortCode w) (numbersIn m fs) ≡ find table w fs
+      go : (t : Bool) → every isNumber fs && leb (length fs) m ≡ t → withNumbers (shortCode w) (numbersIn m fs) ≡ findForm table w fs
       go true e =
           let few = leb-true (length fs) m (and-right (every isNumber fs) (leb (length fs) m) e) in
           let row = meant-row (map value fs) (omega (arith, length-map fs value, most-few (shortCode w) table kept 0 (omega arith))) table kept in
@@ -199,8 +199,8 @@ bits-field t = go (one-field t)
     go (inr e) = rw (e .0, no-bits t (e .1))
 
 -- ---- a line of bytes
-find-check : (fs : List (List ℕ)) → find table check fs ≡ checked fs
-unfolding find same
+find-check : (fs : List (List ℕ)) → findForm table check fs ≡ checked fs
+unfolding findForm same
 find-check fs = refl
 
 empty-bits : bitsOf [] ≡ Broken
@@ -216,7 +216,7 @@ bits-after e s = go (below-or e (length s))
     go (inr l) = rw (le-ltb e (length s) l, drop-of-length-le s {i = e + 1} (omega arith)) empty-bits
 
 module _ (s : List ℕ) (b : Bytes s) where
-  parse-find : parse s ≡ find table (wordIn s) (fieldsAfter (before comma s) s)
+  parse-find : parse s ≡ findForm table (wordIn s) (fieldsAfter (before comma s) s)
   unfolding parse
   parse-find = rw (word-split s)
 

@@ -13,7 +13,7 @@ use Rattle.lines.specs.declared.Command.the-variants.{Change, Plan, Chec
 use Rattle.lines.specs.declared.Change.the-variants.{Clear, Book, Start, End, Rule, Row, Load, Power, Worth, Budget}
 use Rattle.lines.specs.Text.{bytes, same, decimalTo, decimal, field}
 use Rattle.lines.specs.Length.{tooLong}
-use Rattle.lines.specs.Grammar.{fields, isNumber, valueFrom, isBits, joinedFrom, find, parse}
+use Rattle.lines.specs.Grammar.{fields, isNumber, valueFrom, isBits, joinedFrom, findForm, parse}
 use Rattle.lines.specs.Answers.{refused, planLine, entryLine}
 use Rattle.lines.specs.Input.{lines, feed, feedAll}
 use Rattle.lines.specs.Shown.{entryIn, entriesIn, shown}
@@ -23,11 +23,11 @@ reads s = parse (bytes s)
 
 session : map reads ("book,2,2" ∷ "start,1" ∷ "end,2" ∷ "rule,1,0,2" ∷ "row,2,2,2" ∷ "load,0,10,0" ∷ "budget,30" ∷ "plan" ∷ "check,0100" ∷ "budget,501" ∷ [])
     ≡ Change (Book 2 2) ∷ Change (Start 1) ∷ Change (End 2) ∷ Change (Rule 1 0 2) ∷ Change (Row 2 2 2) ∷ Change (Load 0 10 0) ∷ Change (Budget 30) ∷ Plan ∷ Check (record { 0 = 2 }) 4 ∷ Change (Budget 501) ∷ []
-unfolding same fields isNumber valueFrom isBits joinedFrom find parse every withMark joined
+unfolding same fields isNumber valueFrom isBits joinedFrom findForm parse every withMark joined
 session = refl
 
 others : map reads ("clear" ∷ "power,64,99999" ∷ "worth,0,1000" ∷ "check,1" ∷ []) ≡ Change Clear ∷ Change (Power 64 99999) ∷ Change (Worth 0 1000) ∷ Check (record { 0 = 1 }) 1 ∷ []
-unfolding same fields isNumber valueFrom isBits joinedFrom find parse every withMark joined
+unfolding same fields isNumber valueFrom isBits joinedFrom findForm parse every withMark joined
 others = refl
 
 -- each of these breaks the form: words, blanks, signs, leading zeros, a sixth digit, empty fields, wrong counts, bits that are none
@@ -39,17 +39,17 @@ unsound =
     ∷ "check" ∷ "check," ∷ "check,012" ∷ "check,0,1" ∷ "check,01," ∷ "check,,01" ∷ []
 
 all-broken : map reads unsound ≡ replicate (length unsound) Broken
-unfolding unsound same fields isNumber valueFrom isBits joinedFrom find parse every withMark joined
+unfolding unsound same fields isNumber valueFrom isBits joinedFrom findForm parse every withMark joined
 all-broken = refl
 
 -- a NUL byte, in front or behind, and a byte above 127
 strange : map parse ((0 ∷ bytes "plan") ∷ (bytes "plan" ++ (0 ∷ [])) ∷ (bytes "budget,3" ++ (0 ∷ [])) ∷ (bytes "plan" ++ (255 ∷ [])) ∷ []) ≡ replicate 4 Broken
-unfolding same fields isNumber valueFrom isBits joinedFrom find parse every withMark joined
+unfolding same fields isNumber valueFrom isBits joinedFrom findForm parse every withMark joined
 strange = refl
 
 -- 74 bits are in form, and their count is known
 wide : parse (bytes "check," ++ replicate 74 49) ≡ Check (record { 0 = 18446744073709551615 }) 74
-unfolding same fields isNumber valueFrom isBits joinedFrom find parse every withMark joined
+unfolding same fields isNumber valueFrom isBits joinedFrom findForm parse every withMark joined
 wide = refl
 
 -- 80 bytes are no more than a line may have, 81 are, whatever they are

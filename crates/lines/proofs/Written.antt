@@ -15,7 +15,7 @@ use Rattle.lines.specs.declared.Change as change
 use Rattle.lines.specs.declared.Command.{Command}
 use Rattle.lines.specs.declared.Command.the-variants.{Change, Check, Broken}
 use Rattle.lines.specs.Text.{comma, nought, same, decimal}
-use Rattle.lines.specs.Grammar.{fields, isNumber, value, isBit, isBits, loadsOf, Form, numbers, bits, table, find, parse, meant, lineOf}
+use Rattle.lines.specs.Grammar.{fields, isNumber, value, isBit, isBits, loadsOf, Form, numbers, bits, table, findForm, parse, meant, lineOf}
 use Rattle.lines.specs.Written.{parted, line, Short, written, bitsIn, writtenCheck}
 use Rattle.lines.proofs.Codes.{same-is, same-refl}
 use Rattle.lines.proofs.Decimal.{decimal-digits, decimal-form, decimal-value}
@@ -140,6 +140,6 @@ bits-form s n h = rw (bits-each s n 1, le-leb 1 (length (bitsIn s 1 n)) (omega (
 
 -- the line of a check is read as that check
 pub check-parses : (s : LoadSet) (n : ℕ) → 0 < n → s ≡ loadsOf (bitsIn s 1 n) → parse (writtenCheck s n) ≡ Check s n
-unfolding parse parted find same every
+unfolding parse parted findForm same every
 check-parses s n h e =
     rw (fields-first (bitsIn s 1 n) (word check refl), fields-last (bits-plain s n 1)) (rw (bits-form s n h, ← e, bits-count s n 1))

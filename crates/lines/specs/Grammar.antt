@@ -92,13 +92,13 @@ abbrev pub asked : Form → List (List ℕ) → Command
 asked (numbers w n c) fs = c (λ k. value (getD fs (k - 1) []))
 asked (bits w c) fs = c (loadsOf (getD fs 0 [])) (length (getD fs 0 []))
 
-unfoldable pub find : List Form → (word : List ℕ) → (fields : List (List ℕ)) → Command
-find [] v fs = Broken
-find (x ∷ xs) v fs = pick (fits x v fs) (asked x fs) (find xs v fs)
+unfoldable pub findForm : List Form → (word : List ℕ) → (fields : List (List ℕ)) → Command
+findForm [] v fs = Broken
+findForm (x ∷ xs) v fs = pick (fits x v fs) (asked x fs) (findForm xs v fs)
 
 abbrev pub command : List (List ℕ) → Command
 command [] = Broken
-command (v ∷ fs) = find table v fs
+command (v ∷ fs) = findForm table v fs
 
 unfoldable pub parse : List ℕ → Command
 parse s = command (fields s)

@@ -17,8 +17,7 @@ use Rattle.calls.specs.Rows.{Row, bytesOf, causesOf}
 use Rattle.calls.specs.Causes.{lowest}
 use Rattle.calls.specs.Effects.{stateBy}
 use Rattle.calls.specs.Printing.{text, workAfter}
-use Rattle.calls.specs.Calls as paper
-use Rattle.calls.specs.Calls.{Call, rowFor, answerBy, handled, calledIf, called}
+use Rattle.calls.specs.Calls.{Call, rowFor, numberFor, answerBy, handled, calledIf, called}
 use Rattle.calls.proofs.State.{places, kept-within, kept-stored}
 use Rattle.calls.proofs.Rows.{Right, line-right}
 use Rattle.calls.proofs.Refusals.{past-one, after-number}
@@ -50,7 +49,7 @@ module _ (p : Planner) (h : Lawful p) (c : Call) where
   handles = ap (λ (x : StoredState). called x c) (kept-stored (held p) h) ∙ called-stored (stateIn p) (kept-within (held p) h) c
 
   -- with this number
-  numbered : (n : ℕ) → paper.numberOf (stateIn p) c ≡ n → called (held p) c ≡ record { state = storedState (stateBy (stateIn p) n r); reply = answerBy c n r }
+  numbered : (n : ℕ) → numberFor (stateIn p) c ≡ n → called (held p) c ≡ record { state = storedState (stateBy (stateIn p) n r); reply = answerBy c n r }
   numbered n e =
       let after = after-number (stateIn p) c ∙ ap (λ (i : ℕ). stateBy (stateIn p) i r) e in
       let answered = answer-at (stateIn p) c n r e refl in

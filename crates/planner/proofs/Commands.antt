@@ -10,7 +10,7 @@ use lib.ListN.{length}
 use Rattle.lists.specs.Tests.{some}
 use Rattle.lists.proofs.Bools.{and-left}
 use Rattle.tables.specs.declared.tables.StoredTables.{StoredTables}
-use Rattle.tables.specs.declared.tables.Changed as operation
+use Rattle.tables.specs.declared.tables.Added as operation
 use Rattle.tables.specs.declared.rule.RuleRange.{RuleRange}
 use Rattle.tables.specs.declared.rule.Sort.{Sort}
 use Rattle.tables.specs.declared.rule.Sort.the-variants as sort
@@ -89,7 +89,7 @@ module _ (p : Planner) (h : Lawful p) {r : Changed} (b : Bool) (cs : List Cause)
   out-of-range e is = is ∙ rw (out b cs e) (ap (settled p no.outOfRange) (is-stored (p .tables) (h .tables)))
 
   -- in range: the number and the tables that the operation gives
-  pub operated : b ≡ true → (d : operation.Changed) → d ≡ record { number = lowest cs; tables = stored (accepted (lowest cs) after (tablesOf (p .tables))) }
+  pub operated : b ≡ true → (d : operation.Added) → d ≡ record { number = lowest cs; tables = stored (accepted (lowest cs) after (tablesOf (p .tables))) }
       → r ≡ settled p (d .number) (d .tables) → r ≡ madeBy (stateIn p) (unless ((no.outOfRange if not b) ∷ cs) after)
   unfolding madeBy
   operated e d given is = is ∙ rw (given, acted-accepted (tablesOf (p .tables)) (lowest ((no.outOfRange if not b) ∷ cs)) (changes (unless ((no.outOfRange if not b) ∷ cs) after)), not-out b cs e)
@@ -138,7 +138,7 @@ module _ (p : Planner) (h : Lawful p) (k : Sort) (r : Transition) {x : NamedRule
   pub rule-refused : not (x .fits) ≡ true → d ≡ settled p no.outOfRange (p .tables) → d ≡ madeBy (stateIn p) (adding (stateIn p .tables) k r)
   rule-refused e = out-of-range p h (ruleIn (rangeFor (stateIn p .tables .book) k) r) _ _ (sym (named-fits _ r is) ∙ not-true _ e)
 
-  pub rule-stored : not (x .fits) ≡ false → (o : operation.Changed) → o ≡ ruleAdded (p .tables) k (x .rule) → d ≡ settled p (o .number) (o .tables)
+  pub rule-stored : not (x .fits) ≡ false → (o : operation.Added) → o ≡ ruleAdded (p .tables) k (x .rule) → d ≡ settled p (o .number) (o .tables)
       → d ≡ madeBy (stateIn p) (adding (stateIn p .tables) k r)
   rule-stored e o given =
       let fits = sym (named-fits _ r is) ∙ not-false _ e in

@@ -14,7 +14,7 @@ use Rattle.tables.specs.declared.rule.Sort.the-variants as sort
 use Rattle.tables.specs.declared.load.Figure.{Figure}
 use Rattle.tables.specs.declared.load.LoadList.{LoadList}
 use Rattle.tables.specs.declared.load.LoadsAppended.{LoadsAppended}
-use Rattle.tables.specs.declared.tables.Changed.{Changed}
+use Rattle.tables.specs.declared.tables.Added.{Added}
 use Rattle.tables.specs.Tables.{Sort, Transition, Load, Book, Tables, noRule, noLoad, rulesFor}
 use Rattle.tables.specs.Limits.{maxRules, Limits}
 use Rattle.tables.specs.Stored.{heldRules, storedRules, storedLoads, placesOf, storedBook, stored}
@@ -83,7 +83,7 @@ figure-stored f n ls k one most few =
 
 -- ---- the tables after a change, or as they were
 both-ways : {A : Type 0} (f : A → Tables) (n : ℕ) (new old : A)
-    → _≡_ {A = Changed} (record { number = n; tables = stored (f (accepted n new old)) }) (record { number = n; tables = stored (accepted n (f new) (f old)) })
+    → _≡_ {A = Added} (record { number = n; tables = stored (f (accepted n new old)) }) (record { number = n; tables = stored (accepted n (f new) (f old)) })
 both-ways f zero new old = refl
 both-ways f (suc n) new old = refl
 

@@ -18,7 +18,7 @@ use Rattle.tables.specs.declared.load.LoadList.{LoadList}
 use Rattle.tables.specs.declared.load.LoadsAppended.{LoadsAppended}
 use Rattle.tables.specs.declared.tables.StoredBook.{StoredBook}
 use Rattle.tables.specs.declared.tables.StoredTables.{StoredTables}
-use Rattle.tables.specs.declared.tables.Changed.{Changed}
+use Rattle.tables.specs.declared.tables.Added.{Added}
 use Rattle.tables.specs.Refusals as no
 use Rattle.tables.specs.Tables.{Sort, Transition, Load, noLoad, emptyBook}
 use Rattle.tables.specs.Limits.{maxRules, sameRule}
@@ -83,11 +83,11 @@ bookBegun s q g = putBook s (storedBook (emptyBook q g))
 unfoldable pub markSet : StoredTables → Sort → (number : ℕ) → StoredTables
 markSet s k q = putBook s (putMarks k (s .book) (marked (heldMarks (s .book) k) q))
 
-unfoldable pub ruleAdded : StoredTables → Sort → Transition → Changed
+unfoldable pub ruleAdded : StoredTables → Sort → Transition → Added
 ruleAdded s k r =
     let a = appended (heldRules (s .book) k) r in record { number = a .number; tables = putBook s (putRules k (s .book) (a .list)) }
 
-unfoldable pub loadAdded : StoredTables → Load → Changed
+unfoldable pub loadAdded : StoredTables → Load → Added
 loadAdded s x = let a = loadAppended (s .loads) x in record { number = a .number; tables = putLoads s (a .list) }
 
 unfoldable pub figureChanged : StoredTables → Figure → (number value : ℕ) → StoredTables

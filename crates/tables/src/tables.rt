@@ -32,7 +32,7 @@ pub struct StoredTables {
 }
 
 // The tables after a change, with 0, or as they were, with the number of the refusal.
-pub struct Changed {
+pub struct Added {
     pub number: u8,
     pub tables: StoredTables,
 }
@@ -158,25 +158,25 @@ impl StoredTables {
     }
 
     // One more load rule, or row rule.
-    pub fn add_rule(self, sort: Sort, t: Transition) -> Changed
+    pub fn add_rule(self, sort: Sort, t: Transition) -> Added
         ensures { λ r. ⌜ r ≡ ruleAdded self sort t ⌝ }
     {
         let book = self.book;
         let rules = book.rules(sort);
         let a = rules.append(t);
         let list = a.list;
-        Changed {
+        Added {
             number: a.number,
             tables: self.with_book(book.with_rules(sort, list)),
         }
     }
 
-    pub fn add_load(self, l: Load) -> Changed
+    pub fn add_load(self, l: Load) -> Added
         ensures { λ r. ⌜ r ≡ loadAdded self l ⌝ }
     {
         let a = self.loads.append(l);
         let list = a.list;
-        Changed {
+        Added {
             number: a.number,
             tables: self.with_loads(list),
         }

@@ -15,7 +15,7 @@ use Rattle.cells.specs.declared.problem.Problem.{Problem}
 use Rattle.cells.specs.declared.problem.Shape.{Shape}
 use Rattle.cells.specs.declared.problem.StoredItem.{StoredItem}
 use Rattle.cells.specs.Problem.{loadsFor, itemsFor, itemOf, shapeOf, RulesIn, Lawful}
-use Rattle.cells.specs.Work.{placeOf, heldBranch, heldRow, cellOf, Ready, Holds}
+use Rattle.cells.specs.Work.{placeOf, heldBranch, heldRow, cellOf, Ready, FilledTo}
 use Rattle.cells.specs.Strip.{Raised, Rises}
 use Rattle.cells.proofs.Tables.{load-stored}
 use Rattle.cells.proofs.Strips.{raised-agree}
@@ -25,7 +25,7 @@ use Rattle.cells.proofs.stretch.raise.Tie as tie
 
 module _ (p : Problem) (ok : Lawful p) (w s t : List ℕ) (x from to : ℕ) (lt : to ≤ shapeOf p .budget + 1) (sh : Shape) (e : sh ≡ shapeOf p) where
   abbrev Cells : ℕ → Type 0
-  Cells k = Holds p w (placeOf (shapeOf p) k x) → Raised s t from to (cellOf p k x)
+  Cells k = FilledTo p w (placeOf (shapeOf p) k x) → Raised s t from to (cellOf p k x)
 
   branch : (k : ℕ) → 0 < k → k ≤ shapeOf p .loads → (i : StoredItem) → itemOf i ≡ itemsFor p k (loadAt (loadsFor p) k) → (child q : ℕ) → x < sh .states
       → q ≡ x + 1 → child ≡ after (loadsFor p) k k
