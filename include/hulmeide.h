@@ -3,7 +3,7 @@
  *
  * Link target/staticlib/libfirmware.a, which `rt staticlib firmware` proves and writes. It is built for x86-64, and needs memcpy and
  * memset, nothing else: no heap, no file, no clock, and no memory of its own between calls. All state is in the planner that the caller
- * keeps, so there may be any number of planners. On the largest cabinet a call on a line used 12,296 bytes of stack at most, and the judge
+ * keeps, so there may be any number of planners. On the largest cabinet a call on a line used 12,344 bytes of stack at most, and the judge
  * 7,792 (docs/PERFORMANCE.md).
  *
  * What the caller owes: every pointer is to memory that is there for the length given, aligned for its type and not null, also where the
