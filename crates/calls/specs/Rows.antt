@@ -118,16 +118,23 @@ abbrev pub setting : Tables → Figure → (number value : ℕ) → Changing
 setting t f k x = unless ((no.outOfRange if not (isLoad t k && figureIn f x)) ∷ []) (setFigure t f k x)
 
 unfoldable pub changing : Tables → Change → Changing
+-- "clear: back to fresh"
 changing t to.Clear = unless [] (on-paper.fresh (t .places))
+-- "book,S,G: new book: no rules, no marks; loads and budget stay"
 changing t (to.Book s g) = unless ((no.outOfRange if not (bookSize s g)) ∷ []) (newBook t s g)
+-- "start,q / end,g: marks a state / a stage; a second time changes nothing"
 changing t (to.Start q) = marking t sort.Load q
 changing t (to.End g) = marking t sort.Row g
+-- "rule,q,m,g / row,g,q,h: adds a load rule / a row rule"
 changing t (to.Rule q m g) = adding t sort.Load (rule q m g)
 changing t (to.Row g q h) = adding t sort.Row (rule g q h)
+-- "load,p,w,v: adds the next load: parent, power, worth"
 changing t (to.Load p w v) =
     unless ((no.outOfRange if not (loadIn (suc (length (t .loads))) (load p w v))) ∷ (no.full if leb (t .places) (length (t .loads))) ∷ []) (addLoad t (load p w v))
+-- "power,k,w / worth,k,v: sets one figure of load k"
 changing t (to.Power k w) = setting t figure.Power k w
 changing t (to.Worth k v) = setting t figure.Worth k v
+-- "budget,b: sets the budget"
 changing t (to.Budget b) = unless ((no.outOfRange if not (budgetIn b)) ∷ []) (setBudget t b)
 
 -- a line that has this number whatever the state
@@ -136,14 +143,17 @@ refuses n = shows freeBytes ((n if true) ∷ []) (alone Accepted)
 
 unfoldable pub row : State → Command → Row
 row s (line.Change c) = changes (changing (s .tables) c)
+-- "plan: shows the plan"
 row s line.Plan =
     let t = s .tables in
     works freeBytes (cellsOf t) ((no.noLoads if eqb (length (t .loads)) 0) ∷ []) ((no.noneFits if noneFits t) ∷ []) (showingPlan t (planEntries t))
+-- "check,bits: one 0 or 1 for each load: is this set allowed?"
 row s (line.Check σ n) =
     let t = s .tables in
     shows freeBytes
     ((no.noLoads if eqb (length (t .loads)) 0) ∷ (no.outOfRange if not (eqb n (length (t .loads)))) ∷ (no.notAllowed if notAllowed t (markIn σ)) ∷ [])
     (showingCheck (checkEntries t (markIn σ)))
+-- "no command of the table, wrong field count or form"
 row s line.Broken = refuses no.broken
 
 -- of a line: "line over 80 bytes" is judged before its form
