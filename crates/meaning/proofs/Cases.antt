@@ -1,15 +1,55 @@
--- The marked cases follow from the definitions: one test, computed over the table. Assumes nothing.
+-- The marked cases follow from the definitions: one test, computed over the table; and each comes, through the claims, to an optimum of
+-- that worth, or to none that fits. Assumes nothing.
+use Prim.Native.Nat.{ℕ}
 use mathlib.Core.Path.{_≡_, refl}
-use mathlib.Core.Bool.{true}
-use Rattle.lists.specs.Tests.{every}
+use mathlib.Core.Bool.{Bool, true, _&&_, not}
+use mathlib.Core.List.{List, [], _∷_}
+use native.Mathlib.Omega.{arith}
+use borrow.Author.Tests.{not-true, eqb-true, eqb-false}
+use lib.Dec.{eqb}
+use Rattle.lists.specs.Tests.{every, everyFrom, distinct, some}
+use Rattle.lists.specs.Places.{limited}
 use Rattle.lists.specs.Argmax.{argmax}
+use Rattle.lists.proofs.Bools.{and-left, and-right}
 use Rattle.marks.specs.Bits.{hasMark}
+use Rattle.tables.specs.Tables.{Tables}
+use Rattle.tables.specs.Limits.{ruleIn, sameRule, sortIn, bookIn, loadIn, loadsIn, limits, Limits}
 use Rattle.meaning.specs.Forest.{row, tree, sum}
+use Rattle.meaning.specs.Sets.{worth, numberOn, Optimum}
 use Rattle.meaning.specs.Cell.{cell, _⊕_}
 use Rattle.meaning.specs.Best.{best, bestTree, bestPlan}
-use Rattle.meaning.specs.Choice.{choose, chooseTree, plan, find, inOrder, planEntries}
-use Rattle.meaning.specs.Cases.{cases, right}
+use Rattle.meaning.specs.Choice.{choose, chooseTree, plan, find, inOrder, planEntries, shownSet}
+use Rattle.meaning.specs.Cases.{Expected, worthOf, noLoadOn, refusal9, Case, cases, tablesFor, meets, right, Comes, AllCome}
+use Rattle.meaning.proofs.Claims.{claims}
 
 pub cases-right : every right cases ≡ true
-unfolding every hasMark argmax row tree sum cell _⊕_ best bestTree bestPlan choose chooseTree plan find inOrder planEntries
+unfolding every everyFrom some limited distinct hasMark argmax ruleIn sameRule sortIn bookIn loadIn loadsIn limits row tree sum cell _⊕_ best bestTree bestPlan choose chooseTree plan find inOrder planEntries
 cases-right = refl
+
+-- tables within the limits that have a plan: the set that it shows is an optimum
+shown-best : (t : Tables) → Limits t → not (eqb (bestPlan t) 0) ≡ true → Optimum t (shownSet (planEntries t))
+shown-best t h e = claims t h .planned (omega (arith, eqb-false (bestPlan t) 0 (not-true (eqb (bestPlan t) 0) e))) .optimum
+
+comes : (t : Tables) → Limits t → (e : Expected) → meets t e ≡ true → Comes t e
+comes t h (worthOf v) m =
+    let σ = shownSet (planEntries t) in
+    let some : Bool = not (eqb (bestPlan t) 0) in
+    (σ, shown-best t h (and-left some (eqb (worth t σ) v) m), eqb-true (worth t σ) v (and-right some (eqb (worth t σ) v) m))
+comes t h noLoadOn m =
+    let σ = shownSet (planEntries t) in
+    let some : Bool = not (eqb (bestPlan t) 0) in
+    let none : Bool = eqb (worth t σ) 0 in
+    let two = and-left (some && none) (eqb (numberOn t σ) 0) m in
+    (σ, shown-best t h (and-left some none two), eqb-true (worth t σ) 0 (and-right some none two), eqb-true (numberOn t σ) 0 (and-right (some && none) (eqb (numberOn t σ) 0) m))
+comes t h refusal9 m = claims t h .refused .0 (eqb-true (bestPlan t) 0 m)
+
+all-come : (xs : List Case) → every right xs ≡ true → AllCome xs
+unfolding every
+all-come [] h = tt
+all-come (x ∷ xs) h =
+    let r = and-left (right x) (every right xs) h in
+    let t = tablesFor x in
+    (comes t (and-left (limits t) (meets t (x .expected)) r) (x .expected) (and-right (limits t) (meets t (x .expected)) r), all-come xs (and-right (right x) (every right xs) h))
+
+pub cases-come : AllCome cases
+cases-come = all-come cases cases-right

@@ -1,4 +1,4 @@
--- The theorems on the definitions of specs/, from the ground up; Claims has the last one.
+-- The theorems on the definitions of specs/, from the ground up; Claims has what the demands rest on.
 pub mod Cell
 pub mod Tree
 pub mod Ordered
@@ -14,5 +14,5 @@ pub mod Agree
 pub mod Rows
 pub mod Bound
 pub mod Cells
-pub mod Cases
 pub mod Claims
+pub mod Cases

@@ -1,12 +1,14 @@
 -- The marked cases of "Edges on this tree" of paper 01, in one table. Assumes nothing.
 use Prim.Native.Nat.{ℕ}
+use mathlib.Core.Path.{_≡_}
 use mathlib.Core.Bool.{Bool, _&&_, not}
 use mathlib.Core.List.{List, [], _∷_}
 use lib.Dec.{eqb}
 use Rattle.tables.specs.declared.rule.Transition.{Transition}
 use Rattle.tables.specs.declared.load.Load.{Load}
 use Rattle.tables.specs.Tables.{Book, Tables}
-use Rattle.meaning.specs.Sets.{worth, numberOn}
+use Rattle.tables.specs.Limits.{maxLoads, limits}
+use Rattle.meaning.specs.Sets.{worth, numberOn, Optimum, NoneFits}
 use Rattle.meaning.specs.Best.{bestPlan}
 use Rattle.meaning.specs.Choice.{planEntries, shownSet}
 
@@ -85,14 +87,24 @@ cases =
     ∷ case bookK 22 (worthOf 90)
     ∷ []
 
-abbrev tablesFor : Case → Tables
-tablesFor x = record { book = x .book; loads = fourLoads; budget = x .budget; places = 64 }
+abbrev pub tablesFor : Case → Tables
+tablesFor x = record { book = x .book; loads = fourLoads; budget = x .budget; places = maxLoads }
 
--- is the plan of the tables as expected?
-abbrev meets : Tables → Expected → Bool
+-- do the tables keep the limits, and is their plan as expected?
+abbrev pub meets : Tables → Expected → Bool
 meets t (worthOf v) = not (eqb (bestPlan t) 0) && eqb (worth t (shownSet (planEntries t))) v
 meets t noLoadOn = not (eqb (bestPlan t) 0) && eqb (worth t (shownSet (planEntries t))) 0 && eqb (numberOn t (shownSet (planEntries t))) 0
 meets t refusal9 = eqb (bestPlan t) 0
 
 abbrev pub right : Case → Bool
-right x = meets (tablesFor x) (x .expected)
+right x = limits (tablesFor x) && meets (tablesFor x) (x .expected)
+
+-- what each case comes to: an allowed set of that worth that fits, and none that fits is worth more; or none fits
+abbrev pub Comes : Tables → Expected → Type 0
+Comes t (worthOf v) = (σ : ℕ → ℕ) × Optimum t σ × (worth t σ ≡ v)
+Comes t noLoadOn = (σ : ℕ → ℕ) × Optimum t σ × (worth t σ ≡ 0) × (numberOn t σ ≡ 0)
+Comes t refusal9 = NoneFits t
+
+abbrev pub AllCome : List Case → Type 0
+AllCome [] = Unit {0}
+AllCome (x ∷ xs) = Comes (tablesFor x) (x .expected) × AllCome xs
