@@ -11,6 +11,7 @@ pub mod Printed
 pub mod Demand1
 pub mod ByCommand
 pub mod Demand2
+pub mod Plans
 pub mod Demand3
 pub mod Full
 pub mod Program

@@ -2,12 +2,11 @@
 -- It stands for "64 loads .. already" of paper 01, over the limit of loads as a parameter. Assumes nothing.
 use Prim.Native.Nat.{ℕ, suc, _+_, _≤_, _<_}
 use mathlib.Core.Path.{_≡_}
-use mathlib.Core.Bool.{true, false}
+use mathlib.Core.Bool.{true}
 use mathlib.Core.List.{List, [], _∷_, map}
 use lib.ListN.{length, getD}
 use Rattle.lines.specs.declared.Command.the-variants as line
 use Rattle.lines.specs.declared.Change.the-variants as to
-use Rattle.lines.specs.Length.{tooLong}
 use Rattle.lines.specs.Grammar.{parse}
 use Rattle.lines.specs.Answers.{freeBytes}
 use Rattle.tables.specs.Refusals as no
@@ -22,7 +21,6 @@ pub record LoadCall (number : ℕ) (c : Call) : Type 0 where
   pub power : ℕ
   pub worth : ℕ
   pub line : parse (c .line) ≡ line.Change (to.Load parent power worth)
-  pub short : tooLong (c .line) ≡ false
   pub free : c .place + freeBytes ≤ length (c .output)
   pub fits : loadIn number (load parent power worth) ≡ true
 

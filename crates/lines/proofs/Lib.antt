@@ -8,6 +8,7 @@ pub mod Bits
 pub mod Codes
 pub mod Rows
 pub mod Commands
+pub mod Sizes
 pub mod Decimal
 pub mod Answers
 pub mod Wrote

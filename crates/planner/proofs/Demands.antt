@@ -8,11 +8,12 @@ use Rattle.tables.specs.Limits.{maxLoads}
 use Rattle.calls.specs.State.{Sized}
 use Rattle.calls.specs.Calls.{Call, Reply, Done, called}
 use Rattle.calls.specs.Demand1.{Demand1}
-use Rattle.calls.specs.Demand2.{CheckCall, CheckRight}
+use Rattle.calls.specs.Demand2.{CheckCall, CheckRight, PlanCall, PlanRight}
 use Rattle.calls.specs.Demand3.{Exchange, History, Demand3}
 use Rattle.calls.proofs.State.{kept-within}
 use Rattle.calls.proofs.Demand1 as paper1
 use Rattle.calls.proofs.Demand2.{check-right}
+use Rattle.calls.proofs.Plans.{plan-right}
 use Rattle.calls.proofs.Demand3 as paper3
 use Rattle.planner.specs.declared.Planner.{Planner}
 use Rattle.planner.specs.Planner.{held, stateIn, fresh, Lawful}
@@ -27,7 +28,12 @@ pub demand2 : (p : Planner) → Lawful p → (c : Call) (σ : LoadSet) → Check
     → (d : Done) → d ≡ called (held p) c → CheckRight (stateIn p .tables) c σ (d .reply)
 demand2 p h c σ k d is =
     subst (λ (x : Reply). CheckRight (stateIn p .tables) c σ x) (sym (ap (λ (d : Done). d .reply) (is ∙ handles p h c)))
-    (check-right (stateIn p) c σ k (kept-within (held p) h))
+    (check-right (stateIn p) (kept-within (held p) h) c σ k)
+
+-- and a plan shows the lowest run of a best set of all that fit, with that set's own figures, or says 9 where none fits
+pub demand2-plan : (p : Planner) → Lawful p → (c : Call) → PlanCall (stateIn p .tables) c → (d : Done) → d ≡ called (held p) c → PlanRight (stateIn p .tables) c (d .reply)
+demand2-plan p h c k d is =
+    subst (PlanRight (stateIn p .tables) c) (sym (ap (λ (d : Done). d .reply) (is ∙ handles p h c))) (plan-right (stateIn p) c k (kept-within (held p) h))
 
 -- demand 3: after every list of calls from a fresh planner it holds exactly the state that the accepted lines built, and every plan is the
 -- paper's for it: the lowest run of a best set
