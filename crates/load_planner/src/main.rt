@@ -1,4 +1,5 @@
 // The line program: reads lines from standard input, and prints each answer as soon as its line is complete.
+use libc::EINTR;
 use libc::STDIN_FILENO;
 use libc::STDOUT_FILENO;
 use lines::splitting::MOST_KEPT;
@@ -10,6 +11,8 @@ ghost use Prim.Native.Nat.{_≤_};
 ghost use mathlib.Core.Path.{_≡_};
 ghost use mathlib.Core.Bool.{true, false};
 ghost use lib.ListN.{length, take};
+ghost use Rattle.io.specs.Counts.{clamped};
+ghost use lib.IntN.{pos};
 ghost use Rattle.calls.specs.Program.{doneOn, answered, afterChunk, atEnd};
 ghost use Rattle.planner.specs.Calls.{doneOf};
 ghost use Rattle.load_planner.specs.Session.{leftOf, carriedOf, Within, Stepped};
@@ -26,11 +29,31 @@ struct Session {
     open: bool,
 }
 
-// Prints the first bytes of the output.
+// Did a call that failed do so only because a signal came before it moved a byte? It is to be asked just after that call.
+fn interrupted() -> bool {
+    os::errno() == EINTR
+}
+
+// Prints the first bytes of the output. A write that was interrupted is tried again; another that takes nothing or fails ends it.
 fn show(out: &[u8], count: usize) -> bool
     requires { ⌜ count ≤ length (now out) ⌝ }
 {
-    io::write_all(STDOUT_FILENO, &out[..count])
+    let mut at: usize = 0;
+    let mut tries = u64::MAX;
+    while at < count {
+        if tries == 0 {
+            return false;
+        }
+        tries -= 1;
+        let part = &out[at..count];
+        let got = libc::write(STDOUT_FILENO, part);
+        let taken = io::count(got, part);
+        if taken == 0 && !(got < 0 && interrupted()) {
+            return false;
+        }
+        at += taken;
+    }
+    true
 }
 
 // The call on the line whose bytes are held.
@@ -56,7 +79,7 @@ fn answer(
     let planner = called.planner;
     let open = show(&*out, called.count);
     if !open {
-        os::fail(b"standard output");
+        os::fail(b"load_planner: standard output");
     }
     Session {
         planner,
@@ -113,6 +136,37 @@ fn finish(
     session
 }
 
+// What a read led to, by what it answered: below 0 it failed, or was interrupted and is tried again; at 0 the input has ended; else so many
+// bytes of the chunk are new.
+fn take_read(
+    s: Session,
+    got: isize,
+    chunk: &[u8],
+    line: &mut [u8; MOST_KEPT],
+    out: &mut [u8; LENT_BYTES],
+    work: &mut [u32; LENT_CELLS],
+) -> Session
+    requires { ⌜ Within (s .held) (now line) ⌝ }
+    ensures chunk { λ r. ⌜ (r .open ≡ true → carriedOf r (now (line .exit)) (now (out .exit)) (now (work .exit)) ≡ afterChunk (carriedOf s (now (line .entry)) (now (out .entry)) (now (work .entry))) (take (clamped got (length (now (chunk .entry)))) (now (chunk .entry)))) ⌝ }
+    ensures end { λ r. ⌜ (got ≡ pos 0 → leftOf (r .planner) (now (out .exit)) (now (work .exit)) ≡ atEnd (carriedOf s (now (line .entry)) (now (out .entry)) (now (work .entry)))) ⌝ }
+    ensures held { λ r. ⌜ Within (r .held) (now (line .exit)) ⌝ }
+{
+    let mut session = s;
+    if got < 0 {
+        if interrupted() {
+            return session;
+        }
+        os::fail(b"load_planner: standard input");
+        session.open = false;
+        return session;
+    }
+    if got == 0 {
+        return finish(session, &*line, &mut *out, &mut *work);
+    }
+    let n = io::count(got, chunk);
+    take_chunk(session, &chunk[..n], line, out, work)
+}
+
 // One read and its answers.
 fn step(
     s: Session,
@@ -125,18 +179,8 @@ fn step(
     ensures chunk { λ r. ⌜ (r .open ≡ true → Stepped (carriedOf s (now (line .entry)) (now (out .entry)) (now (work .entry))) (carriedOf r (now (line .exit)) (now (out .exit)) (now (work .exit))) (now (chunk .exit))) ⌝ }
     ensures held { λ r. ⌜ Within (r .held) (now (line .exit)) ⌝ }
 {
-    let mut session = s;
     let got = libc::read(STDIN_FILENO, &mut *chunk);
-    if got < 0 {
-        os::fail(b"standard input");
-        session.open = false;
-        return session;
-    }
-    if got == 0 {
-        return finish(session, &*line, &mut *out, &mut *work);
-    }
-    let n = io::count(got, &*chunk);
-    take_chunk(session, &chunk[..n], line, out, work)
+    take_read(s, got, &*chunk, line, out, work)
 }
 
 fn main() {
