@@ -2,12 +2,13 @@
 -- It stands for "The judge takes three numbers for each load (state, load rule, row rule) in load order and says yes or no. A number that
 -- names nothing in the book makes it no." of paper 01, and for its causes 1, 4 and 5. Assumes nothing.
 use Prim.Native.Nat.{ℕ, zero, suc, _+_, _*_}
-use mathlib.Core.Bool.{Bool, not}
+use mathlib.Core.Bool.{Bool, true, false, not}
 use mathlib.Core.List.{List}
 use lib.Dec.{eqb}
 use lib.ListN.{length, getD}
 use Rattle.lists.specs.Tests.{pick}
 use Rattle.tables.specs.declared.tables.StoredTables.{StoredTables}
+use Rattle.tables.specs.Refusals as no
 use Rattle.tables.specs.Tables.{Tables}
 use Rattle.tables.specs.Stored.{tablesOf, keepsLimits}
 use Rattle.meaning.specs.Forest.{planned, tree}
@@ -25,14 +26,22 @@ proposed ns (suc j) = record { state = getD ns (3 * j) 0; loadRule = getD ns (3 
 abbrev pub isRun : Tables → List ℕ → Bool
 isRun t ns = judgeTree (t .book) (proposed ns) (tree planned (t .loads))
 
--- paper 01's number of each answer, 0 for yes and no: 1 "a planner handed in that breaks a limit", 4 "judge with no loads", 5 "judge given
--- not three numbers for each load"
+-- what the judge says: the number of its refusal, 0 where it judges, and then yes or no
+pub record Said : Type 0 where
+  pub number : ℕ
+  pub yes : Bool
+
+-- for each answer paper 01's number and value: "a planner handed in that breaks a limit (judge: only this)", "judge with no loads", "judge
+-- given not three numbers for each load"; else it "says yes or no"
+abbrev pub saidBy : Verdict → Said
+saidBy LimitBroken = record { number = no.unusable; yes = false }
+saidBy NoLoads = record { number = no.noLoads; yes = false }
+saidBy NotThree = record { number = no.outOfRange; yes = false }
+saidBy Yes = record { number = 0; yes = true }
+saidBy No = record { number = 0; yes = false }
+
 abbrev pub numberOf : Verdict → ℕ
-numberOf LimitBroken = 1
-numberOf NoLoads = 4
-numberOf NotThree = 5
-numberOf Yes = 0
-numberOf No = 0
+numberOf v = saidBy v .number
 
 -- "The lowest number that applies is given."
 unfoldable pub judged : StoredTables → List ℕ → Verdict

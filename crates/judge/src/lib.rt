@@ -5,7 +5,10 @@ ghost use mathlib.Core.Bool.{true};
 ghost use lib.ListN.{length};
 ghost use Rattle.tables.specs.Stored.{bookOf, tablesOf, keepsLimits};
 ghost use Rattle.meaning.specs.Judge.{starts};
-ghost use Rattle.judge.specs.Verdict.{isRun, numberOf, judged};
+ghost use Rattle.judge.specs.Verdict.{isRun, numberOf, saidBy, judged};
+use tables::refusal::NO_LOADS;
+use tables::refusal::OUT_OF_RANGE;
+use tables::refusal::UNUSABLE;
 use tables::tables::StoredBook;
 use tables::tables::StoredTables;
 
@@ -27,11 +30,24 @@ impl Verdict {
         ensures { λ r. ⌜ r ≡ numberOf self ⌝ }
     {
         match self {
-            Verdict::LimitBroken => 1,
-            Verdict::NoLoads => 4,
-            Verdict::NotThree => 5,
+            Verdict::LimitBroken => UNUSABLE,
+            Verdict::NoLoads => NO_LOADS,
+            Verdict::NotThree => OUT_OF_RANGE,
             Verdict::Yes => 0,
             Verdict::No => 0,
+        }
+    }
+
+    // Is it yes?
+    pub fn yes(self) -> bool
+        ensures { λ r. ⌜ r ≡ saidBy self .yes ⌝ }
+    {
+        match self {
+            Verdict::LimitBroken => false,
+            Verdict::NoLoads => false,
+            Verdict::NotThree => false,
+            Verdict::Yes => true,
+            Verdict::No => false,
         }
     }
 }
