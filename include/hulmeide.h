@@ -1,7 +1,7 @@
 /*
  * The cabinet load planner for the switch's firmware.
  *
- * Link target/staticlib/libfirmware.a, which `rt staticlib firmware` proves and writes. It is built for x86-64, and needs memcpy and
+ * Link target/staticlib/libhulmeide.a, which `rt staticlib hulmeide` proves and writes. It is built for x86-64, and needs memcpy and
  * memset, nothing else: no heap, no file, no clock, and no memory of its own between calls. All state is in the planner that the caller
  * keeps, so there may be any number of planners. On the largest cabinet a call on a line used 12,344 bytes of stack at most, and the judge
  * 7,792 (docs/PERFORMANCE.md).
@@ -11,7 +11,7 @@
  * during a call.
  * What the bytes are does not matter. A planner, an output and a work may hold anything.
  *
- * What is proved is in crates/firmware/src/lib.rt: each function has its promise there, for every planner and all buffers. The lines and
+ * What is proved is in crates/hulmeide/src/lib.rt: each function has its promise there, for every planner and all buffers. The lines and
  * the answers are explained in docs/PROTOCOL.md.
  */
 #ifndef HULMEIDE_H

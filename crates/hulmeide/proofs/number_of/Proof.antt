@@ -1,4 +1,4 @@
--- `firmware::number_of` meets its contract: every verdict but no has its own number. Assumes nothing.
+-- `hulmeide::number_of` meets its contract: every verdict but no has its own number. Assumes nothing.
 use mathlib.Core.Path.{_≡_, refl, _∙_}
 use mathlib.Core.List.{[], _∷_}
 use mathlib.Core.Logic.{inl, inr}
@@ -10,9 +10,9 @@ use Rattle.judge.specs.declared.Verdict.{Verdict}
 use Rattle.judge.specs.declared.Verdict.the-variants.{LimitBroken, NoLoads, NotThree, Yes, No}
 use Rattle.judge.specs.Verdict.{numberOf}
 use Rattle.judge.proofs.Verdict as T
-use Rattle.firmware.specs.Verdict.{verdictNumber}
-use Rattle.firmware.proofs.number_of.Statement.{statement}
-use Rattle.firmware.proofs.number_of.Tie as tie
+use Rattle.hulmeide.specs.Verdict.{verdictNumber}
+use Rattle.hulmeide.proofs.number_of.Statement.{statement}
+use Rattle.hulmeide.proofs.number_of.Tie as tie
 
 -- no has the tag 4
 own : (v : Verdict) → OneOf (0 ∷ 1 ∷ 2 ∷ 3 ∷ []) (tagOf T.the-type v) → numberOf v ≡ verdictNumber v

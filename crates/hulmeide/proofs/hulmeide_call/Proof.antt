@@ -1,4 +1,4 @@
--- `firmware::hulmeide_call` meets its contract: a walk of its MIR, by hand. The borrow of the planner is opened and the planner is copied
+-- `hulmeide::hulmeide_call` meets its contract: a walk of its MIR, by hand. The borrow of the planner is opened and the planner is copied
 -- out of it; `handle` is called on the copy and on what was lent; the planner that it returned is stored, the borrow is closed at it, and
 -- the reply is returned. All that the proof knows of `handle` is that it meets its contract.
 -- The line, the output and the work go to the callee at their own lifetimes and names: they are given up for good, and what the callee says
@@ -47,22 +47,22 @@ use Rattle.planner.specs.Planner.{held}
 use Rattle.planner.specs.Calls.{callOf}
 use Rattle.planner.specs.declared.Planner.{Planner}
 use Rattle.planner.proofs.Planner as T
-use Rattle.firmware.specs.Calls.{doneOf}
-use Rattle.firmware.specs.declared.Handled.{Handled}
-use Rattle.firmware.specs.declared.Reply.{Reply}
-use Rattle.firmware.proofs.Reply as R
-use Rattle.firmware.proofs.Reply.Laws as R′
-use Rattle.firmware.proofs.Handled as B
-use Rattle.firmware.proofs.Handled.Laws as B′
-use Rattle.firmware.proofs.Steps.{mach, has, typed, slice, sized, at-place, seen, borrow, taken, kept, opened, returned, freed, by-walk}
-use Rattle.firmware.proofs.handle as callee
-use Rattle.firmware.proofs.handle.Symbol as callee-def
-use Rattle.firmware.proofs.handle.Symbol.{name as #callee}
-use Rattle.firmware.proofs.handle.Met as callee-thm
-use Rattle.firmware.proofs.hulmeide_call.Key.{name as #f}
-use Rattle.firmware.proofs.hulmeide_call as f
-use Rattle.firmware.proofs.hulmeide_call.Statement as stated
-use Rattle.firmware.proofs.hulmeide_call.Code as code
+use Rattle.hulmeide.specs.Calls.{doneOf}
+use Rattle.hulmeide.specs.declared.Handled.{Handled}
+use Rattle.hulmeide.specs.declared.Reply.{Reply}
+use Rattle.hulmeide.proofs.Reply as R
+use Rattle.hulmeide.proofs.Reply.Laws as R′
+use Rattle.hulmeide.proofs.Handled as B
+use Rattle.hulmeide.proofs.Handled.Laws as B′
+use Rattle.hulmeide.proofs.Steps.{mach, has, typed, slice, sized, at-place, seen, borrow, taken, kept, opened, returned, freed, by-walk}
+use Rattle.hulmeide.proofs.handle as callee
+use Rattle.hulmeide.proofs.handle.Symbol as callee-def
+use Rattle.hulmeide.proofs.handle.Symbol.{name as #callee}
+use Rattle.hulmeide.proofs.handle.Met as callee-thm
+use Rattle.hulmeide.proofs.hulmeide_call.Key.{name as #f}
+use Rattle.hulmeide.proofs.hulmeide_call as f
+use Rattle.hulmeide.proofs.hulmeide_call.Statement as stated
+use Rattle.hulmeide.proofs.hulmeide_call.Code as code
 
 abbrev stayed : Stays (f.ended .signature .params) (f.ended .kept)
 stayed = (stay-ref (0 ∷ []) tt (plain (λ _. T.the-row)), (stay-dropped _ yes, (gave-slice (2 ∷ []) tt (plain (λ _. u8)), (stay-dropped _ yes, (gave-slice (3 ∷ []) tt (plain (λ _. u32)), tt)))))
@@ -210,5 +210,5 @@ hulmeide-call-spec 𝓤 H 𝓜 𝓖 𝓡 =
     (λ fm. walked 𝓤 H (𝓖 .A) f.ended stayed (f.clauses 𝓤 H (𝓖 .A) (𝓜 .mem) (𝓡 .run)) (WpFn 𝓤 H C Λ code.function) (λ κs. (ptr-vals, (slice-vals, (slice-vals, (uint-vals w64, (slice-vals, tt))))))
     (λ κs. (mut-tells (named 0) (κs .0) T.the-row, (shr-slice-tells (named 1) (κs .1 .0) u8, (mut-slice-tells (named 2) (κs .1 .1 .0) u8, (uint-tells w64, (mut-slice-tells (named 3) (κs .1 .1 .1 .0) u32, tt))))))
     (λ κs qs bounds a _ are. via 𝓤 _ (fst∗ 𝓤 _ (emp 𝓤)) (walk 𝓤 H (𝓖 .A) W (𝓜 .mem) (𝓡 .run) (κs .0) (κs .1 .0) (κs .1 .1 .0) (κs .1 .1 .1 .0) (qs .0) (qs .1 .0) (qs .1 .1 .0) (qs .1 .1 .1 .0) (a .0 .ptr .0) (a .0 .ptr .1) (a .0 .name) (a .0 .now)
-    (a .1 .0) (a .1 .1 .0) (a .1 .1 .1 .0) (a .1 .1 .1 .1 .0) C Λ fm (cited 𝓤 H (Callee 𝓤 H (𝓖 .A) (𝓜 .mem) (𝓡 .run)) 𝓜 𝓡 code.env #callee callee-def.routine code.calls-firmware·handle (callee-thm.met 𝓤 H 𝓜 𝓖 𝓡))
+    (a .1 .0) (a .1 .1 .0) (a .1 .1 .1 .0) (a .1 .1 .1 .1 .0) C Λ fm (cited 𝓤 H (Callee 𝓤 H (𝓖 .A) (𝓜 .mem) (𝓡 .run)) 𝓜 𝓡 code.env #callee callee-def.routine code.calls-hulmeide·handle (callee-thm.met 𝓤 H 𝓜 𝓖 𝓡))
     (are .1 .0 .0 .1 .0) (are .1 .1 .0 .0 .1 .0) (are .1 .1 .1 .0 .1) (are .1 .1 .1 .1 .0 .0 .1 .0))))

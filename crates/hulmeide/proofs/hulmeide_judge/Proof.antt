@@ -1,4 +1,4 @@
--- `firmware::hulmeide_judge` meets its contract: a walk of its MIR, by hand. The borrow is looked into, the planner is copied out of it,
+-- `hulmeide::hulmeide_judge` meets its contract: a walk of its MIR, by hand. The borrow is looked into, the planner is copied out of it,
 -- and the borrow is shut again; `judge_run` is called on the copy and the numbers. All that the proof knows of `judge_run` is that it meets
 -- its contract. Assumes nothing.
 use mathlib.Core.Path.{_≡_, refl}
@@ -40,16 +40,16 @@ use Rattle.judge.specs.Verdict.{judged}
 use Rattle.planner.specs.declared.Planner.{Planner}
 use Rattle.planner.proofs.Planner as T
 use Rattle.planner.proofs.Planner.Laws as T′
-use Rattle.firmware.specs.Verdict.{verdictNumber}
-use Rattle.firmware.proofs.Steps.{mach, has, slice, sized, at-place, spelled, returned, freed, by-walk}
-use Rattle.firmware.proofs.judge_run as callee
-use Rattle.firmware.proofs.judge_run.Symbol as callee-def
-use Rattle.firmware.proofs.judge_run.Symbol.{name as #callee}
-use Rattle.firmware.proofs.judge_run.Met as callee-thm
-use Rattle.firmware.proofs.hulmeide_judge.Key.{name as #f}
-use Rattle.firmware.proofs.hulmeide_judge as f
-use Rattle.firmware.proofs.hulmeide_judge.Statement as stated
-use Rattle.firmware.proofs.hulmeide_judge.Code as code
+use Rattle.hulmeide.specs.Verdict.{verdictNumber}
+use Rattle.hulmeide.proofs.Steps.{mach, has, slice, sized, at-place, spelled, returned, freed, by-walk}
+use Rattle.hulmeide.proofs.judge_run as callee
+use Rattle.hulmeide.proofs.judge_run.Symbol as callee-def
+use Rattle.hulmeide.proofs.judge_run.Symbol.{name as #callee}
+use Rattle.hulmeide.proofs.judge_run.Met as callee-thm
+use Rattle.hulmeide.proofs.hulmeide_judge.Key.{name as #f}
+use Rattle.hulmeide.proofs.hulmeide_judge as f
+use Rattle.hulmeide.proofs.hulmeide_judge.Statement as stated
+use Rattle.hulmeide.proofs.hulmeide_judge.Code as code
 
 -- nothing is asked of a `&` at exit
 abbrev stayed : Stays (f.ended .signature .params) (f.ended .kept)
@@ -132,4 +132,4 @@ hulmeide-judge-spec 𝓤 H 𝓜 𝓖 𝓡 =
     (goes-dropped 𝓤 H (𝓖 .A) W 2 (shrRefTo (0 ∷ []) tt (plain (λ _. T.the-row))) yes (λ κs x f. refl), (goes-dropped 𝓤 H (𝓖 .A) W 2 (shrSliceOf (1 ∷ []) tt (plain (λ _. u32))) yes (λ κs x f. refl), tt))
     (λ fm. walked 𝓤 H (𝓖 .A) f.ended stayed (f.clauses 𝓤 H (𝓖 .A) (𝓜 .mem) (𝓡 .run)) (WpFn 𝓤 H C Λ code.function) (λ κs. (ptr-vals, (slice-vals, tt))) (λ κs. (shr-tells (named 0) (κs .0) T.the-row, (shr-slice-tells (named 1) (κs .1 .0) u32, tt)))
     (λ κs qs bounds a _ are. via 𝓤 _ (fst∗ 𝓤 _ (emp 𝓤)) (walk 𝓤 H (𝓖 .A) W (𝓜 .mem) (𝓡 .run) (κs .0) (κs .1 .0) (qs .0) (qs .1 .0) (a .0 .ptr .0) (a .0 .ptr .1) (a .0 .name) (a .0 .now) (a .1 .0) C Λ fm
-    (cited 𝓤 H (Callee 𝓤 H (𝓖 .A) (𝓜 .mem) (𝓡 .run)) 𝓜 𝓡 code.env #callee callee-def.routine code.calls-firmware·judge-run (callee-thm.met 𝓤 H 𝓜 𝓖 𝓡)) (are .1 .0 .0 .1 .0))))
+    (cited 𝓤 H (Callee 𝓤 H (𝓖 .A) (𝓜 .mem) (𝓡 .run)) 𝓜 𝓡 code.env #callee callee-def.routine code.calls-hulmeide·judge-run (callee-thm.met 𝓤 H 𝓜 𝓖 𝓡)) (are .1 .0 .0 .1 .0))))

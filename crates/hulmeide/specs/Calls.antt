@@ -1,11 +1,11 @@
--- A call through the firmware's interface, as the definition of crate `calls` has it: the planner that C then has, and what it is told.
+-- A call through the C library, as the definition of crate `calls` has it: the planner that C then has, and what it is told.
 -- Assumes nothing.
 use Prim.Native.Nat.{ℕ}
 use mathlib.Core.List.{List}
 use Rattle.calls.specs.Calls.{Done}
 use Rattle.planner.specs.declared.Planner.{Planner}
 use Rattle.planner.specs.Planner.{held}
-use Rattle.firmware.specs.declared.Reply.{Reply}
+use Rattle.hulmeide.specs.declared.Reply.{Reply}
 
 abbrev pub doneOf : Planner → Reply → (output work : List ℕ) → Done
 doneOf p r o w = record { state = held p; reply = record { number = r .number; count = r .count; output = o; work = w } }

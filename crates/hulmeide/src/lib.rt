@@ -9,8 +9,8 @@ ghost use Rattle.judge.specs.Verdict.{judged};
 ghost use Rattle.calls.specs.Calls.{called};
 ghost use Rattle.planner.specs.Planner.{held, fresh};
 ghost use Rattle.planner.specs.Calls.{callOf};
-ghost use Rattle.firmware.specs.Calls.{doneOf};
-ghost use Rattle.firmware.specs.Verdict.{verdictNumber};
+ghost use Rattle.hulmeide.specs.Calls.{doneOf};
+ghost use Rattle.hulmeide.specs.Verdict.{verdictNumber};
 
 // The judge's "no". It lies above every number of a refusal.
 const NOT_A_RUN: u32 = 255;

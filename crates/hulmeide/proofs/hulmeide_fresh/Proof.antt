@@ -1,4 +1,4 @@
--- `firmware::hulmeide_fresh` meets its contract: a walk of its MIR, by hand. The borrow is opened, `Planner::fresh` is called, what it
+-- `hulmeide::hulmeide_fresh` meets its contract: a walk of its MIR, by hand. The borrow is opened, `Planner::fresh` is called, what it
 -- returned is stored over whatever planner stands there, and the borrow is closed at it. All that the proof knows of `Planner::fresh` is
 -- that it meets its contract. Assumes nothing.
 use mathlib.Core.Path.{_≡_, refl}
@@ -37,11 +37,11 @@ use Rattle.planner.proofs.Planner.fresh as callee
 use Rattle.planner.proofs.Planner.fresh.Symbol as callee-def
 use Rattle.planner.proofs.Planner.fresh.Symbol.{name as #callee}
 use Rattle.planner.proofs.Planner.fresh.Met as callee-thm
-use Rattle.firmware.proofs.Steps.{typed, at-place, seen, borrow, taken, kept, opened, returned, freed, by-walk}
-use Rattle.firmware.proofs.hulmeide_fresh.Key.{name as #f}
-use Rattle.firmware.proofs.hulmeide_fresh as f
-use Rattle.firmware.proofs.hulmeide_fresh.Statement as stated
-use Rattle.firmware.proofs.hulmeide_fresh.Code as code
+use Rattle.hulmeide.proofs.Steps.{typed, at-place, seen, borrow, taken, kept, opened, returned, freed, by-walk}
+use Rattle.hulmeide.proofs.hulmeide_fresh.Key.{name as #f}
+use Rattle.hulmeide.proofs.hulmeide_fresh as f
+use Rattle.hulmeide.proofs.hulmeide_fresh.Statement as stated
+use Rattle.hulmeide.proofs.hulmeide_fresh.Code as code
 
 abbrev stayed : Stays (f.ended .signature .params) (f.ended .kept)
 stayed = (stay-ref (0 ∷ []) tt (plain (λ _. T.the-row)), tt)

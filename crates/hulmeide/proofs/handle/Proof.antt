@@ -1,7 +1,7 @@
--- `firmware::handle` meets its contract: what it returns is what `Planner::call` returned, in other records. Assumes nothing.
+-- `hulmeide::handle` meets its contract: what it returns is what `Planner::call` returned, in other records. Assumes nothing.
 use borrow.Author.Needs.{needs}
-use Rattle.firmware.proofs.handle.Statement.{statement}
-use Rattle.firmware.proofs.handle.Tie as tie
+use Rattle.hulmeide.proofs.handle.Statement.{statement}
+use Rattle.hulmeide.proofs.handle.Tie as tie
 
 returns : tie.Need-returns
 returns c = c .before .before .before .before .before .before .call .ensures
