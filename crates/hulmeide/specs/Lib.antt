@@ -1,3 +1,4 @@
--- What C is told: of a call on a line, and of a run that it had judged.
+-- What C is told: of a call on a line, of a run that it had judged, and of the archive's version.
 pub mod Calls
 pub mod Verdict
+pub mod Version

@@ -1,6 +1,6 @@
 // The planner for the switch's firmware: the functions that C calls. The planner stands behind a reference, where the caller keeps it.
 // C may hand in any bytes as a planner: a planner that breaks a limit is refusal 1.
-// Each function copies the planner, leaves the work to a function on values, and stores what comes back: the proofs of these three go
+// Each function with a planner copies it, leaves the work to a function on values, and stores what comes back: the proofs of these three go
 // through their code by hand, so there is as little code in them as can be.
 use judge::Verdict;
 use planner::Planner;
@@ -11,6 +11,10 @@ ghost use Rattle.planner.specs.Planner.{held, fresh};
 ghost use Rattle.planner.specs.Calls.{callOf};
 ghost use Rattle.hulmeide.specs.Calls.{doneOf};
 ghost use Rattle.hulmeide.specs.Verdict.{verdictNumber};
+ghost use Rattle.hulmeide.specs.Version.{version};
+
+// The version, as HULMEIDE_VERSION of the header has it: major * 10000 + minor * 100 + patch.
+const VERSION: u32 = 10000;
 
 // The judge's "no". It lies above every number of a refusal.
 const NOT_A_RUN: u32 = 255;
@@ -59,12 +63,26 @@ fn judge_run(planner: Planner, run: &[u32]) -> u32
     number_of(planner.judge(run))
 }
 
+fn made_fresh() -> Planner
+    ensures { λ r. ⌜ r ≡ fresh ⌝ }
+{
+    Planner::fresh()
+}
+
+// The version of the archive: C compares it with that of its header.
+#[no_mangle]
+pub extern "C" fn hulmeide_version() -> u32
+    ensures { λ r. ⌜ r ≡ version ⌝ }
+{
+    VERSION
+}
+
 // Makes the planner fresh, whatever it was.
 #[no_mangle]
 pub extern "C" fn hulmeide_fresh(planner: &mut Planner)
     ensures { λ _. ⌜ now (planner .exit) ≡ fresh ⌝ }
 {
-    *planner = Planner::fresh();
+    *planner = made_fresh();
 }
 
 // Are these numbers, three for each load, a run? 0 for yes, 255 for no, or the number of the refusal.

@@ -1,6 +1,6 @@
--- `hulmeide::hulmeide_fresh` meets its contract: a walk of its MIR, by hand. The borrow is opened, `Planner::fresh` is called, what it
--- returned is stored over whatever planner stands there, and the borrow is closed at it. All that the proof knows of `Planner::fresh` is
--- that it meets its contract. Assumes nothing.
+-- `hulmeide::hulmeide_fresh` meets its contract: a walk of its MIR, by hand. The borrow is opened, `made_fresh` is called, what it
+-- returned is stored over whatever planner stands there, and the borrow is closed at it. All that the proof knows of `made_fresh` is that
+-- it meets its contract. Assumes nothing.
 use mathlib.Core.Path.{_≡_, refl}
 use Prim.Native.Nat.{ℕ}
 use mathlib.Core.List.{[], _∷_, List}
@@ -33,11 +33,11 @@ use denote.Triple.Walked.{says, Stays, stay-ref, walkOf, goes-ref, ends-at, walk
 use Rattle.planner.specs.declared.Planner.{Planner}
 use Rattle.planner.specs.Planner.{fresh}
 use Rattle.planner.proofs.Planner as T
-use Rattle.planner.proofs.Planner.fresh as callee
-use Rattle.planner.proofs.Planner.fresh.Symbol as callee-def
-use Rattle.planner.proofs.Planner.fresh.Symbol.{name as #callee}
-use Rattle.planner.proofs.Planner.fresh.Met as callee-thm
 use Rattle.hulmeide.proofs.Steps.{typed, at-place, seen, borrow, taken, kept, opened, returned, freed, by-walk}
+use Rattle.hulmeide.proofs.made_fresh as callee
+use Rattle.hulmeide.proofs.made_fresh.Symbol as callee-def
+use Rattle.hulmeide.proofs.made_fresh.Symbol.{name as #callee}
+use Rattle.hulmeide.proofs.made_fresh.Met as callee-thm
 use Rattle.hulmeide.proofs.hulmeide_fresh.Key.{name as #f}
 use Rattle.hulmeide.proofs.hulmeide_fresh as f
 use Rattle.hulmeide.proofs.hulmeide_fresh.Statement as stated
@@ -110,4 +110,4 @@ hulmeide-fresh-spec 𝓤 H 𝓜 𝓖 𝓡 =
     (goes-ref 𝓤 H (𝓖 .A) W 1 0 tt (plain (λ _. T.the-row)), tt)
     (λ fm. walked 𝓤 H (𝓖 .A) f.ended stayed (f.clauses 𝓤 H (𝓖 .A) (𝓜 .mem) (𝓡 .run)) (WpFn 𝓤 H C Λ code.function) (λ κs. (ptr-vals, tt)) (λ κs. (mut-tells (named 0) (κs .0) T.the-row, tt))
     (λ κs qs bounds a _ _. via 𝓤 _ (fst∗ 𝓤 _ (emp 𝓤)) (walk 𝓤 H (𝓖 .A) W (𝓜 .mem) (𝓡 .run) (κs .0) (qs .0) (a .0 .ptr .0) (a .0 .ptr .1) (a .0 .name) (a .0 .now) C Λ fm
-    (cited 𝓤 H (Callee 𝓤 H (𝓖 .A) (𝓜 .mem) (𝓡 .run)) 𝓜 𝓡 code.env #callee callee-def.routine code.calls-planner·Planner·fresh (callee-thm.met 𝓤 H 𝓜 𝓖 𝓡)))))
+    (cited 𝓤 H (Callee 𝓤 H (𝓖 .A) (𝓜 .mem) (𝓡 .run)) 𝓜 𝓡 code.env #callee callee-def.routine code.calls-hulmeide·made-fresh (callee-thm.met 𝓤 H 𝓜 𝓖 𝓡)))))
