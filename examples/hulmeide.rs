@@ -1,9 +1,12 @@
 //! The planner for Rust: a safe wrapper of the static library's C functions (include/hulmeide.h).
 
-use std::mem::MaybeUninit;
-use std::num::NonZeroU32;
+use std::fmt;
+use std::mem::{size_of, MaybeUninit};
 
-// ---- Sizes, as include/hulmeide.h has them: tests/limits.py compares the two.
+// ---- Version, sizes and numbers, as include/hulmeide.h has them: tests/limits.py compares the two.
+
+/// The version of the header that this wrapper is for: major * 10000 + minor * 100 + patch.
+pub const VERSION: u32 = 10000;
 
 /// A line has at most this many bytes, its line feed not counted.
 pub const LINE_BYTES: usize = 80;
@@ -14,8 +17,8 @@ pub const MAX_DIGITS: usize = 5;
 /// So many bytes must be free in the output from the place on.
 pub const FREE_BYTES: usize = 1024;
 
-/// The cells that the line program lends.
-pub const CELLS: usize = 16384;
+/// The cells that the line program lends. What the plan of a planner needs is [`Planner::cells_needed`].
+pub const LINE_PROGRAM_CELLS: usize = 16384;
 
 // The largest cabinet. Power and budget are in watts.
 pub const MAX_LOADS: usize = 64;
@@ -29,17 +32,66 @@ pub const MAX_BUDGET: usize = 500;
 const PLANNER_BYTES: usize = 616;
 const NOT_A_RUN: u32 = 255;
 
-/// The planner's tables, with the size and the alignment that the header gives them. They are changed by lines alone. Between the fields
-/// there are bytes that nobody writes.
-#[repr(C, align(8))]
-#[derive(Clone)]
-pub struct Planner {
-    bytes: [MaybeUninit<u8>; PLANNER_BYTES],
+/// Why a line, or numbers that were to be judged, were refused. A refusal leaves the planner as it was.
+#[derive(Clone, Copy, Debug, PartialEq, Eq)]
+pub enum Refusal {
+    TurnedAway = 1,
+    LongLine = 2,
+    BadForm = 3,
+    NoLoads = 4,
+    OutOfRange = 5,
+    Full = 6,
+    SameRule = 7,
+    FewCells = 8,
+    NoneFits = 9,
+    NotAllowed = 10,
 }
 
-/// The number of a refusal, 1 to 10. A refusal leaves the planner as it was.
-#[derive(Clone, Copy, Debug, PartialEq, Eq)]
-pub struct Refusal(NonZeroU32);
+// ---- The planner, laid out as the header has it.
+
+#[repr(C)]
+#[derive(Clone)]
+struct Rules {
+    items: [[u8; 3]; MAX_RULES],
+    count: usize,
+}
+
+#[repr(C)]
+#[derive(Clone)]
+struct Book {
+    states: u8,
+    stages: u8,
+    starts: u8,
+    ends: u8,
+    load_rules: Rules,
+    row_rules: Rules,
+}
+
+#[repr(C)]
+#[derive(Clone)]
+struct Load {
+    parent: u8,
+    power: u16,
+    worth: u16,
+}
+
+#[repr(C)]
+#[derive(Clone)]
+struct Loads {
+    items: [Load; MAX_LOADS],
+    count: usize,
+}
+
+/// The planner's tables. They are changed by lines alone.
+#[repr(C)]
+#[derive(Clone)]
+pub struct Planner {
+    book: Book,
+    loads: Loads,
+    budget: u16,
+}
+
+const _: () = assert!(size_of::<Planner>() == PLANNER_BYTES);
 
 /// What a line was answered: how many bytes were written, and the refusal, if it was one.
 #[derive(Clone, Copy, Debug, PartialEq, Eq)]
@@ -55,6 +107,7 @@ struct Reply {
 }
 
 extern "C" {
+    fn hulmeide_version() -> u32;
     fn hulmeide_fresh(planner: *mut Planner);
     fn hulmeide_call(
         planner: *mut Planner,
@@ -70,22 +123,76 @@ extern "C" {
 }
 
 impl Refusal {
+    const ALL: [Refusal; 10] = [
+        Refusal::TurnedAway,
+        Refusal::LongLine,
+        Refusal::BadForm,
+        Refusal::NoLoads,
+        Refusal::OutOfRange,
+        Refusal::Full,
+        Refusal::SameRule,
+        Refusal::FewCells,
+        Refusal::NoneFits,
+        Refusal::NotAllowed,
+    ];
+
+    /// Its number, 1 to 10, as the line `no,N` prints it.
     pub fn number(self) -> u32 {
-        self.0.get()
+        self as u32
     }
 
+    /// What it means, in a few words.
+    pub fn meaning(self) -> &'static str {
+        match self {
+            Refusal::TurnedAway => "too few free bytes of output, or a planner that breaks a limit",
+            Refusal::LongLine => "a line too long",
+            Refusal::BadForm => "no command, or a field of the wrong form",
+            Refusal::NoLoads => "no loads",
+            Refusal::OutOfRange => "a value out of its range, or a wrong count of them",
+            Refusal::Full => "no place for another load or rule",
+            Refusal::SameRule => "the same rule is in the book already",
+            Refusal::FewCells => "too few cells of work",
+            Refusal::NoneFits => "no allowed set fits the budget",
+            Refusal::NotAllowed => "the set is not allowed",
+        }
+    }
+
+    /// The refusal with a number; none for 0.
     fn of(number: u32) -> Option<Refusal> {
-        NonZeroU32::new(number).map(Refusal)
+        let refusal = Refusal::ALL.into_iter().find(|refusal| refusal.number() == number);
+        assert!(number == 0 || refusal.is_some(), "the library gave the number {number}, which its header does not have");
+        refusal
     }
 }
 
+impl fmt::Display for Refusal {
+    fn fmt(&self, f: &mut fmt::Formatter) -> fmt::Result {
+        write!(f, "{} ({})", self.meaning(), self.number())
+    }
+}
+
+/// The version of the archive.
+pub fn version() -> u32 {
+    // SAFETY: the function takes nothing and touches nothing.
+    unsafe { hulmeide_version() }
+}
+
 impl Planner {
-    /// A fresh planner: no book, no rules, no loads, and budget 0.
+    /// A fresh planner: no book, no rules, no loads, and budget 0. Panics where the archive is of another version than this wrapper.
     pub fn new() -> Planner {
-        let mut planner = Planner { bytes: [MaybeUninit::uninit(); PLANNER_BYTES] };
-        // SAFETY: the pointer is to a whole planner that nobody else holds.
-        unsafe { hulmeide_fresh(&mut planner) };
-        planner
+        assert_eq!(version(), VERSION, "the archive's version and the wrapper's");
+        let mut planner = MaybeUninit::uninit();
+        // SAFETY: the pointer is to room for a whole planner that nobody else holds, and the library writes every field of it.
+        unsafe {
+            hulmeide_fresh(planner.as_mut_ptr());
+            planner.assume_init()
+        }
+    }
+
+    /// The cells that a plan needs as the planner stands: loads x (states + stages) x (budget + 1).
+    pub fn cells_needed(&self) -> usize {
+        let ways = usize::from(self.book.states) + usize::from(self.book.stages);
+        self.loads.count * ways * (usize::from(self.budget) + 1)
     }
 
     /// Handles one line, given without its line feed. The answer is written to `out` from `place` on.
@@ -111,11 +218,10 @@ impl Planner {
     pub fn judge(&self, run: &[u32]) -> Result<bool, Refusal> {
         // SAFETY: as in `call`. The planner and the numbers are only read.
         let number = unsafe { hulmeide_judge(self, run.as_ptr(), run.len()) };
-        match Refusal::of(number) {
-            None => Ok(true),
-            Some(_) if number == NOT_A_RUN => Ok(false),
-            Some(refusal) => Err(refusal),
+        if number == NOT_A_RUN {
+            return Ok(false);
         }
+        Refusal::of(number).map_or(Ok(true), Err)
     }
 }
 

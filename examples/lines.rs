@@ -1,17 +1,21 @@
 //! The line program again, in Rust over the safe wrapper: lines from standard input, answers to standard output.
 
-use hulmeide::{Planner, CELLS, FREE_BYTES, LINE_BYTES};
+use hulmeide::{Planner, Refusal, FREE_BYTES, LINE_BYTES, LINE_PROGRAM_CELLS};
 use std::io::{self, BufRead, Write};
 
 /// Of a line that is too long one byte more is kept than a line may have.
 const KEPT_BYTES: usize = LINE_BYTES + 1;
 
-/// Takes the next line off the input, without its line feed, and keeps of it what the planner is to see. False at the end of the input.
+/// Takes the next line off the input, without its line feed, and keeps of it what the planner is to see. False at the end of the input. A
+/// read that was interrupted is tried again.
 fn next_line(input: &mut impl BufRead, line: &mut Vec<u8>) -> io::Result<bool> {
     line.clear();
     let mut begun = false;
     loop {
-        let bytes = input.fill_buf()?;
+        let bytes = match input.fill_buf() {
+            Err(error) if error.kind() == io::ErrorKind::Interrupted => continue,
+            read => read?,
+        };
         if bytes.is_empty() {
             return Ok(begun);
         }
@@ -48,15 +52,18 @@ fn printed_refusal(text: &str) -> Option<u32> {
 fn main() -> io::Result<()> {
     let mut planner = Planner::new();
     let mut out = [0; FREE_BYTES];
-    let mut work = vec![0; CELLS];
+    let mut work = vec![0; LINE_PROGRAM_CELLS];
     let mut input = io::stdin().lock();
     let mut output = io::stdout().lock();
     let mut line = Vec::with_capacity(KEPT_BYTES);
     while next_line(&mut input, &mut line)? {
         let answer = planner.call(&line, &mut out, 0, &mut work);
         let text = std::str::from_utf8(&out[..answer.count]).expect("answers are plain text");
-        assert_eq!(answer.refusal.map(|refusal| refusal.number()), printed_refusal(text));
+        assert_eq!(answer.refusal.map(Refusal::number), printed_refusal(text));
+        let few_cells = line == b"plan" && planner.cells_needed() > work.len();
+        assert_eq!(answer.refusal == Some(Refusal::FewCells), few_cells);
         assert!(judged(&planner, text), "the planner showed what is no run");
+        // These two try again by themselves what was interrupted.
         output.write_all(text.as_bytes())?;
         output.flush()?;
     }

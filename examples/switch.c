@@ -1,14 +1,19 @@
 /*
- * The planner in a switch's main loop: bytes come in from a port, and each line is answered as soon as it is complete.
+ * The planner in a switch's main loop: bytes come in from a line port, each line is answered as soon as it is complete, and a plan switches
+ * the power of the cabinet's ports.
  *
- * Here the port is standard input and output, so that the program can be compared with the line program. A switch has its own functions in
- * the place of receive and transmit. Nothing is allocated: the planner and the buffers that it is lent are static.
+ * Here the line port is standard input and output, so that the program can be compared with the line program, and the cabinet's ports are an
+ * array. A switch has its own functions in the place of receive, transmit and set_port. Nothing is allocated: the planner and the buffers
+ * that it is lent are static.
+ *
+ * With SWITCH_LOG in the environment each plan leaves a line on standard error that names the ports that are on.
  *
  * Every run that the planner shows is handed to the judge before it is sent. That is not needed, since the planner is proved; it shows how
  * the judge is called.
  */
 #include "hulmeide.h"
 
+#include <errno.h>
 #include <stdbool.h>
 #include <stdio.h>
 #include <stdlib.h>
@@ -21,31 +26,97 @@ static struct hulmeide_planner planner;
 static uint8_t line[KEPT_BYTES];
 static size_t held;
 static uint8_t out[HULMEIDE_FREE_BYTES];
-static uint32_t work[HULMEIDE_CELLS];
+static uint32_t work[HULMEIDE_LINE_PROGRAM_CELLS];
+
+/* Is the port of load k, port_on[k - 1], switched on? */
+static bool port_on[HULMEIDE_MAX_LOADS];
+
+/* What an answer shows: the set of loads that are on, load k as bit k - 1, and the run, three numbers for each load. */
+struct shown {
+    uint64_t set;
+    uint32_t run[3 * HULMEIDE_MAX_LOADS];
+    size_t length;
+};
 
 static void stop(const char *message)
 {
-    fputs(message, stderr);
+    fprintf(stderr, "switch: %s\n", message);
     exit(1);
 }
+
+/* ---- The line port: what was interrupted is tried again ---- */
 
 /* The bytes that are there, up to `most`, or 0 at the end of the port. A port that fails stops the program: what is held of a line then is
  * not the whole line, and is not answered. */
 static size_t receive(uint8_t *bytes, size_t most)
 {
-    ssize_t count = read(STDIN_FILENO, bytes, most);
+    ssize_t count;
+    do {
+        count = read(STDIN_FILENO, bytes, most);
+    } while (count < 0 && errno == EINTR);
     if (count < 0) {
-        stop("the port cannot be read\n");
+        stop("the port cannot be read");
     }
     return (size_t)count;
 }
 
 static void transmit(const uint8_t *bytes, size_t count)
 {
-    if (fwrite(bytes, 1, count, stdout) != count || fflush(stdout) != 0) {
-        stop("the port cannot be written\n");
+    size_t sent = 0;
+    while (sent < count) {
+        ssize_t more = write(STDOUT_FILENO, bytes + sent, count - sent);
+        if (more >= 0) {
+            sent += (size_t)more;
+        } else if (errno != EINTR) {
+            stop("the port cannot be written");
+        }
     }
 }
+
+/* ---- The cabinet's ports ---- */
+
+static bool is_on(uint64_t set, size_t load)
+{
+    return (set >> (load - 1) & 1) != 0;
+}
+
+/* Switches the port of a load. */
+static void set_port(size_t load, bool on)
+{
+    port_on[load - 1] = on;
+}
+
+static void log_ports(void)
+{
+    fputs("ports on:", stderr);
+    for (size_t load = 1; load <= HULMEIDE_MAX_LOADS; load++) {
+        if (port_on[load - 1]) {
+            fprintf(stderr, " %zu", load);
+        }
+    }
+    fputs("\n", stderr);
+}
+
+/* Switches every port that is not as the set has it. Those that go off go first, so that the supply never carries the old loads and the new
+ * ones together. */
+static void switch_ports(uint64_t set)
+{
+    for (size_t load = 1; load <= HULMEIDE_MAX_LOADS; load++) {
+        if (port_on[load - 1] && !is_on(set, load)) {
+            set_port(load, false);
+        }
+    }
+    for (size_t load = 1; load <= HULMEIDE_MAX_LOADS; load++) {
+        if (!port_on[load - 1] && is_on(set, load)) {
+            set_port(load, true);
+        }
+    }
+    if (getenv("SWITCH_LOG") != NULL) {
+        log_ports();
+    }
+}
+
+/* ---- Answers ---- */
 
 /* The number that begins at `at`. It ends before a comma or a line feed, and `at` is left behind that. */
 static uint32_t next_number(const uint8_t *text, size_t count, size_t *at)
@@ -69,45 +140,50 @@ static size_t second_line(const uint8_t *text, size_t count)
     return at + 1;
 }
 
-/* Reads the run off an answer with one line "load,mark,state,load rule,row rule" for each load. Returns the count of its numbers, which are
- * three for each load. */
-static size_t shown_run(const uint8_t *text, size_t count, uint32_t *run)
+/* Reads what is shown off an answer with one line "load,mark,state,load rule,row rule" for each load. */
+static void read_shown(const uint8_t *text, size_t count, struct shown *shown)
 {
     size_t at = second_line(text, count);
-    size_t length = 0;
-    while (at < count && length < 3 * HULMEIDE_MAX_LOADS) {
-        next_number(text, count, &at);
-        next_number(text, count, &at);
-        run[length] = next_number(text, count, &at);
-        run[length + 1] = next_number(text, count, &at);
-        run[length + 2] = next_number(text, count, &at);
-        length += 3;
+    shown->set = 0;
+    shown->length = 0;
+    while (at < count && shown->length < 3 * HULMEIDE_MAX_LOADS) {
+        uint32_t load = next_number(text, count, &at);
+        uint32_t mark = next_number(text, count, &at);
+        shown->set |= (uint64_t)mark << (load - 1);
+        for (size_t end = shown->length + 3; shown->length < end; shown->length++) {
+            shown->run[shown->length] = next_number(text, count, &at);
+        }
     }
-    return length;
 }
 
-/* Does the answer show a run? The first lines of such answers are "plan,worth,power,n" and "yes". */
-static bool shows_run(struct hulmeide_reply reply)
+static void judge_shown(const struct shown *shown)
 {
-    return reply.number == HULMEIDE_ACCEPTED && (out[0] == 'p' || out[0] == 'y');
+    if (hulmeide_judge(&planner, shown->run, shown->length) != HULMEIDE_ACCEPTED) {
+        stop("the planner showed what is no run");
+    }
 }
 
-static void judge_shown(struct hulmeide_reply reply)
+/* Judges the run that an accepted line shows, if it shows one, and switches the ports by a plan. The first lines of such answers are
+ * "plan,worth,power,n" and "yes". A refused `plan` leaves the ports as they are. */
+static void follow(size_t count)
 {
-    uint32_t run[3 * HULMEIDE_MAX_LOADS];
-    size_t length = shown_run(out, reply.count, run);
-    if (hulmeide_judge(&planner, run, length) != HULMEIDE_ACCEPTED) {
-        stop("the planner showed what is no run\n");
+    struct shown shown;
+    if (out[0] == 'p' || out[0] == 'y') {
+        read_shown(out, count, &shown);
+        judge_shown(&shown);
+        if (out[0] == 'p') {
+            switch_ports(shown.set);
+        }
     }
 }
 
 /* Answers the line that is held. */
 static void answer(void)
 {
-    struct hulmeide_reply reply = hulmeide_call(&planner, line, held, out, sizeof out, 0, work, HULMEIDE_CELLS);
+    struct hulmeide_reply reply = hulmeide_call(&planner, line, held, out, sizeof out, 0, work, HULMEIDE_LINE_PROGRAM_CELLS);
     held = 0;
-    if (shows_run(reply)) {
-        judge_shown(reply);
+    if (reply.number == HULMEIDE_ACCEPTED) {
+        follow(reply.count);
     }
     transmit(out, reply.count);
 }
@@ -134,6 +210,9 @@ int main(void)
 {
     uint8_t bytes[256];
     size_t count;
+    if (hulmeide_version() != HULMEIDE_VERSION) {
+        stop("the archive and the header are of different versions");
+    }
     hulmeide_fresh(&planner);
     while ((count = receive(bytes, sizeof bytes)) > 0) {
         take_all(bytes, count);

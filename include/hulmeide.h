@@ -1,14 +1,15 @@
 /*
  * The cabinet load planner for the switch's firmware.
  *
- * Link target/staticlib/libhulmeide.a, which `rt staticlib hulmeide` proves and writes. It is built for x86-64, and needs memcpy and
- * memset, nothing else: no heap, no file, no clock, and no memory of its own between calls. All state is in the planner that the caller
- * keeps, so there may be any number of planners. On the largest cabinet a call on a line used 12,344 bytes of stack at most, and the judge
+ * Link target/staticlib/libhulmeide.a, which `rt staticlib hulmeide` proves and writes. It is built for x86-64 and the System V ABI, and
+ * needs memcpy and memset, nothing else: no heap, no file, no clock, and no memory of its own between calls. All state is in the planner that
+ * the caller keeps, so there may be any number of planners, and any number of threads, each with a planner of its own. On the largest cabinet a call on a line used 12,344 bytes of stack at most, and the judge
  * 7,792 (docs/PERFORMANCE.md).
  *
  * What the caller owes: every pointer is to memory that is there for the length given, aligned for its type and not null, also where the
- * length is 0; the planner, the output and the work do not overlap one another or the line; nobody else writes them, the line or the run
- * during a call.
+ * length is 0 (hulmeide_call_bytes and hulmeide_call_text take null there); the planner, the output and the work do not overlap one another
+ * or the line; nobody else reads or writes them, or writes the line or the run, during a call. hulmeide_call writes the planner even where it
+ * refuses the line, so a planner is in no read-only memory.
  * What the bytes are does not matter. A planner, an output and a work may hold anything.
  *
  * What is proved is in crates/hulmeide/src/lib.rt: each function has its promise there, for every planner and all buffers. The lines and
@@ -23,9 +24,15 @@
 #ifdef __cplusplus
 extern "C" {
 #define HULMEIDE_ASSERT(test, message) static_assert(test, message)
-#else
+#elif defined(__STDC_VERSION__) && __STDC_VERSION__ >= 201112L
 #define HULMEIDE_ASSERT(test, message) _Static_assert(test, message)
+#else
+#define HULMEIDE_ASSERT(test, message) extern char hulmeide_asserted[(test) ? 1 : -1]
 #endif
+
+/* The version of this header: major * 10000 + minor * 100 + patch. hulmeide_version returns that of the archive, and they fit where the two
+ * are the same. The minor number goes up with each request that changes what lines there are, or the layout. */
+#define HULMEIDE_VERSION 10000
 
 /* ---- Sizes ----
  *
@@ -41,8 +48,9 @@ extern "C" {
 /* So many bytes must be free in the output from the place on, whatever the line. No answer is longer. */
 #define HULMEIDE_FREE_BYTES 1024
 
-/* The cells of 32 bits that the line program lends as work. */
-#define HULMEIDE_CELLS 16384
+/* The line program's number, and no limit of the library: the cells of 32 bits that it lends as work. Another caller lends what its plans
+ * need, hulmeide_cells_needed, or HULMEIDE_MAX_CELLS, which is enough for every plan. */
+#define HULMEIDE_LINE_PROGRAM_CELLS 16384
 
 /* The largest cabinet. There are at most HULMEIDE_MAX_RULES rules of each sort. Power and budget are in watts. */
 #define HULMEIDE_MAX_LOADS 64
@@ -173,6 +181,9 @@ HULMEIDE_ASSERT(offsetof(struct hulmeide_reply, count) == 8, "hulmeide_reply.cou
 
 /* ---- Functions ---- */
 
+/* The version of the archive. Compare it with HULMEIDE_VERSION before anything else is called. */
+uint32_t hulmeide_version(void);
+
 /* Makes the planner fresh, whatever it held: no book, no rules, no loads, and budget 0. */
 void hulmeide_fresh(struct hulmeide_planner *planner);
 
@@ -189,6 +200,35 @@ struct hulmeide_reply hulmeide_call(struct hulmeide_planner *planner, const uint
  * Returns HULMEIDE_ACCEPTED for yes, HULMEIDE_NOT_A_RUN for no, or HULMEIDE_TURNED_AWAY, HULMEIDE_NO_LOADS or HULMEIDE_OUT_OF_RANGE.
  */
 uint32_t hulmeide_judge(const struct hulmeide_planner *planner, const uint32_t *run, size_t run_length);
+
+/* ---- What callers would write ---- */
+
+/* The cells that a plan of this planner needs, as it stands. */
+static inline size_t hulmeide_cells_needed(const struct hulmeide_planner *planner)
+{
+    return HULMEIDE_CELLS_NEEDED(planner->loads.count, planner->book.states, planner->book.stages, planner->budget);
+}
+
+/* As hulmeide_call, but a line, an output or a work of length 0 may be null. */
+static inline struct hulmeide_reply hulmeide_call_bytes(struct hulmeide_planner *planner, const uint8_t *line, size_t line_length,
+                                                        uint8_t *out, size_t out_length, size_t place, uint32_t *work, size_t work_length)
+{
+    uint8_t no_bytes = 0;
+    uint32_t no_cells = 0;
+    return hulmeide_call(planner, line_length == 0 ? &no_bytes : line, line_length, out_length == 0 ? &no_bytes : out, out_length, place,
+                         work_length == 0 ? &no_cells : work, work_length);
+}
+
+/* As hulmeide_call_bytes, with the line as a C string, without its line feed. */
+static inline struct hulmeide_reply hulmeide_call_text(struct hulmeide_planner *planner, const char *line, uint8_t *out, size_t out_length,
+                                                       size_t place, uint32_t *work, size_t work_length)
+{
+    size_t length = 0;
+    while (line[length] != '\0') {
+        length += 1;
+    }
+    return hulmeide_call_bytes(planner, (const uint8_t *)line, length, out, out_length, place, work, work_length);
+}
 
 #ifdef __cplusplus
 }

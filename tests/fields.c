@@ -1,6 +1,7 @@
 /*
- * The header's layout against the archive: after the lines of paper 01's session the planner's fields are read by their names, and the memory
- * after the planner must be as it was. The last line printed is 'N passed, M failed'.
+ * The header against the archive: their versions; the layout, for which the planner's fields are read by their names after the lines of paper
+ * 01's session, and the memory after the planner must be as it was; and what the header's helpers answer. It is C99, C11 and C++11. The last
+ * line printed is 'N passed, M failed'.
  */
 #include "hulmeide.h"
 
@@ -9,6 +10,9 @@
 
 #define GUARD_BYTES 64
 #define GUARD_BYTE 0xa5
+
+/* The cells that the session's plan needs. */
+#define SESSION_CELLS 496
 
 static const char *const lines[] = {
     "book,2,2", "start,1", "start,2", "end,1", "end,2", "rule,1,0,2", "rule,1,1,1", "rule,2,0,2",
@@ -21,7 +25,7 @@ static struct {
 } kept;
 
 static uint8_t out[HULMEIDE_FREE_BYTES];
-static uint32_t work[1];
+static uint32_t work[SESSION_CELLS];
 static int passed;
 static int failed;
 
@@ -49,16 +53,32 @@ static void expect_load(const char *what, struct hulmeide_load load, size_t pare
     expect(what, load.worth, worth);
 }
 
+static void expect_reply(const char *what, struct hulmeide_reply reply, size_t number, size_t count)
+{
+    expect(what, reply.number, number);
+    expect(what, reply.count, count);
+}
+
 static void make_planner(void)
 {
     memset(&kept, GUARD_BYTE, sizeof kept);
     hulmeide_fresh(&kept.planner);
     for (size_t i = 0; i < sizeof lines / sizeof *lines; i++) {
-        struct hulmeide_reply reply =
-            hulmeide_call(&kept.planner, (const uint8_t *)lines[i], strlen(lines[i]), out, sizeof out, 0, work, 0);
-        expect(lines[i], reply.number, HULMEIDE_ACCEPTED);
-        expect(lines[i], reply.count, 3);
+        expect_reply(lines[i], hulmeide_call_text(&kept.planner, lines[i], out, sizeof out, 0, NULL, 0), HULMEIDE_ACCEPTED, 3);
     }
+}
+
+/* A plan of the session with just the cells that it needs, and with one less; and buffers of length 0 that are null. */
+static void expect_helpers(void)
+{
+    struct hulmeide_planner *planner = &kept.planner;
+    size_t cells = hulmeide_cells_needed(planner);
+    expect("cells needed", cells, SESSION_CELLS);
+    expect_reply("plan", hulmeide_call_text(planner, "plan", out, sizeof out, 0, work, cells), HULMEIDE_ACCEPTED, 53);
+    expect_reply("one cell less", hulmeide_call_text(planner, "plan", out, sizeof out, 0, work, cells - 1), HULMEIDE_FEW_CELLS, 5);
+    expect_reply("no cells", hulmeide_call_text(planner, "plan", out, sizeof out, 0, NULL, 0), HULMEIDE_FEW_CELLS, 5);
+    expect_reply("no line", hulmeide_call_bytes(planner, NULL, 0, out, sizeof out, 0, NULL, 0), HULMEIDE_BAD_FORM, 5);
+    expect_reply("no output", hulmeide_call_bytes(planner, NULL, 0, NULL, 0, 0, NULL, 0), HULMEIDE_TURNED_AWAY, 0);
 }
 
 static void expect_guard(void)
@@ -72,6 +92,7 @@ static void expect_guard(void)
 
 int main(void)
 {
+    expect("the archive's version", hulmeide_version(), HULMEIDE_VERSION);
     make_planner();
     const struct hulmeide_book *book = &kept.planner.book;
     expect("states", book->states, 2);
@@ -89,6 +110,7 @@ int main(void)
     expect_load("load 4", kept.planner.loads.items[3], 2, 7, 50);
     expect_load("load 64", kept.planner.loads.items[HULMEIDE_MAX_LOADS - 1], 0, 0, 0);
     expect("budget", kept.planner.budget, 30);
+    expect_helpers();
     expect_guard();
     printf("%d passed, %d failed\n", passed, failed);
     return failed != 0;

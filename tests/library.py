@@ -6,16 +6,18 @@ touch.
 import ctypes
 
 import script
-from limits import CELLS, FREE_BYTES, PLANNER_BYTES, Reply, Tables
+from limits import CELLS, FREE_BYTES, PLANNER_BYTES, VERSION, Reply, Tables
 
 GUARD = bytes(range(160, 224))
 
 
 class Library:
-    """The three functions of the library."""
+    """The functions of the library, which has to be of the header's version."""
 
     def __init__(self, path):
         shared = ctypes.CDLL(path)
+        if shared.hulmeide_version() != VERSION:
+            raise RuntimeError('%s has version %d, and the header %d' % (path, shared.hulmeide_version(), VERSION))
         pointer, size = ctypes.c_void_p, ctypes.c_size_t
         self.fresh = shared.hulmeide_fresh
         self.fresh.argtypes, self.fresh.restype = [pointer], None

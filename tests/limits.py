@@ -3,8 +3,8 @@
 
   limits.py
 
-Run as a program it holds the structs as Python lays them out to the sizes and offsets that the header asserts, and the constants of the
-Rust wrapper, examples/hulmeide.rs, to the header's. The last line is 'N passed, M failed'.
+Run as a program it holds the structs as Python lays them out to the sizes and offsets that the header asserts, and the constants and the
+refusals of the Rust wrapper, examples/hulmeide.rs, to the header's. The last line is 'N passed, M failed'.
 """
 import ctypes
 import re
@@ -13,7 +13,7 @@ from pathlib import Path
 
 ROOT = Path(__file__).resolve().parent.parent
 HEADER = (ROOT / 'include' / 'hulmeide.h').read_text()
-WRAPPER = ROOT / 'examples' / 'hulmeide.rs'
+WRAPPER = (ROOT / 'examples' / 'hulmeide.rs').read_text()
 
 
 def named(pattern):
@@ -26,7 +26,7 @@ NUMBERS = named(r'^ +HULMEIDE_(\w+) = (\d+),?$')
 
 LINE_BYTES = SIZES['LINE_BYTES']
 FREE_BYTES = SIZES['FREE_BYTES']
-CELLS = SIZES['CELLS']
+CELLS = SIZES['LINE_PROGRAM_CELLS']
 MAX_DIGITS = SIZES['MAX_DIGITS']
 MAX_LOADS = SIZES['MAX_LOADS']
 MAX_RULES = SIZES['MAX_RULES']
@@ -36,6 +36,7 @@ MAX_POWER = SIZES['MAX_POWER']
 MAX_WORTH = SIZES['MAX_WORTH']
 MAX_BUDGET = SIZES['MAX_BUDGET']
 NOT_A_RUN = NUMBERS['NOT_A_RUN']
+VERSION = SIZES['VERSION']
 
 
 # ---- The structs
@@ -73,14 +74,22 @@ def asserted():
 
 def wrapped():
     """Each constant that the wrapper is to have: its name, its value there, if any, and that of the header."""
-    constants = dict(re.findall(r'^(?:pub )?const (\w+): \w+ = (\d+);$', WRAPPER.read_text(), re.M))
+    constants = dict(re.findall(r'^(?:pub )?const (\w+): \w+ = (\d+);$', WRAPPER, re.M))
     wanted = {**SIZES, 'PLANNER_BYTES': PLANNER_BYTES, 'NOT_A_RUN': NOT_A_RUN}
     for name in sorted({*constants, *wanted}):
         yield name + ' of the wrapper', int(constants.get(name, -1)), wanted.get(name)
 
 
+def refused():
+    """Each refusal that the wrapper is to have: its name, its number there, if any, and that of the header."""
+    refusals = dict(re.findall(r'^    (\w+) = (\d+),$', WRAPPER, re.M))
+    wanted = {name.title().replace('_', ''): number for name, number in NUMBERS.items() if name not in ('ACCEPTED', 'NOT_A_RUN')}
+    for name in sorted({*refusals, *wanted}):
+        yield name + ' of the wrapper', int(refusals.get(name, -1)), wanted.get(name)
+
+
 def main():
-    compared = [*asserted(), *wrapped()]
+    compared = [*asserted(), *wrapped(), *refused()]
     wrong = [one for one in compared if one[1] != one[2]]
     for what, value, expected in wrong:
         print('%s is %s, not %s' % (what, value, expected))
