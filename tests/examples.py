@@ -1,13 +1,15 @@
 #!/usr/bin/env python3
 """Programs that link the library, in C and in Rust, against the line program: the same bytes in, the same bytes out.
 
-  examples.py LINE_PROGRAM PROGRAM.. [--sessions N] [--seed S]
+  examples.py LINE_PROGRAM PROGRAM.. [--sessions N] [--seed S] [--interrupted LIBRARY] [--ports PROGRAM]
 
 The input holds sessions of valid and damaged lines, lines of every length around the most that a line may have, lines far longer than any
 buffer, bytes of every value, large cabinets, and a last line with and without its line feed. Each program must also answer a line as soon as
-it is complete, while its input stays open. The last line is 'N passed, M failed'.
+it is complete, while its input stays open, and print the same where every other read and write is interrupted (a library that is loaded
+before it: interrupted.c). A program that switches ports must have switched them as its plans say. The last line is 'N passed, M failed'.
 """
 import argparse
+import os
 import random
 import select
 import subprocess
@@ -18,6 +20,7 @@ from crosscheck import session
 from limits import CELLS, LINE_BYTES, MAX_BUDGET, MAX_LOADS, MAX_WORTH
 
 WORKED = Path('crates/load_planner/stdin')
+ANSWERS = Path('crates/load_planner/stdout')
 
 
 def joined(lines):
@@ -80,6 +83,33 @@ def answers_at_once(program):
         return answer == b'ok\n'
 
 
+def endures(program, library):
+    """Does the program print the worked session's answers where its reads and writes are interrupted?"""
+    environment = {**os.environ, 'LD_PRELOAD': str(Path(library).resolve(strict=True))}
+    ended = subprocess.run([program], input=WORKED.read_bytes(), stdout=subprocess.PIPE, env=environment)
+    return ended.returncode == 0 and ended.stdout == ANSWERS.read_bytes()
+
+
+def planned_ports(output):
+    """For each plan in what was printed, the loads that it has on."""
+    plans, shown = [], []
+    for fields in (line.split(b',') for line in output.splitlines()):
+        if not fields[0].isdigit():
+            shown = []
+        elif fields[1] == b'1':
+            shown.append(int(fields[0]))
+        if fields[0] == b'plan':
+            plans.append(shown)
+    return plans
+
+
+def switches_ports(program, data):
+    """Are the ports that a program logs after each plan those of the plan?"""
+    ended = subprocess.run([program], input=data, capture_output=True, env={**os.environ, 'SWITCH_LOG': '1'})
+    logged = [[int(port) for port in line.split(b':')[1].split()] for line in ended.stderr.splitlines()]
+    return ended.returncode == 0 and logged == planned_ports(ended.stdout)
+
+
 def compared(programs, expected, data, name):
     """How many programs print what is expected for an input."""
     same = [program for program in programs if printed(program, data) == expected]
@@ -95,16 +125,25 @@ def main():
     options.add_argument('programs', nargs='+')
     options.add_argument('--sessions', type=int, default=1000)
     options.add_argument('--seed', type=int, default=1)
+    options.add_argument('--interrupted')
+    options.add_argument('--ports')
     args = options.parse_args()
-    passed = lines = inputs_made = 0
-    for name, data in inputs(random.Random(args.seed), args.sessions):
+    passed = 0
+    made = list(inputs(random.Random(args.seed), args.sessions))
+    for name, data in made:
         passed += compared(args.programs, printed(args.line_program, data), data, name)
-        lines += data.count(b'\n')
-        inputs_made += 1
-    prompt = [program for program in [args.line_program] + args.programs if answers_at_once(program)]
-    failed = inputs_made * len(args.programs) - passed + len(args.programs) + 1 - len(prompt)
-    print('%d lines to each program; answered at once by %s' % (lines, ', '.join(prompt)))
-    print('%d passed, %d failed' % (passed + len(prompt), failed))
+    tests = [('answers at once', program, answers_at_once(program)) for program in [args.line_program] + args.programs]
+    if args.interrupted:
+        tests += [('goes on when interrupted', program, endures(program, args.interrupted)) for program in args.programs]
+    if args.ports:
+        tests += [('switches ports, ' + name, args.ports, switches_ports(args.ports, data)) for name, data in made]
+    for what, program, held in tests:
+        if not held:
+            print('%s: not so of %s' % (what, program))
+    passed += sum(held for _, _, held in tests)
+    failed = len(made) * len(args.programs) + len(tests) - passed
+    print('%d lines to each program' % sum(data.count(b'\n') for _, data in made))
+    print('%d passed, %d failed' % (passed, failed))
     return 1 if failed else 0
 
 

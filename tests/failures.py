@@ -1,6 +1,6 @@
 #!/usr/bin/env python3
 """Reads and writes that do not go through: one that fails ends the line program with a message on standard error; one that a signal
-interrupted, or that took a part, is made again.
+interrupted is made again.
 
   failures.py PROGRAM
 
@@ -27,7 +27,7 @@ def said(program, **streams):
 
 
 def interrupted(program):
-    """The program's answers where every other read and write is interrupted, and a write takes one byte."""
+    """The program's answers where every other read and write is interrupted."""
     with tempfile.TemporaryDirectory() as folder:
         library = folder + '/interrupted.so'
         subprocess.run(['gcc', '-shared', '-fPIC', '-O1', '-o', library, TESTS / 'interrupted.c'], check=True)

@@ -1,32 +1,29 @@
 /*
- * Reads and writes as a signal interrupts them: every other call fails with EINTR before it moves a byte, and a write takes one byte.
- * tests/failures.py loads this before the C library.
+ * Loaded before a program (LD_PRELOAD), this interrupts every other read of it and every other write: the call does nothing and fails with
+ * EINTR, as it does where a signal comes in.
  */
-#define _GNU_SOURCE
 #include <errno.h>
-#include <stddef.h>
+#include <stdbool.h>
 #include <sys/syscall.h>
-#include <sys/types.h>
 #include <unistd.h>
 
-static int interrupted(unsigned *calls)
+static bool read_interrupted;
+static bool write_interrupted;
+
+/* Is this call interrupted? It is where the last one was not. */
+static bool interrupt(bool *interrupted)
 {
-    *calls += 1;
-    if (*calls % 2 == 1) {
-        errno = EINTR;
-        return 1;
-    }
-    return 0;
+    *interrupted = !*interrupted;
+    errno = EINTR;
+    return *interrupted;
 }
 
-ssize_t read(int fd, void *bytes, size_t most)
+ssize_t read(int file, void *bytes, size_t most)
 {
-    static unsigned calls;
-    return interrupted(&calls) ? -1 : syscall(SYS_read, fd, bytes, most);
+    return interrupt(&read_interrupted) ? -1 : syscall(SYS_read, file, bytes, most);
 }
 
-ssize_t write(int fd, const void *bytes, size_t count)
+ssize_t write(int file, const void *bytes, size_t count)
 {
-    static unsigned calls;
-    return interrupted(&calls) ? -1 : syscall(SYS_write, fd, bytes, count > 0 ? 1 : 0);
+    return interrupt(&write_interrupted) ? -1 : syscall(SYS_write, file, bytes, count);
 }
