@@ -2,9 +2,9 @@
  * The planner in a switch's main loop: bytes come in from a line port, each line is answered as soon as it is complete, and a plan switches
  * the power of the cabinet's ports.
  *
- * Here the line port is standard input and output, so that the program can be compared with the line program, and the cabinet's ports are an
- * array. A switch has its own functions in the place of receive, transmit and set_port. Nothing is allocated: the planner and the buffers
- * that it is lent are static.
+ * Here the line port is standard input and output, so that the program can be compared with the line program, and the cabinet's ports are
+ * an array. A switch has its own functions in the place of receive, transmit and set_port. Nothing is allocated: the planner and the
+ * buffers that it is lent are static.
  *
  * With SWITCH_LOG in the environment each plan leaves a line on standard error that names the ports that are on.
  *

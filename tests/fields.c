@@ -1,7 +1,7 @@
 /*
- * The header against the archive: their versions; the layout, for which the planner's fields are read by their names after the lines of paper
- * 01's session, and the memory after the planner must be as it was; and what the header's helpers answer. It is C99, C11 and C++11. The last
- * line printed is 'N passed, M failed'.
+ * The header against the archive: their versions; the layout, for which the planner's fields are read by their names after the lines of
+ * paper 01's session, and the memory after the planner must be as it was; and what the header's helpers answer. It is C99, C11 and C++11.
+ * The last line printed is 'N passed, M failed'.
  */
 #include "hulmeide.h"
 
