@@ -3,6 +3,8 @@
 #include <stdlib.h>
 #include <string.h>
 
+const char *const shape_names[SHAPES] = {"random", "star", "chain", "caterpillar"};
+
 static bool found(const TransitionList *list, Transition t) {
     for (size_t j = 0; j < list->count; j++)
         if (memcmp(&list->items[j], &t, sizeof t) == 0)
@@ -23,13 +25,30 @@ static void add_rules(TransitionList *list, int rules, int states, bool of_loads
     }
 }
 
+// The number of the parent of the load that comes after k others, 0 for the first.
 static int parent_of(Shape shape, int k) {
     if (k == 0)
         return 0;
-    return shape == RANDOM ? 1 + rand() % k : shape == STAR ? 1 : k;
+    switch (shape) {
+    case RANDOM:
+        return 1 + rand() % k;
+    case CHAIN:
+        return k;
+    case CATERPILLAR:
+        return k < 3 ? 1 : k - 2 + k % 2;
+    default:
+        return 1;
+    }
 }
 
-// The loads draw some 1,920 watts together, however many they are, so that every budget is short.
+// The loads draw some 1,920 watts together, however many they are, so that every budget is short. Those of a caterpillar draw some 544, 64
+// of them 1 to 16 each, so that a branch has many sums to tell apart.
+static int power_of(Cabinet c) {
+    if (c.shape == CATERPILLAR)
+        return 1 + rand() % (16 * HULMEIDE_MAX_LOADS / c.loads);
+    return rand() % (60 * HULMEIDE_MAX_LOADS / c.loads);
+}
+
 Tables tables_of(Cabinet c) {
     Tables t;
     memset(&t, 0, sizeof t);
@@ -42,7 +61,8 @@ Tables tables_of(Cabinet c) {
     srand(6);
     for (int k = 0; k < c.loads; k++) {
         uint8_t parent = (uint8_t)parent_of(c.shape, k);
-        t.loads.items[k] = (Load){parent, (uint16_t)(rand() % (60 * HULMEIDE_MAX_LOADS / c.loads)), (uint16_t)(rand() % (HULMEIDE_MAX_WORTH + 1))};
+        uint16_t power = (uint16_t)power_of(c);
+        t.loads.items[k] = (Load){parent, power, (uint16_t)(rand() % (HULMEIDE_MAX_WORTH + 1))};
     }
     t.loads.count = (size_t)c.loads;
     return t;

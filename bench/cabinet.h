@@ -8,7 +8,10 @@ typedef struct hulmeide_rules TransitionList;
 typedef struct hulmeide_load Load;
 typedef struct hulmeide_planner Tables;
 
-typedef enum { RANDOM, STAR, CHAIN } Shape;
+// A caterpillar is a chain, its spine, whose loads each have a leaf too, after the next load of the spine.
+typedef enum { RANDOM, STAR, CHAIN, CATERPILLAR, SHAPES } Shape;
+
+extern const char *const shape_names[SHAPES];
 
 // What a random cabinet is made of. There are as many load rules as row rules, and as many states as stages.
 typedef struct { Shape shape; int loads, states, rules, budget; } Cabinet;

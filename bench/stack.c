@@ -98,9 +98,9 @@ static void print_check_and_judge(void) {
     expect(verdict, HULMEIDE_ACCEPTED);
 }
 
-static void print_calls(const char *name, Shape shape) {
+static void print_calls(Shape shape) {
     tables = tables_of((Cabinet){shape, HULMEIDE_MAX_LOADS, HULMEIDE_MAX_STATES, HULMEIDE_MAX_RULES, HULMEIDE_MAX_BUDGET});
-    printf("%s:", name);
+    printf("%s:", shape_names[shape]);
     print_line("plan", "plan", HULMEIDE_ACCEPTED);
     print_check_and_judge();
     char change[HULMEIDE_LINE_BYTES];
@@ -114,9 +114,8 @@ int main(void) {
     printf("\nBytes of stack: %d loads, %d states, %d stages, %d + %d rules, budget %d; ", HULMEIDE_MAX_LOADS, HULMEIDE_MAX_STATES,
         HULMEIDE_MAX_STAGES, HULMEIDE_MAX_RULES, HULMEIDE_MAX_RULES, HULMEIDE_MAX_BUDGET);
     printf("a function that does nothing uses %zu\n", depth(nothing));
-    print_calls("random", RANDOM);
-    print_calls("star", STAR);
-    print_calls("chain", CHAIN);
+    for (Shape shape = 0; shape < SHAPES; shape++)
+        print_calls(shape);
     printf("Bytes of state: planner %zu, of which load rules %zu, row rules %zu, loads %zu; the largest work %zu\n", sizeof tables,
         sizeof tables.book.load_rules, sizeof tables.book.row_rules, sizeof tables.loads, sizeof work);
     return 0;

@@ -131,7 +131,7 @@ static void print_row(const char *name, int number, Cabinet c) {
     Outcome out = agreed(&t);
     double best[WAYS];
     best_times(&t, best);
-    printf("%-7s %5d  %8.4f %9.4f", name, number, 1e3 * best[PROVED], 1e3 * best[PLAIN_C]);
+    printf("%-11s %5d  %8.4f %9.4f", name, number, 1e3 * best[PROVED], 1e3 * best[PLAIN_C]);
     printf(" %10.4f %10.4f ", 1e3 * best[PLAIN_RUST], 1e3 * best[SAME_IDEAS]);
     printf("  %5.3f  %5.3f  %5.3f", best[PROVED] / best[PLAIN_C], best[PROVED] / best[PLAIN_RUST], best[PROVED] / best[SAME_IDEAS]);
     print_answer(&t, &out);
@@ -139,16 +139,15 @@ static void print_row(const char *name, int number, Cabinet c) {
 }
 
 static void print_head(const char *title, const char *name, const char *number) {
-    printf("\n%s\n%-7s %5s  %8s %9s %10s %10s ", title, name, number, names[PROVED], names[PLAIN_C], names[PLAIN_RUST], names[SAME_IDEAS]);
+    printf("\n%s\n%-11s %5s  %8s %9s %10s %10s ", title, name, number, names[PROVED], names[PLAIN_C], names[PLAIN_RUST], names[SAME_IDEAS]);
     printf("  %5s  %5s  %5s  %6s %5s %3s\n", "/C", "/Rust", "/same", "worth", "power", "on");
 }
 
 static void print_trees(void) {
-    const char *const shapes[] = {"random", "star", "chain"};
     print_head("Trees: 8 states, 8 stages, 32 + 32 rules, budget 500", "tree", "loads");
-    for (int shape = RANDOM; shape <= CHAIN; shape++)
+    for (int shape = 0; shape < SHAPES; shape++)
         for (int loads = 8; loads <= HULMEIDE_MAX_LOADS; loads *= 2)
-            print_row(shapes[shape], loads, (Cabinet){shape, loads, HULMEIDE_MAX_STATES, HULMEIDE_MAX_RULES, HULMEIDE_MAX_BUDGET});
+            print_row(shape_names[shape], loads, (Cabinet){shape, loads, HULMEIDE_MAX_STATES, HULMEIDE_MAX_RULES, HULMEIDE_MAX_BUDGET});
 }
 
 static void print_growth(void) {
