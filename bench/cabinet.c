@@ -49,6 +49,10 @@ static int power_of(Cabinet c) {
     return rand() % (60 * HULMEIDE_MAX_LOADS / c.loads);
 }
 
+Cabinet largest(Shape shape) {
+    return (Cabinet){shape, HULMEIDE_MAX_LOADS, HULMEIDE_MAX_STATES, HULMEIDE_MAX_RULES, HULMEIDE_MAX_BUDGET};
+}
+
 Tables tables_of(Cabinet c) {
     Tables t;
     memset(&t, 0, sizeof t);

@@ -16,6 +16,9 @@ extern const char *const shape_names[SHAPES];
 // What a random cabinet is made of. There are as many load rules as row rules, and as many states as stages.
 typedef struct { Shape shape; int loads, states, rules, budget; } Cabinet;
 
+// The largest cabinet of a shape.
+Cabinet largest(Shape shape);
+
 Tables tables_of(Cabinet c);
 size_t cells_of(const Tables *t);
 

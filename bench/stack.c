@@ -99,7 +99,7 @@ static void print_check_and_judge(void) {
 }
 
 static void print_calls(Shape shape) {
-    tables = tables_of((Cabinet){shape, HULMEIDE_MAX_LOADS, HULMEIDE_MAX_STATES, HULMEIDE_MAX_RULES, HULMEIDE_MAX_BUDGET});
+    tables = tables_of(largest(shape));
     printf("%s:", shape_names[shape]);
     print_line("plan", "plan", HULMEIDE_ACCEPTED);
     print_check_and_judge();
