@@ -14,8 +14,8 @@ static bool found(const TransitionList *list, Transition t) {
 
 // Rules that are all different. Their first numbers go round, so that each state or stage has as many as another; the mark or state and the
 // last number are random. A longer list begins with the shorter one.
-static void add_rules(TransitionList *list, int rules, int states, bool of_loads) {
-    srand(5);
+void add_rules(TransitionList *list, int rules, int states, bool of_loads, unsigned seed) {
+    srand(seed);
     while ((int)list->count < rules) {
         int j = (int)list->count;
         int label = of_loads ? rand() % 2 : 1 + rand() % states;
@@ -60,8 +60,8 @@ Tables tables_of(Cabinet c) {
     t.book.starts = (uint8_t)((1 << c.states) - 1);
     t.book.ends = t.book.starts & 0x55;
     t.budget = (uint16_t)c.budget;
-    add_rules(&t.book.load_rules, c.rules, c.states, true);
-    add_rules(&t.book.row_rules, c.rules, c.states, false);
+    add_rules(&t.book.load_rules, c.rules, c.states, true, 5);
+    add_rules(&t.book.row_rules, c.rules, c.states, false, 5);
     srand(6);
     for (int k = 0; k < c.loads; k++) {
         uint8_t parent = (uint8_t)parent_of(c.shape, k);

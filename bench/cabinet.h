@@ -20,6 +20,7 @@ typedef struct { Shape shape; int loads, states, rules, budget; } Cabinet;
 Cabinet largest(Shape shape);
 
 Tables tables_of(Cabinet c);
+void add_rules(TransitionList *list, int rules, int states, bool of_loads, unsigned seed);
 size_t cells_of(const Tables *t);
 
 // A state, a load rule and a row rule for each load, and the loads that are on. What stands past the last load is 0.

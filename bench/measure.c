@@ -96,7 +96,7 @@ static void print_answer(const Tables *t, const Outcome *out) {
 
 // ---- times
 
-static double seconds(void) {
+double seconds(void) {
     struct timespec t;
     clock_gettime(CLOCK_PROCESS_CPUTIME_ID, &t);
     return (double)t.tv_sec + 1e-9 * (double)t.tv_nsec;

@@ -4,7 +4,8 @@
 
 enum { PROVED, PLAIN_C, PLAIN_RUST, SAME_IDEAS, WAYS, ROUNDS = 30 };
 
-// The processor time of a plan, in seconds, over so many turns.
+// Processor time, in seconds: that of the program till now, and that of a plan, over so many turns.
+double seconds(void);
 double time_of(int way, Tables *t, int turns);
 
 // A table: its head, and a row with the best time of each way, in milliseconds, and the answer that all agree on.

@@ -1,0 +1,243 @@
+// A search for the slowest plan of the proved library: a hill climb over recipes for the largest cabinet.
+//
+//   worst SECONDS [SEED [NUMBER..]]
+//
+// The climb takes so many seconds of processor time, and goes by the seed alone, but for the times that it compares. It begins with the
+// recipe that the numbers are, or with one by chance. Last it prints the lines that enter the slowest cabinet, to be timed on a switch.
+#include "measure.h"
+#include <stdio.h>
+#include <stdlib.h>
+#include <string.h>
+
+// What a recipe's numbers are, and their ranges. Equal recipes have equal tables.
+enum { TREE, SIZE, PLACE, POWERS, TOP_POWER, WORTHS, TOP_WORTH, BOOK, END_STAGES, CHANCE, NUMBERS };
+enum { LATE, EARLY, ROWS, BALANCED, BUSHES, BROOM, TREES };
+enum { ANY, EQUAL, ORDERLY, KINDS };
+
+typedef struct { int numbers[NUMBERS]; } Recipe;
+
+static const struct { const char *name; int least, most; } ranges[NUMBERS] = {
+    [TREE] = {"tree", 0, TREES - 1},
+    [SIZE] = {"size", 1, HULMEIDE_MAX_LOADS - 1},
+    [PLACE] = {"place", 0, HULMEIDE_MAX_LOADS - 1},
+    [POWERS] = {"powers: 0 by chance up to the top, 1 all at the top, 2 powers of two up to the top, in turn", 0, KINDS - 1},
+    [TOP_POWER] = {"top power", 1, HULMEIDE_MAX_POWER},
+    [WORTHS] = {"worths: 0 by chance up to the top, 1 all at the top, 2 in proportion to the power", 0, KINDS - 1},
+    [TOP_WORTH] = {"top worth, of the greatest power where in proportion", 1, HULMEIDE_MAX_WORTH},
+    [BOOK] = {"book: 0 by chance, 1 even", 0, 1},
+    [END_STAGES] = {"end stages", 1, HULMEIDE_MAX_STAGES},
+    [CHANCE] = {"seed of what is by chance", 1, 9999},
+};
+
+static const char *const tree_names[TREES] = {
+    [LATE] = "each load below one of the `size` before it",
+    [EARLY] = "each load below one of the first `size`",
+    [ROWS] = "rows of `size` loads, each row below the load at `place` in the row before",
+    [BALANCED] = "`size` children for each load, level by level",
+    [BUSHES] = "a chain of `size` loads, the others below them in turn",
+    [BROOM] = "a chain of `size` loads, the others below its last",
+};
+
+// ---- the cabinet of a recipe
+
+static int lesser(int x, int y) {
+    return x < y ? x : y;
+}
+
+// The number of the parent of the load that comes after k others.
+static int parent_in(const Recipe *r, int k) {
+    int size = r->numbers[SIZE], row = (k - 1) / size;
+    switch (r->numbers[TREE]) {
+    case LATE:
+        return k - rand() % lesser(k, size);
+    case EARLY:
+        return 1 + rand() % lesser(k, size);
+    case ROWS:
+        return row == 0 ? 1 : 2 + (row - 1) * size + r->numbers[PLACE] % size;
+    case BALANCED:
+        return 1 + row;
+    case BUSHES:
+        return k < size ? k : 1 + (k - size) % size;
+    default:
+        return lesser(k, size);
+    }
+}
+
+static int power_in(const Recipe *r, int k) {
+    int top = r->numbers[TOP_POWER], digits = 0;
+    while (1 << digits <= top)
+        digits++;
+    return r->numbers[POWERS] == ANY ? rand() % (top + 1) : r->numbers[POWERS] == EQUAL ? top : 1 << k % digits;
+}
+
+static int worth_in(const Recipe *r, int power) {
+    int top = r->numbers[TOP_WORTH];
+    return r->numbers[WORTHS] == ANY ? rand() % (top + 1) : r->numbers[WORTHS] == EQUAL ? top : power * top / HULMEIDE_MAX_POWER;
+}
+
+// An even book: each state has two load rules with each mark, and each stage row rules for four states, after which the row stays there.
+static void add_even_rules(struct hulmeide_book *book) {
+    for (int j = 0; j < HULMEIDE_MAX_RULES; j++) {
+        int x = j % HULMEIDE_MAX_STATES, turn = j / HULMEIDE_MAX_STATES;
+        uint8_t from = (uint8_t)(1 + x), mark = (uint8_t)(turn % 2);
+        book->load_rules.items[j] = (Transition){from, mark, (uint8_t)(1 + (x + turn / 2) % HULMEIDE_MAX_STAGES)};
+        book->row_rules.items[j] = (Transition){from, (uint8_t)(1 + (x + turn) % HULMEIDE_MAX_STATES), from};
+    }
+    book->load_rules.count = book->row_rules.count = HULMEIDE_MAX_RULES;
+}
+
+static Tables cooked(const Recipe *r) {
+    Cabinet c = largest(RANDOM);
+    c.rules = 0;
+    Tables t = tables_of(c);
+    unsigned chance = (unsigned)r->numbers[CHANCE];
+    t.book.ends = (uint8_t)((1 << r->numbers[END_STAGES]) - 1);
+    if (r->numbers[BOOK] == 0) {
+        add_rules(&t.book.load_rules, HULMEIDE_MAX_RULES, c.states, true, chance);
+        add_rules(&t.book.row_rules, HULMEIDE_MAX_RULES, c.states, false, chance);
+    } else
+        add_even_rules(&t.book);
+    srand(chance);
+    for (int k = 0; k < c.loads; k++) {
+        int parent = k == 0 ? 0 : parent_in(r, k);
+        int power = power_in(r, k);
+        t.loads.items[k] = (Load){(uint8_t)parent, (uint16_t)power, (uint16_t)worth_in(r, power)};
+    }
+    return t;
+}
+
+// ---- the climb
+
+// The climb's own chances; the tables are made with those of rand.
+static unsigned chances;
+
+static int up_to(int least, int most) {
+    return least + (int)((unsigned)rand_r(&chances) % (unsigned)(most - least + 1));
+}
+
+static int any_number(int i) {
+    return up_to(ranges[i].least, ranges[i].most);
+}
+
+static Recipe any_recipe(void) {
+    Recipe r;
+    for (int i = 0; i < NUMBERS; i++)
+        r.numbers[i] = any_number(i);
+    return r;
+}
+
+// One to three numbers changed, to any or to the next one up or down.
+static Recipe changed(Recipe r) {
+    for (int changes = up_to(1, 3); changes > 0; changes--) {
+        int i = up_to(0, NUMBERS - 1);
+        int next = r.numbers[i] + (up_to(0, 1) ? 1 : -1);
+        r.numbers[i] = up_to(0, 1) || next < ranges[i].least || next > ranges[i].most ? any_number(i) : next;
+    }
+    return r;
+}
+
+static void print_recipe(const Recipe *r) {
+    for (int i = 0; i < NUMBERS; i++)
+        printf(" %d", r->numbers[i]);
+    printf("\n");
+    fflush(stdout);
+}
+
+static double lower(double x, double y) {
+    return x < y ? x : y;
+}
+
+// Is the new plan slower than the best one, whose lowest time till now is noted? Both are timed in turn for as long as it may be: other work
+// on the machine makes no plan quicker.
+static bool slower(Tables *new, Tables *best, double *best_time) {
+    double new_time = time_of(PROVED, new, 1);
+    for (int round = 0; round < 7 && new_time > *best_time; round++) {
+        *best_time = lower(*best_time, time_of(PROVED, best, 1));
+        new_time = lower(new_time, time_of(PROVED, new, 1));
+    }
+    if (new_time <= *best_time)
+        return false;
+    *best_time = new_time;
+    return true;
+}
+
+// Every tenth recipe tried is a new one by chance.
+static Recipe climbed(Recipe best, double till) {
+    Tables tables = cooked(&best);
+    double best_time = time_of(PROVED, &tables, 1);
+    int tried = 0;
+    for (; seconds() < till; tried++) {
+        Recipe r = up_to(0, 9) ? changed(best) : any_recipe();
+        Tables t = cooked(&r);
+        if (memcmp(&t, &tables, sizeof t) != 0 && slower(&t, &tables, &best_time)) {
+            best = r;
+            tables = t;
+            printf("%6.0f s %6d tried %8.3f ms:", seconds(), tried + 1, 1e3 * best_time);
+            print_recipe(&best);
+        }
+    }
+    printf("%d recipes tried\n", tried);
+    return best;
+}
+
+// ---- what is printed
+
+static void print_rules(const char *command, const TransitionList *list) {
+    for (size_t j = 0; j < list->count; j++)
+        printf("%s,%d,%d,%d\n", command, list->items[j].from, list->items[j].label, list->items[j].to);
+}
+
+static void print_marks(const char *command, uint8_t marks) {
+    for (int x = 1; x <= 8; x++)
+        if (marks >> (x - 1) & 1)
+            printf("%s,%d\n", command, x);
+}
+
+// The lines that enter these tables into a fresh planner, and ask for the plan.
+static void print_lines(const Tables *t) {
+    printf("book,%d,%d\n", t->book.states, t->book.stages);
+    print_marks("start", t->book.starts);
+    print_marks("end", t->book.ends);
+    print_rules("rule", &t->book.load_rules);
+    print_rules("row", &t->book.row_rules);
+    for (size_t k = 0; k < t->loads.count; k++)
+        printf("load,%d,%d,%d\n", t->loads.items[k].parent, t->loads.items[k].power, t->loads.items[k].worth);
+    printf("budget,%d\nplan\n", t->budget);
+}
+
+static void print_slowest(const Recipe *r) {
+    print_head("The slowest plan found, beside the trees of times: 8 states, 8 stages, 32 + 32 rules, budget 500", "tree", "loads");
+    print_row("random", HULMEIDE_MAX_LOADS, tables_of(largest(RANDOM)));
+    print_row("caterpillar", HULMEIDE_MAX_LOADS, tables_of(largest(CATERPILLAR)));
+    print_row("slowest", HULMEIDE_MAX_LOADS, cooked(r));
+    printf("\nIts tree: %s\n", tree_names[r->numbers[TREE]]);
+    for (int i = 0; i < NUMBERS; i++)
+        printf("%5d %s\n", r->numbers[i], ranges[i].name);
+    printf("Measured again by: worst 0 1");
+    print_recipe(r);
+    printf("\n");
+}
+
+// The words as numbers, in the place of the recipe's own. Is each in its range?
+static bool take_numbers(Recipe *r, int count, char **words) {
+    bool in_range = count == 0 || count == NUMBERS;
+    for (int i = 0; in_range && i < count; i++) {
+        r->numbers[i] = atoi(words[i]);
+        in_range = r->numbers[i] >= ranges[i].least && r->numbers[i] <= ranges[i].most;
+    }
+    return in_range;
+}
+
+int main(int count, char **words) {
+    chances = count > 2 ? (unsigned)atoi(words[2]) : 1;
+    Recipe r = any_recipe();
+    if (count < 2 || !take_numbers(&r, count > 3 ? count - 3 : 0, words + lesser(count, 3))) {
+        printf("worst SECONDS [SEED [NUMBER..]], with %d numbers in their ranges\n", NUMBERS);
+        return 1;
+    }
+    r = climbed(r, seconds() + atof(words[1]));
+    print_slowest(&r);
+    Tables t = cooked(&r);
+    print_lines(&t);
+    return 0;
+}
