@@ -43,5 +43,8 @@ static inline int next_sibling(const Tables *t, int k) {
     return first_after(t, k, t->loads.items[k].parent);
 }
 
+// The cells filled; same_ideas.c.
+void same_ideas_fill(const Tables *t, uint32_t *work);
+
 // The run read back from the filled cells; choice.c.
 Outcome chosen(const Tables *t, uint32_t *work);

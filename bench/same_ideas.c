@@ -63,13 +63,17 @@ static void fill_stretch(const Tables *t, uint32_t *work, int k, bool of_loads, 
     memcpy(cells, strip, (size_t)width_of(t) * sizeof *cells);
 }
 
-Outcome same_ideas_plan(const Tables *t, uint32_t *work) {
+void same_ideas_fill(const Tables *t, uint32_t *work) {
     for (int k = (int)t->loads.count - 1; k >= 0; k--) {
         for (int state = 1; state <= t->book.states; state++)
             fill_stretch(t, work, k, true, state);
         for (int stage = 1; stage <= t->book.stages; stage++)
             fill_stretch(t, work, k, false, stage);
     }
+}
+
+Outcome same_ideas_plan(const Tables *t, uint32_t *work) {
+    same_ideas_fill(t, work);
     Outcome out = chosen(t, work);
     memset(work, 0, cells_of(t) * sizeof *work);
     return out;

@@ -4,6 +4,7 @@
 //
 // The climb takes so many seconds of processor time, and goes by the seed alone, but for the times that it compares. It begins with the
 // recipe that the numbers are, or with one by chance. Last it prints the lines that enter the slowest cabinet, to be timed on a switch.
+#include "cells.h"
 #include "measure.h"
 #include <stdio.h>
 #include <stdlib.h>
@@ -147,8 +148,8 @@ static double lower(double x, double y) {
     return x < y ? x : y;
 }
 
-// Is the new plan slower than the best one, whose lowest time till now is noted? Both are timed in turn for as long as it may be: other work
-// on the machine makes no plan quicker.
+// Is the new plan slower than the best one, whose lowest time till now is noted? Both are timed in turn, until the new one has been quicker
+// once: other work on the machine makes no plan quicker.
 static bool slower(Tables *new, Tables *best, double *best_time) {
     double new_time = time_of(PROVED, new, 1);
     for (int round = 0; round < 7 && new_time > *best_time; round++) {
@@ -180,6 +181,50 @@ static Recipe climbed(Recipe best, double till) {
     return best;
 }
 
+// ---- joins
+//
+// Nearly all the time goes into joining an allowance for a branch, at a step of the branch, with one for the rest of its row.
+
+// The joins by one row rule after a branch with these cells: each step is joined with what is left of each allowance from there on.
+static size_t joins_after(const uint32_t *branch, int width) {
+    size_t joins = 0;
+    for (int c = 0; c < width; c++)
+        if (branch[c] != (c == 0 ? 0 : branch[c - 1]))
+            joins += (size_t)(width - c);
+    return joins;
+}
+
+static size_t joins_of(const Tables *t) {
+    static uint32_t work[HULMEIDE_MAX_CELLS];
+    size_t joins = 0;
+    same_ideas_fill(t, work);
+    for (int k = 0; k < (int)t->loads.count; k++)
+        for (size_t j = 0; j < t->book.row_rules.count && next_sibling(t, k) != NONE; j++)
+            joins += joins_after(branch_cells(t, work, k, t->book.row_rules.items[j].label), width_of(t));
+    return joins;
+}
+
+// The most that there can be of them where the branch has so many loads: a step for each of its sets, since each is to another worth.
+static size_t most_joins_after(int loads) {
+    size_t width = HULMEIDE_MAX_BUDGET + 1, joins = 0;
+    for (size_t c = 0; c < width && c < (size_t)1 << loads; c++)
+        joins += width - c;
+    return joins;
+}
+
+// The most in any cabinet: by one row rule trees[n] in a tree of n loads, and rows[n] in a row of trees that have n loads together.
+static size_t most_joins(void) {
+    size_t trees[HULMEIDE_MAX_LOADS + 1] = {0}, rows[HULMEIDE_MAX_LOADS + 1] = {0};
+    for (int n = 1; n <= HULMEIDE_MAX_LOADS; n++) {
+        trees[n] = rows[n] = rows[n - 1];
+        for (int first = 1; first < n; first++) {
+            size_t joins = trees[first] + most_joins_after(first) + rows[n - first];
+            rows[n] = joins > rows[n] ? joins : rows[n];
+        }
+    }
+    return HULMEIDE_MAX_RULES * trees[HULMEIDE_MAX_LOADS];
+}
+
 // ---- what is printed
 
 static void print_rules(const char *command, const TransitionList *list) {
@@ -205,12 +250,13 @@ static void print_lines(const Tables *t) {
     printf("budget,%d\nplan\n", t->budget);
 }
 
-static void print_slowest(const Recipe *r) {
+static void print_slowest(const Recipe *r, Tables *t) {
     print_head("The slowest plan found, beside the trees of times: 8 states, 8 stages, 32 + 32 rules, budget 500", "tree", "loads");
     print_row("random", HULMEIDE_MAX_LOADS, tables_of(largest(RANDOM)));
     print_row("caterpillar", HULMEIDE_MAX_LOADS, tables_of(largest(CATERPILLAR)));
-    print_row("slowest", HULMEIDE_MAX_LOADS, cooked(r));
-    printf("\nIts tree: %s\n", tree_names[r->numbers[TREE]]);
+    print_row("slowest", HULMEIDE_MAX_LOADS, *t);
+    printf("\nIts joins: %zu, and in no cabinet more than %zu\n", joins_of(t), most_joins());
+    printf("Its tree: %s\n", tree_names[r->numbers[TREE]]);
     for (int i = 0; i < NUMBERS; i++)
         printf("%5d %s\n", r->numbers[i], ranges[i].name);
     printf("Measured again by: worst 0 1");
@@ -236,8 +282,8 @@ int main(int count, char **words) {
         return 1;
     }
     r = climbed(r, seconds() + atof(words[1]));
-    print_slowest(&r);
     Tables t = cooked(&r);
+    print_slowest(&r, &t);
     print_lines(&t);
     return 0;
 }
