@@ -148,32 +148,30 @@ static double lower(double x, double y) {
     return x < y ? x : y;
 }
 
-// Is the new plan slower than the best one, whose lowest time till now is noted? Both are timed in turn, until the new one has been quicker
-// once: other work on the machine makes no plan quicker.
-static bool slower(Tables *new, Tables *best, double *best_time) {
-    double new_time = time_of(PROVED, new, 1);
-    for (int round = 0; round < 7 && new_time > *best_time; round++) {
-        *best_time = lower(*best_time, time_of(PROVED, best, 1));
-        new_time = lower(new_time, time_of(PROVED, new, 1));
+// Is the new plan slower than the best one, by a hundredth at least? Both are timed in turn, so that other work on the machine meets both,
+// and the best of some rounds counts; a plan that is far quicker has one round.
+static bool slower(Tables *new, Tables *best, double *new_time) {
+    double best_time = time_of(PROVED, best, 1);
+    *new_time = time_of(PROVED, new, 1);
+    for (int round = 1; round < 6 && *new_time > 0.9 * best_time; round++) {
+        best_time = lower(best_time, time_of(PROVED, best, 1));
+        *new_time = lower(*new_time, time_of(PROVED, new, 1));
     }
-    if (new_time <= *best_time)
-        return false;
-    *best_time = new_time;
-    return true;
+    return *new_time > 1.01 * best_time;
 }
 
 // Every tenth recipe tried is a new one by chance.
 static Recipe climbed(Recipe best, double till) {
     Tables tables = cooked(&best);
-    double best_time = time_of(PROVED, &tables, 1);
     int tried = 0;
     for (; seconds() < till; tried++) {
         Recipe r = up_to(0, 9) ? changed(best) : any_recipe();
         Tables t = cooked(&r);
-        if (memcmp(&t, &tables, sizeof t) != 0 && slower(&t, &tables, &best_time)) {
+        double time;
+        if (memcmp(&t, &tables, sizeof t) != 0 && slower(&t, &tables, &time)) {
             best = r;
             tables = t;
-            printf("%6.0f s %6d tried %8.3f ms:", seconds(), tried + 1, 1e3 * best_time);
+            printf("%6.0f s %6d tried %8.3f ms:", seconds(), tried + 1, 1e3 * time);
             print_recipe(&best);
         }
     }
