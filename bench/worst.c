@@ -87,7 +87,7 @@ static void add_even_rules(struct hulmeide_book *book) {
     book->load_rules.count = book->row_rules.count = HULMEIDE_MAX_RULES;
 }
 
-static Tables cooked(const Recipe *r) {
+static Tables tables_by(const Recipe *r) {
     Cabinet c = largest(RANDOM);
     c.rules = 0;
     Tables t = tables_of(c);
@@ -162,11 +162,11 @@ static bool slower(Tables *new, Tables *best, double *new_time) {
 
 // Every tenth recipe tried is a new one by chance.
 static Recipe climbed(Recipe best, double till) {
-    Tables tables = cooked(&best);
+    Tables tables = tables_by(&best);
     int tried = 0;
     for (; seconds() < till; tried++) {
         Recipe r = up_to(0, 9) ? changed(best) : any_recipe();
-        Tables t = cooked(&r);
+        Tables t = tables_by(&r);
         double time;
         if (memcmp(&t, &tables, sizeof t) != 0 && slower(&t, &tables, &time)) {
             best = r;
@@ -280,7 +280,7 @@ int main(int count, char **words) {
         return 1;
     }
     r = climbed(r, seconds() + atof(words[1]));
-    Tables t = cooked(&r);
+    Tables t = tables_by(&r);
     print_slowest(&r, &t);
     print_lines(&t);
     return 0;
