@@ -134,7 +134,7 @@ def main():
         passed += compared(args.programs, printed(args.line_program, data), data, name)
     tests = [('answers at once', program, answers_at_once(program)) for program in [args.line_program] + args.programs]
     if args.interrupted:
-        tests += [('goes on when interrupted', program, endures(program, args.interrupted)) for program in args.programs]
+        tests += [('goes on when interrupted', program, endures(program, args.interrupted)) for program in [args.line_program] + args.programs]
     if args.ports:
         tests += [('switches ports, ' + name, args.ports, switches_ports(args.ports, data)) for name, data in made]
     for what, program, held in tests:
