@@ -1,6 +1,7 @@
--- Lists, as every other crate needs them: laid out in arrays, tested, and searched for the greatest value.
+-- Lists, as every other crate needs them: laid out in arrays, tested, searched for the greatest value, and compared element by element.
 -- The papers' definitions are built from them; each file names what it is for.
 pub mod Tests
 pub mod Arrays
 pub mod Places
 pub mod Argmax
+pub mod Pairs
