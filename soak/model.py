@@ -1,4 +1,4 @@
-"""A plain model of the planner's tables, straight from paper 01: what each line changes, and the refusals that the tables settle.
+"""A plain model of the planner's tables, straight from papers 01 and 02: what each line changes, and the refusals that the tables settle.
 
 It does no planning and shares no code with the product, nor with tests/oracle.py; the limits are those of the header, by tests/limits.py.
 The limits and the steps that wrong.py gets wrong on purpose are attributes and methods of their own.
@@ -48,8 +48,6 @@ class Model:
     def number(self, field):
         """The value of a field that is a number, or None."""
         if not 1 <= len(field) <= self.most_digits:
-            return None
-        if field[0] == ord('0') and len(field) > 1:
             return None
         value = 0
         for byte in field:

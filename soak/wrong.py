@@ -22,11 +22,56 @@ class FewerDigits(Model):
     most_digits = Model.most_digits - 1
 
 
-class LeadingZero(Model):
-    """A number may begin with a zero."""
+def padded(field):
+    """Has a field a zero in front of another byte?"""
+    return len(field) > 1 and field.startswith(b'0')
+
+
+def unpadded(field):
+    """A field without such zeros."""
+    return field.lstrip(b'0') or field[:1]
+
+
+class ZerosBarred(Model):
+    """A number may have no zero in front."""
 
     def number(self, field):
-        return super().number(field.lstrip(b'0') or field[:1])
+        return None if padded(field) else super().number(field)
+
+
+class PaddedZeroBarred(Model):
+    """The number 0 may have no zero in front."""
+
+    def number(self, field):
+        return None if padded(field) and not field.strip(b'0') else super().number(field)
+
+
+class ZerosNotCounted(Model):
+    """Zeros in front of a number count as no digits."""
+
+    def number(self, field):
+        return super().number(unpadded(field))
+
+
+class ZerosBarredInOneWord(Model):
+    """The numbers of `worth` may have no zero in front."""
+
+    def read(self, line):
+        return None if line.startswith(b'worth,') and any(map(padded, line.split(b','))) else super().read(line)
+
+
+class ZerosInFrontOfBits(Model):
+    """Zeros in front of the bits of a check count as no bits."""
+
+    def bits(self, field):
+        return super().bits(field[-len(self.loads):] if field and not field[:-len(self.loads)].strip(b'0') else field)
+
+
+class ZerosNotInTheLength(Model):
+    """Zeros in front of a number do not count to the length of a line."""
+
+    def take(self, line):
+        return super().take(b','.join(map(unpadded, line.split(b','))) if len(line) > self.most_bytes else line)
 
 
 class EmptyFieldIsZero(Model):

@@ -1,5 +1,5 @@
-"""Paper 01 by plain enumeration: every run of every set, straight from the text. It shares no code with the product, and with the header of
-the product only the limits.
+"""Paper 01 and request One of paper 02 by plain enumeration: every run of every set, straight from the text. It shares no code with the
+product, and with the header of the product only the limits.
 
 It is slow on purpose. Trees of up to five or six loads and small books are what it is for.
 """
@@ -8,7 +8,7 @@ import re
 from limits import CELLS, LINE_BYTES, MAX_BUDGET, MAX_DIGITS, MAX_LOADS, MAX_POWER, MAX_RULES, MAX_STAGES, MAX_STATES, MAX_WORTH
 
 WORDS = {'clear': 0, 'book': 2, 'start': 1, 'end': 1, 'rule': 3, 'row': 3, 'load': 3, 'power': 2, 'worth': 2, 'budget': 1, 'plan': 0}
-NUMBER = re.compile(rb'(0|[1-9][0-9]{0,%d})\Z' % (MAX_DIGITS - 1))
+NUMBER = re.compile(rb'[0-9]{1,%d}\Z' % MAX_DIGITS)
 BITS = re.compile(rb'[01]+\Z')
 
 

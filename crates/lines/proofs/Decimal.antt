@@ -1,16 +1,16 @@
 -- A number in decimal: its digits, their count, and that it is read back. Assumes nothing.
 use Prim.Native.Nat.{ℕ, zero, suc, _+_, _-_, _*_, _/_, _%_, _^_, _≤_, _<_}
 use mathlib.Core.Path.{_≡_, refl, sym, subst, _∙_}
-use mathlib.Core.Bool.{Bool, true, false, _||_, not}
+use mathlib.Core.Bool.{Bool, true, false}
 use mathlib.Core.List.{List, [], _∷_, _++_}
 use mathlib.Core.Logic.{_⊎_, inl, inr}
 use native.Mathlib.Nat.{pow-suc}
 use native.Mathlib.Omega.{arith}
-use borrow.Author.Tests.{lt-ltb, le-ltb, le-leb, ne-eqb, ltb-false}
-use lib.Dec.{ltb, eqb, lit≤}
-use lib.ListN.{length, getD, length-append, List·getD-append}
+use borrow.Author.Tests.{lt-ltb, le-ltb, le-leb, leb-true, ltb-false}
+use lib.Dec.{ltb, leb, lit≤}
+use lib.ListN.{length, length-append}
 use Rattle.lists.specs.Tests.{every}
-use Rattle.lists.proofs.Bools.{or-true, below-or}
+use Rattle.lists.proofs.Bools.{and-left, and-right, below-or}
 use Rattle.lists.proofs.Tests.{every-snoc}
 use Rattle.lines.specs.Text.{nought, decimalTo, decimal}
 use Rattle.lines.specs.Grammar.{mostDigits, isDigit, isNumber, valueFrom, value}
@@ -88,16 +88,11 @@ decimal-length k n p h = by-digits (λ n f. (k : ℕ) → 1 ≤ k → n < 10 ^ k
     step n s ih (suc zero) p h = absurd (omega arith)
     step n s ih (suc (suc k)) p h = omega (arith, length-append (decimal (n / 10)) ((nought + n % 10) ∷ []), ih (suc k) (omega arith) (omega (arith, pow-suc 10 (suc k))))
 
--- ---- the first is no 0, unless the number is
-decimal-first : (n : ℕ) → 0 < n → eqb (getD (decimal n) 0 0) nought ≡ false
-decimal-first = by-digits (λ n f. 0 < n → eqb (getD f 0 0) nought ≡ false) (λ n s h. ne-eqb (nought + n) nought (λ e. absurd (omega arith)))
-    (λ n s ih h. rw (List·getD-append (decimal (n / 10)) ((nought + n % 10) ∷ []) 0 0 (decimal-some (n / 10))) (ih (omega arith)))
-
 -- a number of few enough digits is in form
 pub decimal-form : (n : ℕ) → n < 10 ^ mostDigits → isNumber (decimal n) ≡ true
 unfolding isNumber
-decimal-form n h = rw (le-leb 1 (length (decimal n)) (decimal-some n), le-leb (length (decimal n)) mostDigits (decimal-length mostDigits n (lit≤ tt) h), decimal-digits n) (go (below-or 0 n))
-  where
-    go : (0 < n) ⊎ (n ≤ 0) → eqb (length (decimal n)) 1 || not (eqb (getD (decimal n) 0 0) nought) ≡ true
-    go (inl p) = rw (decimal-first n p) (or-true (eqb (length (decimal n)) 1))
-    go (inr p) = rw (decimal-one n (omega arith))
+decimal-form n h = rw (le-leb 1 (length (decimal n)) (decimal-some n), le-leb (length (decimal n)) mostDigits (decimal-length mostDigits n (lit≤ tt) h)) (decimal-digits n)
+
+-- ---- a digit
+pub digit-range : (b : ℕ) → isDigit b ≡ true → (nought ≤ b) × (b ≤ nought + 9)
+digit-range b h = (leb-true nought b (and-left (leb nought b) (leb b (nought + 9)) h), leb-true b (nought + 9) (and-right (leb nought b) (leb b (nought + 9)) h))

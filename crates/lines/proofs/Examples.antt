@@ -30,11 +30,17 @@ others : map reads ("clear" ∷ "power,64,99999" ∷ "worth,0,1000" ∷ "check,1
 unfolding same fields isNumber valueFrom isBits joinedFrom findForm parse every withMark joined
 others = refl
 
--- each of these breaks the form: words, blanks, signs, leading zeros, a sixth digit, empty fields, wrong counts, bits that are none
+-- "The new handheld keypad sends `load,001,015,040`": zeros in front, still within five digits; the bits of a check are no number
+keypad : map reads ("load,001,015,040" ∷ "start,00001" ∷ "budget,00000" ∷ "budget,00501" ∷ "power,00001,00000" ∷ "check,0001" ∷ [])
+    ≡ Change (Load 1 15 40) ∷ Change (Start 1) ∷ Change (Budget 0) ∷ Change (Budget 501) ∷ Change (Power 1 0) ∷ Check (record { 0 = 8 }) 4 ∷ []
+unfolding same fields isNumber valueFrom isBits joinedFrom findForm parse every withMark joined
+keypad = refl
+
+-- each of these breaks the form: words, blanks, signs, a sixth digit though it be a zero in front, empty fields, wrong counts, bits that are none
 unsound : List String
 unsound =
     "" ∷ "," ∷ "Plan" ∷ "plans" ∷ "pla" ∷ "plan," ∷ "clear," ∷ " plan" ∷ "plan " ∷ "plan\n" ∷ "plan\r" ∷ ",plan" ∷ "clear,1" ∷ "save" ∷ "budgets,1"
-    ∷ "budget" ∷ "budget," ∷ "budget,00" ∷ "budget,01" ∷ "budget,000" ∷ "budget,100000" ∷ "budget,000000" ∷ "budget,-1" ∷ "budget,+1" ∷ "budget,1.0" ∷ "budget,1a" ∷ "budget, 1"
+    ∷ "budget" ∷ "budget," ∷ "budget,100000" ∷ "budget,000000" ∷ "budget,000001" ∷ "budget,-1" ∷ "budget,+1" ∷ "budget,1.0" ∷ "budget,1a" ∷ "budget, 1"
     ∷ "budget,1 " ∷ "budget,501," ∷ "budget,1,2" ∷ "book,1" ∷ "book,1,2,3" ∷ "book,,2" ∷ "load,0,501,x" ∷ "load,0,1" ∷ "load,0,1,1,0"
     ∷ "check" ∷ "check," ∷ "check,012" ∷ "check,0,1" ∷ "check,01," ∷ "check,,01" ∷ []
 

@@ -2,6 +2,7 @@
 pub mod Examples
 pub mod Before
 pub mod Words
+pub mod Decimal
 pub mod Fields
 pub mod Numbers
 pub mod Bits
@@ -9,7 +10,6 @@ pub mod Codes
 pub mod Rows
 pub mod Commands
 pub mod Sizes
-pub mod Decimal
 pub mod Answers
 pub mod Wrote
 pub mod Taking

@@ -1,112 +1,79 @@
 -- The loops that read numbers find what the fields hold. Assumes nothing.
 use Prim.Native.Nat.{ℕ, suc, _+_, _-_, _*_, _^_, _≤_, _<_}
 use mathlib.Core.Path.{_≡_, refl, sym, ap, ap₂, _∙_}
-use mathlib.Core.Bool.{Bool, true, false, _&&_, _||_, not}
+use mathlib.Core.Bool.{Bool, true, false, _&&_}
 use mathlib.Core.List.{List, [], _∷_, _++_, map, append-nil}
 use native.Mathlib.Nat.{zero-add, pow-suc, pow-le-pow-right}
 use native.Mathlib.Numerals.{add-one}
 use native.Mathlib.Omega.{arith}
-use borrow.Author.Tests.{leb-true, le-leb, lt-leb, lt-ltb, le-ltb, ltb-true, ltb-false, eqb-true, eqb-false, ne-eqb}
-use lib.Dec.{leb, ltb, eqb, lit<}
+use borrow.Author.Tests.{le-leb, lt-leb, lt-ltb, le-ltb, ltb-true, ltb-false}
+use lib.Dec.{leb, ltb, lit<}
 use lib.ListN.{length, set, drop, getD, replicate}
 use lib.Seq.{append-snoc}
 use Rattle.lists.specs.Tests.{pick, every}
 use Rattle.lists.specs.Arrays.{laid}
-use Rattle.lists.proofs.Bools.{and-left, and-right, and-false, or-true}
+use Rattle.lists.proofs.Bools.{and-left, and-right, and-false}
 use Rattle.lists.proofs.Arrays.{laid-snoc, length-snoc}
 use Rattle.lines.specs.declared.reading.Numbers.{Numbers}
 use Rattle.lines.specs.Text.{comma, nought}
 use Rattle.lines.specs.Grammar.{onFirst, fields, mostDigits, isDigit, isNumber, valueFrom, value}
 use Rattle.lines.specs.Reading.{fieldsAfter, mostNumbers, mayFollow, noNumbers, someNumbers, numbersIn}
+use Rattle.lines.proofs.Decimal.{digit-range}
 use Rattle.lines.proofs.Fields.{Cons, cons, fields-cons, fields-end, fields-comma, fields-byte}
 
--- ---- a field, with d digits and the value v read so far: may it go on so to its end?
-good : ℕ → ℕ → List ℕ → Bool
-good d v [] = ltb 0 d
-good d v (b ∷ bs) = mayFollow d v b && good (d + 1) (v * 10 + (b - nought)) bs
+-- ---- a field, with d digits read so far: may it go on so to its end?
+good : ℕ → List ℕ → Bool
+good d [] = ltb 0 d
+good d (b ∷ bs) = mayFollow d b && good (d + 1) bs
 
--- past a first digit that is not 0: no more than five, all digits
-good-on : (d v : ℕ) (f : List ℕ) → 0 < d → 0 < v → d ≤ mostDigits → good d v f ≡ leb (d + length f) mostDigits && every isDigit f
+-- it may if there are one to five digits in all, and nothing else
+good-on : (d : ℕ) (f : List ℕ) → d ≤ mostDigits → good d f ≡ leb 1 (d + length f) && leb (d + length f) mostDigits && every isDigit f
 unfolding good every
-good-on d v [] a p l = rw (lt-ltb 0 d a, le-leb (d + 0) mostDigits (omega arith))
-good-on d v (b ∷ bs) a p l = go (ltb d mostDigits) refl (good-on (d + 1) (v * 10 + (b - nought)) bs (omega arith) (omega arith))
+good-on d [] l = let n : d + 0 ≡ d = omega arith in rw (n, le-leb d mostDigits l) (end (ltb 0 d))
   where
-    swap : (x z w : Bool) → x && true && true && (z && w) ≡ z && (x && w)
-    swap true true w = refl
-    swap true false w = refl
+    end : (x : Bool) → x ≡ x && true && true
+    end true = refl
+    end false = refl
+good-on d (b ∷ bs) l = rw (le-leb 1 (d + suc (length bs)) (omega arith)) (go (ltb d mostDigits) refl (good-on (d + 1) bs))
+  where
+    n : d + 1 + length bs ≡ d + suc (length bs)
+    n = omega arith
+
+    swap : (x z w : Bool) → x && true && (z && w) ≡ z && (x && w)
+    swap true z w = refl
     swap false true w = refl
     swap false false w = refl
 
-    stop : (x z w : Bool) → x && false && z && w ≡ false
-    stop true z w = refl
-    stop false z w = refl
+    stop : (x w : Bool) → x && false && w ≡ false
+    stop true w = refl
+    stop false w = refl
 
-    go : (t : Bool) → ltb d mostDigits ≡ t → (d + 1 ≤ mostDigits → good (d + 1) (v * 10 + (b - nought)) bs ≡ leb (d + 1 + length bs) mostDigits && every isDigit bs)
-        → mayFollow d v b && good (d + 1) (v * 10 + (b - nought)) bs ≡ leb (d + suc (length bs)) mostDigits && (isDigit b && every isDigit bs)
+    go : (t : Bool) → ltb d mostDigits ≡ t
+        → (d + 1 ≤ mostDigits → good (d + 1) bs ≡ leb 1 (d + 1 + length bs) && leb (d + 1 + length bs) mostDigits && every isDigit bs)
+        → isDigit b && t && good (d + 1) bs ≡ leb (d + suc (length bs)) mostDigits && (isDigit b && every isDigit bs)
     go true e ih =
-        let n : d + 1 + length bs ≡ d + suc (length bs) = omega arith in
-        rw (e, lt-ltb 0 v p, ne-eqb d 0 (λ z. absurd (omega arith)), ih (omega (arith, ltb-true d mostDigits e)), n) (swap (isDigit b) (leb (d + suc (length bs)) mostDigits) (every isDigit bs))
-    go false e ih =
-        rw (e, lt-leb (d + suc (length bs)) mostDigits (omega (arith, ltb-false d mostDigits e))) (stop (isDigit b) (eqb d 0 || ltb 0 v) (good (d + 1) (v * 10 + (b - nought)) bs))
-
--- past a first 0: nothing
-good-nought : (f : List ℕ) → good 1 0 f ≡ eqb (length f) 0
-unfolding good
-good-nought [] = refl
-good-nought (b ∷ bs) = rw (ne-eqb (suc (length bs)) 0 (λ e. absurd (omega arith))) (go (isDigit b))
-  where
-    go : (x : Bool) → x && true && false && good (1 + 1) (0 * 10 + (b - nought)) bs ≡ false
-    go true = refl
-    go false = refl
+        rw (ih (omega (arith, ltb-true d mostDigits e)), n, le-leb 1 (d + suc (length bs)) (omega arith)) (swap (isDigit b) (leb (d + suc (length bs)) mostDigits) (every isDigit bs))
+    go false e ih = rw (lt-leb (d + suc (length bs)) mostDigits (omega (arith, ltb-false d mostDigits e))) (stop (isDigit b) (good (d + 1) bs))
 
 -- a whole field is good exactly if it is a number
-good-number : (f : List ℕ) → good 0 0 f ≡ isNumber f
-unfolding good isNumber every
-good-number [] = refl
-good-number (b ∷ bs) = go (eqb b nought) refl (isDigit b) refl
-  where
-    n : ℕ
-    n = length bs
-
-    alone : (cs : List ℕ) → eqb (length cs) 0 ≡ leb (suc (length cs)) mostDigits && every isDigit cs && (eqb (suc (length cs)) 1 || false)
-    alone [] = refl
-    alone (c ∷ cs) =
-        rw (ne-eqb (suc (length cs)) 0 (λ e. absurd (omega arith)), ne-eqb (suc (suc (length cs))) 1 (λ e. absurd (omega arith)))
-        (sym (and-false (leb (suc (suc (length cs))) mostDigits && every isDigit (c ∷ cs))))
-
-    rest : leb (suc n) mostDigits && every isDigit bs ≡ leb (suc n) mostDigits && every isDigit bs && (eqb (suc n) 1 || true)
-    rest = rw (or-true (eqb (suc n) 1)) (last (leb (suc n) mostDigits) (every isDigit bs))
-      where
-        last : (x y : Bool) → x && y ≡ x && y && true
-        last true true = refl
-        last true false = refl
-        last false y = refl
-
-    go : (t : Bool) → eqb b nought ≡ t → (u : Bool) → isDigit b ≡ u
-        → mayFollow 0 0 b && good 1 (0 + (b - nought)) bs ≡ leb 1 (suc n) && leb (suc n) mostDigits && (isDigit b && every isDigit bs) && (eqb (suc n) 1 || not (eqb b nought))
-    go true e u d = rw (eqb-true b nought e, le-leb 1 (suc n) (omega arith)) (good-nought bs ∙ alone bs)
-    go false e true d =
-        let low = and-left (leb nought b) (leb b (nought + 9)) d in
-        let z : b ≡ nought → ⊥ = eqb-false b nought e in
-        let one : 1 + n ≡ suc n = omega arith in
-        rw (d, le-leb 1 (suc n) (omega arith), e)
-        (good-on 1 (0 + (b - nought)) bs (omega arith) (omega (arith, leb-true nought b low)) (omega arith) ∙ rw one rest)
-    go false e false d = rw (d, le-leb 1 (suc n) (omega arith), and-false (leb (suc n) mostDigits))
+good-number : (f : List ℕ) → good 0 f ≡ isNumber f
+unfolding isNumber
+good-number f = good-on 0 f (omega arith) ∙ rw zero-add
 
 -- ---- what the fields from one on give, n numbers of at most m being read, and of this field d digits with the value v
 pub collect : (m n : ℕ) → List ℕ → ℕ → ℕ → List (List ℕ) → Numbers
 collect m n vs d v [] = noNumbers
-collect m n vs d v (f ∷ []) = pick (good d v f && ltb n m) (someNumbers (n + 1) (set vs n (valueFrom v f))) noNumbers
-collect m n vs d v (f ∷ g ∷ fs) = pick (good d v f && ltb n m) (collect m (n + 1) (set vs n (valueFrom v f)) 0 0 (g ∷ fs)) noNumbers
+collect m n vs d v (f ∷ []) = pick (good d f && ltb n m) (someNumbers (n + 1) (set vs n (valueFrom v f))) noNumbers
+collect m n vs d v (f ∷ g ∷ fs) = pick (good d f && ltb n m) (collect m (n + 1) (set vs n (valueFrom v f)) 0 0 (g ∷ fs)) noNumbers
 
 -- a field ends, and others follow
 collect-more : (m n : ℕ) (vs : List ℕ) (d v : ℕ) (f : List ℕ) (fs : List (List ℕ)) → Cons fs
-    → collect m n vs d v (f ∷ fs) ≡ pick (good d v f && ltb n m) (collect m (n + 1) (set vs n (valueFrom v f)) 0 0 fs) noNumbers
+    → collect m n vs d v (f ∷ fs) ≡ pick (good d f && ltb n m) (collect m (n + 1) (set vs n (valueFrom v f)) 0 0 fs) noNumbers
 unfolding collect
 collect-more m n vs d v f fs (cons g gs) = refl
 
 -- a byte of a field
-collect-byte : (m n : ℕ) (vs : List ℕ) (d v b : ℕ) (u : Bool) → mayFollow d v b ≡ u → (fs : List (List ℕ)) → Cons fs
+collect-byte : (m n : ℕ) (vs : List ℕ) (d v b : ℕ) (u : Bool) → mayFollow d b ≡ u → (fs : List (List ℕ)) → Cons fs
     → collect m n vs d v (onFirst b fs) ≡ pick u (collect m n vs (d + 1) (v * 10 + (b - nought)) fs) noNumbers
 unfolding collect good valueFrom
 collect-byte m n vs d v b true e fs (cons f []) = rw e
@@ -124,13 +91,13 @@ module _ (m : ℕ) (s : List ℕ) (i n : ℕ) (vs : List ℕ) (d v : ℕ) where
   from = collect m n vs d v (fields (drop i s))
 
   module _ (h : i < length s) (k : getD s i 0 ≡ comma → ⊥) where
-    turn : (u : Bool) → mayFollow d v (getD s i 0) ≡ u → from ≡ pick u (collect m n vs (d + 1) (v * 10 + (getD s i 0 - nought)) (fields (drop (i + 1) s))) noNumbers
+    turn : (u : Bool) → mayFollow d (getD s i 0) ≡ u → from ≡ pick u (collect m n vs (d + 1) (v * 10 + (getD s i 0 - nought)) (fields (drop (i + 1) s))) noNumbers
     turn u e = ap (collect m n vs d v) (fields-byte s i h k) ∙ collect-byte m n vs d v (getD s i 0) u e (fields (drop (i + 1) s)) (fields-cons (drop (i + 1) s))
 
-    pub digit : mayFollow d v (getD s i 0) ≡ true → from ≡ collect m n vs (d + 1) (v * 10 + (getD s i 0 - nought)) (fields (drop (i + 1) s))
+    pub digit : mayFollow d (getD s i 0) ≡ true → from ≡ collect m n vs (d + 1) (v * 10 + (getD s i 0 - nought)) (fields (drop (i + 1) s))
     digit e = turn true e
 
-    pub bad : mayFollow d v (getD s i 0) ≡ false → from ≡ noNumbers
+    pub bad : mayFollow d (getD s i 0) ≡ false → from ≡ noNumbers
     bad e = turn false e
 
   ended : i < length s → getD s i 0 ≡ comma → from ≡ pick (ltb 0 d && ltb n m) (collect m (n + 1) (set vs n v) 0 0 (fields (drop (i + 1) s))) noNumbers
@@ -158,8 +125,8 @@ module _ (m : ℕ) (s : List ℕ) (i n : ℕ) (vs : List ℕ) (d v : ℕ) where
 full : (m n : ℕ) (vs : List ℕ) → m ≤ n → (fs : List (List ℕ)) → collect m n vs 0 0 fs ≡ noNumbers
 unfolding collect
 full m n vs h [] = refl
-full m n vs h (f ∷ []) = rw (le-ltb n m h, and-false (good 0 0 f))
-full m n vs h (f ∷ g ∷ fs) = rw (le-ltb n m h, and-false (good 0 0 f))
+full m n vs h (f ∷ []) = rw (le-ltb n m h, and-false (good 0 f))
+full m n vs h (f ∷ g ∷ fs) = rw (le-ltb n m h, and-false (good 0 f))
 
 module _ (m : ℕ) (s : List ℕ) (i n : ℕ) (vs : List ℕ) where
   pub at-end : length s ≤ i → after m s i n vs ≡ someNumbers n vs
@@ -181,16 +148,13 @@ pub record Digit (d v b : ℕ) : Type 0 where
   pub small : v * 10 + (b - nought) < 10 ^ (d + 1)
   pub fits : v * 10 + (b - nought) < 10 ^ mostDigits
 
-pub is-digit : (d v b : ℕ) → v < 10 ^ d → mayFollow d v b ≡ true → Digit d v b
+pub is-digit : (d v b : ℕ) → v < 10 ^ d → mayFollow d b ≡ true → Digit d v b
 is-digit d v b h m =
-    let m1 = and-left (isDigit b && ltb d mostDigits) (eqb d 0 || ltb 0 v) m in
-    let m2 = and-left (isDigit b) (ltb d mostDigits) m1 in
-    let few = ltb-true d mostDigits (and-right (isDigit b) (ltb d mostDigits) m1) in
-    let low = leb-true nought b (and-left (leb nought b) (leb b (nought + 9)) m2) in
-    let high = leb-true b (nought + 9) (and-right (leb nought b) (leb b (nought + 9)) m2) in
+    let few = ltb-true d mostDigits (and-right (isDigit b) (ltb d mostDigits) m) in
+    let r = digit-range b (and-left (isDigit b) (ltb d mostDigits) m) in
     let next : 10 ^ (d + 1) ≡ 10 ^ d * 10 = rw add-one (pow-suc 10 d) in
     let most : 10 ^ (d + 1) ≤ 10 ^ mostDigits = pow-le-pow-right (lit< tt) {i = d + 1} {j = mostDigits} (omega arith) in
-    record { low = low; high = high; few = few; small = omega arith; fits = omega arith }
+    record { low = r .0; high = r .1; few = few; small = omega (arith, r .1); fits = omega (arith, r .1) }
 
 -- ---- the numbers of all the fields, laid out after those read
 abbrev told : (m : ℕ) → List ℕ → List (List ℕ) → Numbers

@@ -1,7 +1,7 @@
 -- How long a line in form is: with numbers it has few bytes, and a check has those of its word, the comma and its bits. Assumes nothing.
 use Prim.Native.Nat.{ℕ, suc, _+_, _*_, _≤_}
 use mathlib.Core.Path.{_≡_, refl, sym, ap, _∙_}
-use mathlib.Core.Bool.{Bool, true, false, _&&_, _||_, not}
+use mathlib.Core.Bool.{Bool, true, false, _&&_}
 use mathlib.Core.List.{List, [], _∷_}
 use mathlib.Core.Logic.{_⊎_, inl, inr}
 use native.Mathlib.Nat.{mul-suc}
@@ -16,7 +16,7 @@ use Rattle.marks.specs.Sets.{setWidth}
 use Rattle.lines.specs.declared.Change as change
 use Rattle.lines.specs.declared.Command.{Command}
 use Rattle.lines.specs.declared.Command.the-variants.{Change, Plan, Check, Broken}
-use Rattle.lines.specs.Text.{comma, nought, same}
+use Rattle.lines.specs.Text.{comma, same}
 use Rattle.lines.specs.Length.{mostBytes, tooLong}
 use Rattle.lines.specs.Grammar.{onFirst, fields, mostDigits, isDigit, isNumber, isBits, loadsOf, Form, numbers, bits, table, findForm, command, parse}
 use Rattle.lines.specs.Reading.{mostLetters, mostNumbers}
@@ -43,8 +43,7 @@ unfolding isNumber
 number-few f h =
     let a : Bool = leb 1 (length f) in
     let b : Bool = leb (length f) mostDigits in
-    let c : Bool = every isDigit f in
-    leb-true (length f) mostDigits (and-right a b (and-left (a && b) c (and-left (a && b && c) (eqb (length f) 1 || not (eqb (getD f 0 0) nought)) h)))
+    leb-true (length f) mostDigits (and-right a b (and-left (a && b) (every isDigit f) h))
 
 numbers-total : (fs : List (List ℕ)) → every isNumber fs ≡ true → total fs ≤ suc mostDigits * length fs
 unfolding total every

@@ -4,7 +4,7 @@
 use Prim.Native.Nat.{ℕ, suc, _+_, _-_, _*_}
 use Prim.Native.String.{String}
 use mathlib.Core.Path.{_≡_, refl}
-use mathlib.Core.Bool.{Bool, _&&_, _||_, not}
+use mathlib.Core.Bool.{Bool, _&&_}
 use mathlib.Core.List.{List, [], _∷_}
 use lib.Dec.{eqb, leb}
 use lib.ListN.{length, getD}
@@ -27,7 +27,8 @@ unfoldable pub fields : List ℕ → List (List ℕ)
 fields [] = [] ∷ []
 fields (b ∷ bs) = pick (eqb b comma) ([] ∷ fields bs) (onFirst b (fields bs))
 
--- ---- "A number has one to five decimal digits, with no leading zero unless it is 0 itself."
+-- ---- "A number has one to five decimal digits" of paper 01. Its bar on leading zeros falls with request One of paper 02: "A number field may now
+-- carry leading zeros, still within five digits."
 abbrev pub mostDigits : ℕ
 mostDigits = 5
 
@@ -35,7 +36,7 @@ abbrev pub isDigit : ℕ → Bool
 isDigit b = leb nought b && leb b (nought + 9)
 
 unfoldable pub isNumber : List ℕ → Bool
-isNumber f = leb 1 (length f) && leb (length f) mostDigits && every isDigit f && (eqb (length f) 1 || not (eqb (getD f 0 0) nought))
+isNumber f = leb 1 (length f) && leb (length f) mostDigits && every isDigit f
 
 -- the value of a number, the digits before it having the value v
 unfoldable pub valueFrom : ℕ → List ℕ → ℕ

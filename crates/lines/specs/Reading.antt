@@ -1,7 +1,7 @@
 -- What the parts of `read` find in a line: the number of its word, the numbers or the bits after it, and the command of both.
 -- They serve only inside; what a line means is `parse` of Grammar. Assumes nothing.
 use Prim.Native.Nat.{ℕ, zero, suc, _+_, _-_, _*_, _/_, _%_}
-use mathlib.Core.Bool.{Bool, true, false, _&&_, _||_}
+use mathlib.Core.Bool.{Bool, true, false, _&&_}
 use mathlib.Core.List.{List, [], _∷_, map}
 use lib.Dec.{leb, ltb, eqb}
 use lib.ListN.{length, getD, take, drop, replicate}
@@ -39,9 +39,9 @@ fieldsAfter e s = pick (ltb e (length s)) (fields (drop (e + 1) s)) []
 abbrev pub mostNumbers : ℕ
 mostNumbers = 3
 
--- may b be the next digit of a number with so many digits and this value so far?
-abbrev pub mayFollow : (digits value b : ℕ) → Bool
-mayFollow d v b = isDigit b && ltb d mostDigits && (eqb d 0 || ltb 0 v)
+-- may b be the next digit of a number with so many digits so far?
+abbrev pub mayFollow : (digits b : ℕ) → Bool
+mayFollow d b = isDigit b && ltb d mostDigits
 
 abbrev pub noNumbers : Numbers
 noNumbers = record { ok = false; count = 0; values = replicate mostNumbers 0 }

@@ -107,11 +107,11 @@ fn row_of(code: u64, count: usize) -> usize
     i
 }
 
-// May b be the next digit of a number with this many digits and this value so far?
-fn may_follow(digits: u32, value: u32, b: u8) -> bool
-    ensures { λ r. ⌜ r ≡ mayFollow digits value b ⌝ }
+// May b be the next digit of a number with this many digits so far?
+fn may_follow(digits: u32, b: u8) -> bool
+    ensures { λ r. ⌜ r ≡ mayFollow digits b ⌝ }
 {
-    (NOUGHT <= b) & (b <= NOUGHT + 9) & (digits < MOST_DIGITS) & ((digits == 0) | (0 < value))
+    (NOUGHT <= b) & (b <= NOUGHT + 9) & (digits < MOST_DIGITS)
 }
 
 fn no_numbers() -> Numbers
@@ -158,7 +158,7 @@ fn read_numbers(s: &[u8], end: usize, most: usize) -> Numbers
             if b == COMMA {
                 break;
             }
-            if !may_follow(digits, value, b) {
+            if !may_follow(digits, b) {
                 break 'fields;
             }
             value = value * 10 + ((b - NOUGHT) as u32);
