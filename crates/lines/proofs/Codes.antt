@@ -1,7 +1,7 @@
 -- No two words of bytes have the same number, so that a test of the numbers is a test of the words. Assumes nothing.
 use Prim.Native.Nat.{ℕ, zero, suc, _+_, _*_, _≤_, _<_}
 use mathlib.Core.Path.{_≡_, refl, sym, ap, ap₂}
-use mathlib.Core.Bool.{true}
+use mathlib.Core.Bool.{Bool, true, false}
 use mathlib.Core.List.{List, [], _∷_}
 use mathlib.Core.Logic.{_⊎_, inl, inr}
 use native.Mathlib.Nat.{le-trans, le-refl, le-of-suc-le-suc}
@@ -87,6 +87,13 @@ pub same-refl : (w : List ℕ) → same w w ≡ true
 unfolding same
 same-refl [] = refl
 same-refl (b ∷ bs) = rw (eq-eqb b b refl, same-refl bs)
+
+pub not-same : (a b : List ℕ) → (a ≡ b → ⊥) → same a b ≡ false
+not-same a b h = go (same a b) refl
+  where
+    go : (t : Bool) → same a b ≡ t → t ≡ false
+    go true e = absurd (h (same-is a b e))
+    go false e = refl
 
 pub same-code : (a b : List ℕ) → Bytes a → Bytes b → same a b ≡ eqb (code b) (code a)
 same-code a b p q =

@@ -21,7 +21,7 @@ use Rattle.lines.specs.Grammar.{onFirst, fields, isNumber, valueFrom, va
 use Rattle.lines.specs.Reading.{codeFrom, code, mostLetters, wordOf, fieldsAfter, mostNumbers, numbersIn, bitsOf, rowCode, rows, orMore, mostFrom, mostAfter, placeOf, commandAt, withNumbers}
 use Rattle.lines.proofs.Before.{before-most}
 use Rattle.lines.proofs.Fields.{Cons, cons, fields-cons}
-use Rattle.lines.proofs.Codes.{Bytes, bytes-take, code-word, same-is, same-code}
+use Rattle.lines.proofs.Codes.{Bytes, bytes-take, code-word, not-same, same-code}
 use Rattle.lines.proofs.Rows.{check, isLetter, Row, Kept, kept, most-least, most-few, none-numbers}
 
 -- ---- a line: its word, and the fields after it
@@ -45,11 +45,7 @@ abbrev shortCode : List ℕ → ℕ
 shortCode w = pick (leb (length w) mostLetters) (code w) 0
 
 long-word : (v w : List ℕ) → length v < length w → same v w ≡ false
-long-word v w h = go (same v w) refl
-  where
-    go : (t : Bool) → same v w ≡ t → t ≡ false
-    go true e = absurd (omega (arith, ap length (same-is v w e)))
-    go false e = refl
+long-word v w h = not-same v w (λ e. absurd (omega (arith, ap length e)))
 
 code-positive : (n : ℕ) (w : List ℕ) → 0 < n → 0 < codeFrom n w
 code-positive n [] h = h

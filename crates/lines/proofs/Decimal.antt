@@ -1,14 +1,15 @@
 -- A number in decimal: its digits, their count, and that it is read back. Assumes nothing.
 use Prim.Native.Nat.{ℕ, zero, suc, _+_, _-_, _*_, _/_, _%_, _^_, _≤_, _<_}
-use mathlib.Core.Path.{_≡_, refl, sym, subst, _∙_}
+use mathlib.Core.Path.{_≡_, refl, sym, ap, subst, _∙_}
 use mathlib.Core.Bool.{Bool, true, false}
-use mathlib.Core.List.{List, [], _∷_, _++_}
+use mathlib.Core.List.{List, [], _∷_, _++_, append-nil}
 use mathlib.Core.Logic.{_⊎_, inl, inr}
 use native.Mathlib.Nat.{pow-suc}
 use native.Mathlib.Omega.{arith}
 use borrow.Author.Tests.{lt-ltb, le-ltb, le-leb, leb-true, ltb-false}
 use lib.Dec.{ltb, leb, lit≤}
 use lib.ListN.{length, length-append}
+use lib.Seq.{append-snoc}
 use Rattle.lists.specs.Tests.{every}
 use Rattle.lists.proofs.Bools.{and-left, and-right, below-or}
 use Rattle.lists.proofs.Tests.{every-snoc}
@@ -93,6 +94,20 @@ pub decimal-form : (n : ℕ) → n < 10 ^ mostDigits → isNumber (decimal n) �
 unfolding isNumber
 decimal-form n h = rw (le-leb 1 (length (decimal n)) (decimal-some n), le-leb (length (decimal n)) mostDigits (decimal-length mostDigits n (lit≤ tt) h)) (decimal-digits n)
 
--- ---- a digit
+-- ---- a digit, and digits behind a number that is not 0
 pub digit-range : (b : ℕ) → isDigit b ≡ true → (nought ≤ b) × (b ≤ nought + 9)
 digit-range b h = (leb-true nought b (and-left (leb nought b) (leb b (nought + 9)) h), leb-true b (nought + 9) (and-right (leb nought b) (leb b (nought + 9)) h))
+
+decimal-next : (v : ℕ) → 0 < v → (b : ℕ) → isDigit b ≡ true → decimal (v * 10 + (b - nought)) ≡ decimal v ++ (b ∷ [])
+decimal-next v p b h =
+    let r = digit-range b h in
+    let most : (v * 10 + (b - nought)) / 10 ≡ v = omega (arith, r .0, r .1) in
+    let last : nought + (v * 10 + (b - nought)) % 10 ≡ b = omega (arith, r .0, r .1) in
+    decimal-more (v * 10 + (b - nought)) (omega arith) ∙ rw (most, last)
+
+pub decimal-on : (v : ℕ) → 0 < v → (f : List ℕ) → every isDigit f ≡ true → decimal (valueFrom v f) ≡ decimal v ++ f
+unfolding valueFrom every
+decimal-on v p [] h = sym (append-nil (decimal v))
+decimal-on v p (b ∷ f) h =
+    decimal-on (v * 10 + (b - nought)) (omega arith) f (and-right (isDigit b) (every isDigit f) h)
+    ∙ ap (λ (x : List ℕ). x ++ f) (decimal-next v p b (and-left (isDigit b) (every isDigit f) h)) ∙ append-snoc (decimal v) b f

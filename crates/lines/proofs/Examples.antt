@@ -1,11 +1,14 @@
 -- Lines of paper 01's session and lines that break the form, as they are read; its answers, as they are printed and read back; and input
 -- cut into lines. All by computation. Assumes nothing.
 use Prim.Native.String.{String}
-use mathlib.Core.Path.{_≡_, refl}
+use mathlib.Core.Path.{_≡_, refl, ap}
 use mathlib.Core.Bool.{true, false}
 use mathlib.Core.List.{List, [], _∷_, _++_, map}
+use native.Mathlib.Omega.{arith}
+use lib.Dec.{lit≤}
 use lib.ListN.{replicate, length}
 use Rattle.lists.specs.Tests.{every, some}
+use Rattle.lists.specs.Pairs.{none, both}
 use Rattle.marks.specs.Bits.{withMark}
 use Rattle.marks.specs.Sets.{joined}
 use Rattle.lines.specs.declared.Command.{Command}
@@ -15,6 +18,7 @@ use Rattle.lines.specs.Text.{bytes, same, decimalTo, decimal, field}
 use Rattle.lines.specs.Length.{tooLong}
 use Rattle.lines.specs.Grammar.{fields, isNumber, valueFrom, isBits, joinedFrom, findForm, parse}
 use Rattle.lines.specs.Answers.{refused, planLine, entryLine}
+use Rattle.lines.specs.Padding.{unpadded, padded, OnlyZeros}
 use Rattle.lines.specs.Input.{lines, feed, feedAll}
 use Rattle.lines.specs.Shown.{entryIn, entriesIn, shown}
 
@@ -35,6 +39,15 @@ keypad : map reads ("load,001,015,040" ∷ "start,00001" ∷ "budget,00000" ∷ 
     ≡ Change (Load 1 15 40) ∷ Change (Start 1) ∷ Change (Budget 0) ∷ Change (Budget 501) ∷ Change (Power 1 0) ∷ Check (record { 0 = 8 }) 4 ∷ []
 unfolding same fields isNumber valueFrom isBits joinedFrom findForm parse every withMark joined
 keypad = refl
+
+-- it differs from the line without them only in such zeros
+keypad-zeros : OnlyZeros (bytes "load,001,015,040") (bytes "load,1,15,40")
+unfolding fields unpadded
+keypad-zeros = record {
+  word = refl;
+  numbers = λ e. absurd (omega (arith, ap length e));
+  each = both (padded (lit≤ tt) (lit≤ tt) refl) (both (padded (lit≤ tt) (lit≤ tt) refl) (both (padded (lit≤ tt) (lit≤ tt) refl) none));
+}
 
 -- each of these breaks the form: words, blanks, signs, a sixth digit though it be a zero in front, empty fields, wrong counts, bits that are none
 unsound : List String

@@ -10,6 +10,7 @@ pub mod Codes
 pub mod Rows
 pub mod Commands
 pub mod Sizes
+pub mod Padding
 pub mod Answers
 pub mod Wrote
 pub mod Taking

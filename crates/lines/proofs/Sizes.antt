@@ -38,7 +38,7 @@ fields-total (b ∷ bs) = go (eqb b comma) (fields bs) (fields-cons bs) (fields-
     go true fs c e = omega (arith, e)
     go false fs (cons f gs) e = omega (arith, e)
 
-number-few : (f : List ℕ) → isNumber f ≡ true → length f ≤ mostDigits
+pub number-few : (f : List ℕ) → isNumber f ≡ true → length f ≤ mostDigits
 unfolding isNumber
 number-few f h =
     let a : Bool = leb 1 (length f) in

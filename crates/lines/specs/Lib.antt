@@ -1,7 +1,9 @@
--- Lines of bytes: how they are read, what is printed, and how input is cut into lines. Reading serves only inside.
+-- Lines of bytes: how they are read, which of them differ only in leading zeros, what is printed, and how input is cut into lines. Reading
+-- serves only inside.
 pub mod Text
 pub mod Length
 pub mod Grammar
+pub mod Padding
 pub mod Written
 pub mod Answers
 pub mod Reading
