@@ -8,6 +8,7 @@ pub mod Rows
 pub mod Refusals
 pub mod Keeps
 pub mod Printed
+pub mod ByRow
 pub mod Demand1
 pub mod ByCommand
 pub mod Demand2
@@ -15,4 +16,5 @@ pub mod Plans
 pub mod Demand3
 pub mod Full
 pub mod Program
+pub mod Padding
 pub mod Session

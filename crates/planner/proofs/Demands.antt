@@ -1,4 +1,4 @@
--- Demands 1, 2 and 3 of the code: what the promise of `Planner::call` comes to. Assumes nothing.
+-- Demands 1, 2 and 3 of the code, and what requests promise of lists of calls: what the promise of `Planner::call` comes to. Assumes nothing.
 use Prim.Native.Nat.{ℕ}
 use mathlib.Core.Path.{_≡_, sym, ap, subst, _∙_}
 use mathlib.Core.List.{List}
@@ -10,11 +10,13 @@ use Rattle.calls.specs.Calls.{Call, Reply, Done, called}
 use Rattle.calls.specs.Demand1.{Demand1}
 use Rattle.calls.specs.Demand2.{CheckCall, CheckRight, PlanCall, PlanRight}
 use Rattle.calls.specs.Demand3.{Exchange, History, Demand3}
+use Rattle.calls.specs.Padding.{SameCalls, SameTreatment}
 use Rattle.calls.proofs.State.{kept-within}
 use Rattle.calls.proofs.Demand1 as paper1
 use Rattle.calls.proofs.Demand2.{check-right}
 use Rattle.calls.proofs.Plans.{plan-right}
 use Rattle.calls.proofs.Demand3 as paper3
+use Rattle.calls.proofs.Padding.{same-treatment}
 use Rattle.planner.specs.declared.Planner.{Planner}
 use Rattle.planner.specs.Planner.{held, stateIn, fresh, Lawful}
 use Rattle.planner.proofs.Calling.{handles}
@@ -39,3 +41,7 @@ demand2-plan p h c k d is =
 -- paper's for it: the lowest run of a best set
 pub demand3 : (xs : List Exchange) → History (held fresh) xs → Demand3 maxLoads xs
 demand3 = paper3.demand3 maxLoads (lit≤ tt)
+
+-- request One: on every planner, whatever it holds, lists of calls whose lines differ only in leading zeros get the same treatment
+pub padding : (p : Planner) (xs ys : List Exchange) → SameCalls xs ys → History (held p) xs → History (held p) ys → SameTreatment (held p) xs ys
+padding p = same-treatment (held p)
