@@ -61,11 +61,16 @@ def values(rng, model, word):
     return found
 
 
+def number(rng, value):
+    """A number as it is written, now and then with zeros in front."""
+    return (b'%d' % value).zfill(rng.randint(1, Model.most_digits) if rng.random() < 0.3 else 1)
+
+
 def line_of(rng, model, word):
     """A line that is in form."""
     if word == b'check':
         return b'check,' + bits(rng, model)
-    return b','.join([word] + [b'%d' % value for value in values(rng, model, word)])
+    return b','.join([word] + [number(rng, value) for value in values(rng, model, word)])
 
 
 # ---- damage to a line
@@ -90,12 +95,12 @@ def carriage_return(rng, line):
 
 
 def field_changed(rng, line):
-    """A field with leading zeros, with too many digits, with a sign or a blank, or empty."""
+    """A field with zeros in front, with too many digits, now and then by zeros in front, with a sign or a blank, or empty."""
     parts = line.split(b',')
     at = rng.randint(min(1, len(parts) - 1), len(parts) - 1)
     field = parts[at]
-    too_long = b'1' + field.zfill(Model.most_digits)
-    parts[at] = rng.choice((b'', b'0' + field, b'00' + field, too_long, b'%d' % 10**Model.most_digits, b'+' + field, b'-' + field, b' ' + field, field + b' '))
+    too_long = rng.choice((b'1' + field.zfill(Model.most_digits), field.zfill(Model.most_digits + 1), b'%d' % 10**Model.most_digits))
+    parts[at] = rng.choice((b'', b'0' + field, b'00' + field, too_long, too_long, b'+' + field, b'-' + field, b' ' + field, field + b' '))
     return b','.join(parts)
 
 
@@ -144,8 +149,9 @@ def book_lines(rng):
 
 
 def first_lines(rng, model):
-    """How a season begins: now and then with a fresh planner; now and then with a new book, most often where there is none."""
-    lines = [b'clear'] if rng.random() < 0.25 else []
+    """How a season begins: now and then with a fresh planner, after a budget that must not stay; now and then with a new book, most often
+    where there is none."""
+    lines = [b'budget,%d' % Model.most_budget, b'clear'] if rng.random() < 0.25 else []
     if rng.random() < (0.8 if lines or model.states == 0 else 0.3):
         lines += book_lines(rng)
     return lines

@@ -3,8 +3,9 @@
 
   crosscheck.py PROGRAM [--cases N] [--seed S]
 
-Each case is a session on a fresh book and tree. Every printed line is compared. Then the same lines are given to oracles that are wrong on
-purpose, and each must be told apart from the program: a comparison that cannot fail would show nothing.
+Each case is a session on a fresh book and tree. Every printed line is compared. Each session is run again with other zeros in front of its
+numbers, and must print the same. Then the lines are given to oracles that are wrong on purpose, and each must be told apart from the program:
+a comparison that cannot fail would show nothing.
 The last line is 'N passed, M failed'.
 """
 import argparse
@@ -12,7 +13,7 @@ import random
 import subprocess
 import sys
 
-from limits import LINE_BYTES, MAX_BUDGET, MAX_DIGITS, MAX_LOADS, MAX_STATES, MAX_WORTH
+from limits import CELLS, LINE_BYTES, MAX_BUDGET, MAX_DIGITS, MAX_LOADS, MAX_STATES, MAX_WORTH
 from oracle import Oracle
 
 
@@ -62,9 +63,40 @@ class StoresNothing(Oracle):
         super().act(word, f)
 
 
-WRONG = [StageRestarts, LeafAlwaysEnds, HighestFirst, PowerKept, FirstBudget, StoresNothing]
+class ZerosBarred(Oracle):
+    """A number may have no zero in front."""
+
+    def answer(self, line, cells=CELLS):
+        return super().answer(line if without_zeros(line) == line else b'', cells)
+
+
+class ZerosNotCounted(Oracle):
+    """Zeros in front of a number count as no digits."""
+
+    def answer(self, line, cells=CELLS):
+        return super().answer(without_zeros(line), cells)
+
+
+WRONG = [StageRestarts, LeafAlwaysEnds, HighestFirst, PowerKept, FirstBudget, StoresNothing, ZerosBarred, ZerosNotCounted]
 MOST_RUNS = 1500  # a tree with more runs is left out: plain enumeration would be slow
 BATCH = 100  # sessions that are given to one run of the program
+
+
+def with_fields(line, change):
+    """The line with each number field changed. The field of `check` is no number."""
+    word, *fields = line.split(b',')
+    if word == b'check':
+        return line
+    return b','.join([word] + [change(field) if field.isdigit() else field for field in fields])
+
+
+def without_zeros(line):
+    return with_fields(line, lambda field: field.lstrip(b'0') or b'0')
+
+
+def padded(rng, line):
+    """The line with other zeros in front of its numbers, these still within their digits."""
+    return with_fields(line, lambda field: field if len(field) > MAX_DIGITS else (field.lstrip(b'0') or b'0').zfill(rng.randint(1, MAX_DIGITS)))
 
 
 def few_runs(oracle):
@@ -99,7 +131,8 @@ def tree_lines(rng):
 def figures(rng):
     """A field that may be a number: in range or at an edge, or of the wrong form."""
     edges = (MAX_STATES + 1, MAX_LOADS, MAX_LOADS + 1, MAX_BUDGET, MAX_BUDGET + 1, MAX_WORTH, MAX_WORTH + 1, 10**MAX_DIGITS - 1, 10**MAX_DIGITS)
-    return rng.choice(('0', '1', '2', '3', '00', '01', *map(str, edges), '', '-1', ' 1', '1 ', 'x'))
+    zeros = ('00', '01', '0' * MAX_DIGITS, '1'.zfill(MAX_DIGITS), '0' * (MAX_DIGITS + 1), '1'.zfill(MAX_DIGITS + 1))
+    return rng.choice(('0', '1', '2', '3', *zeros, *map(str, edges), '', '-1', ' 1', '1 ', 'x'))
 
 
 def damaged(rng):
@@ -130,6 +163,7 @@ def session(rng):
     oracle, lines, answers = Oracle(), [], []
 
     def say(line):
+        line = padded(rng, line) if rng.random() < 0.4 else line
         lines.append(line)
         answers.append(oracle.answer(line))
         return few_runs(oracle)
@@ -197,6 +231,11 @@ def differing(cases, outs):
     return [(lines, wrong) for lines, wrong in found if wrong]
 
 
+def again(rng, cases):
+    """The sessions with other zeros in front of their numbers, and the same answers."""
+    return [([padded(rng, line) for line in lines], answers) for lines, answers in cases]
+
+
 def answered_by(oracle, lines):
     return [oracle.answer(line) for line in lines]
 
@@ -207,9 +246,11 @@ def main():
     options.add_argument('--cases', type=int, default=2000)
     options.add_argument('--seed', type=int, default=1)
     args = options.parse_args()
-    cases = sessions(random.Random(args.seed), args.cases)
+    rng = random.Random(args.seed)
+    cases = sessions(rng, args.cases)
     outs = all_printed(args.program, cases)
-    wrong = differing(cases, outs)
+    repadded = again(rng, cases)
+    wrong = differing(cases, outs) + differing(repadded, all_printed(args.program, repadded))
     for lines, first in wrong[:3]:
         print('DIFFERS at %r: expected %r, printed %r, in the session %r' % (*first, lines))
     firsts = [answer[0] for _, answers in cases for answer in answers]
@@ -222,7 +263,7 @@ def main():
         told = len(differing(answered, outs))
         print('%s: told apart in %d of %d sessions' % (other.__name__, told, len(answered)))
         failed += told == 0
-    print('%d passed, %d failed' % (len(cases) + len(WRONG) - failed, failed))
+    print('%d passed, %d failed' % (len(cases) + len(repadded) + len(WRONG) - failed, failed))
     return 1 if failed else 0
 
 
