@@ -32,7 +32,7 @@ extern "C" {
 
 /* The version of this header: major * 10000 + minor * 100 + patch. hulmeide_version returns that of the archive, and they fit where the two
  * are the same. The minor number goes up with each request that changes what lines there are, or the layout. */
-#define HULMEIDE_VERSION 10000
+#define HULMEIDE_VERSION 10100
 
 /* ---- Sizes ----
  *
@@ -42,7 +42,7 @@ extern "C" {
 /* A line has at most this many bytes, its line feed not counted. A longer one is HULMEIDE_LONG_LINE. */
 #define HULMEIDE_LINE_BYTES 80
 
-/* A number in a line has at most this many digits. */
+/* A number in a line has at most this many digits, zeros in front of it among them: such zeros change nothing. */
 #define HULMEIDE_MAX_DIGITS 5
 
 /* So many bytes must be free in the output from the place on, whatever the line. No answer is longer. */
