@@ -1,4 +1,4 @@
--- Tests of lists: a turn of a loop that tests, one element more at the end, one place. Assumes nothing.
+-- Tests of lists: a turn of a loop that tests, one element more at the end, one place, one element among others. Assumes nothing.
 use Prim.Native.Nat.{ℕ, zero, suc, _+_, _-_, _≤_, _<_}
 use mathlib.Core.Path.{_≡_, refl, sym, ap, _∙_}
 use mathlib.Core.Bool.{Bool, true, false, _&&_, not}
@@ -112,6 +112,33 @@ module _ {A : Type 0} where
       rw (keep k x (and-left (p k x) (everyFrom p (suc k) xs) h)) (and-right (p k x) (everyFrom p (suc k) xs) h)
   from-set d p f keep k (suc i) (x ∷ xs) h =
       rw (and-left (p k x) (everyFrom p (suc k) xs) h) (from-set d p f keep (suc k) i xs (and-right (p k x) (everyFrom p (suc k) xs) h))
+
+  -- ---- an element with others before and behind it
+  pub every-mid : (p : A → Bool) (xs : List A) (y : A) (ys : List A) → every p (xs ++ (y ∷ ys)) ≡ true → p y ≡ true
+  unfolding every
+  every-mid p [] y ys h = and-left (p y) (every p ys) h
+  every-mid p (x ∷ xs) y ys h = every-mid p xs y ys (and-right (p x) (every p (xs ++ (y ∷ ys))) h)
+
+  some-mid : (p : A → Bool) (xs : List A) (y : A) (ys : List A) → some p (xs ++ (y ∷ ys)) ≡ false → p y ≡ false
+  unfolding some
+  some-mid p [] y ys h = or-left (p y) (some p ys) h
+  some-mid p (x ∷ xs) y ys h = some-mid p xs y ys (or-right (p x) (some p (xs ++ (y ∷ ys))) h)
+
+  pub from-mid : (p : ℕ → A → Bool) (k : ℕ) (xs : List A) (y : A) (ys : List A) → everyFrom p k (xs ++ (y ∷ ys)) ≡ true → p (length xs + k) y ≡ true
+  unfolding everyFrom
+  from-mid p k [] y ys h = let e : 0 + k ≡ k = omega arith in rw e (and-left (p k y) (everyFrom p (suc k) ys) h)
+  from-mid p k (x ∷ xs) y ys h =
+      let e : suc (length xs) + k ≡ length xs + suc k = omega arith in
+      rw e (from-mid p (suc k) xs y ys (and-right (p k x) (everyFrom p (suc k) (xs ++ (y ∷ ys))) h))
+
+  -- none like it stands before it
+  pub distinct-mid : (r : A → A → Bool) → ((a b : A) → r a b ≡ r b a) → (xs : List A) (y : A) (ys : List A) → distinct r (xs ++ (y ∷ ys)) ≡ true → some (r y) xs ≡ false
+  unfolding distinct some
+  distinct-mid r swap [] y ys h = refl
+  distinct-mid r swap (x ∷ xs) y ys h =
+      let all = xs ++ (y ∷ ys) in
+      let new = not-true (some (r x) all) (and-left (not (some (r x) all)) (distinct r all) h) in
+      rw (swap y x, some-mid (r x) xs y ys new) (distinct-mid r swap xs y ys (and-right (not (some (r x) all)) (distinct r all) h))
 
 -- ---- a loop that tests the numbers below n
 pub below-zero : (p : ℕ → Bool) → allBelow p 0 ≡ true

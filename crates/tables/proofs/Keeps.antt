@@ -44,7 +44,7 @@ no-marks : (n : ℕ) → marksIn n (record { 0 = 0 }) ≡ true
 no-marks n = lt-ltb 0 (2 ^ n) (pow-pos n)
 
 -- ---- rules of both sorts
-same-swap : (a b : Transition) → sameRule a b ≡ sameRule b a
+pub same-swap : (a b : Transition) → sameRule a b ≡ sameRule b a
 unfolding sameRule
 same-swap a b = rw (eqb-swap (a .from) (b .from), eqb-swap (a .label) (b .label), eqb-swap (a .to) (b .to))
 

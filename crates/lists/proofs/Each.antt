@@ -1,0 +1,19 @@
+-- Every element of a list: of two lists one after the other, and of one made for each element of another. Assumes nothing.
+use Prim.Native.Nat.{ℕ, suc, _<_}
+use mathlib.Core.List.{List, [], _∷_, _++_, map}
+use native.Mathlib.Omega.{arith}
+use lib.ListN.{length, getD}
+use Rattle.lists.specs.Each.{Each, none, more}
+
+module _ {A : Type 0} {P : A → Type 0} where
+  pub each-append : {xs ys : List A} → Each P xs → Each P ys → Each P (xs ++ ys)
+  each-append none q = q
+  each-append (more h p) q = more h (each-append p q)
+
+  pub each-map : {B : Type 0} (f : B → A) (d : B) (ys : List B) → ((j : ℕ) → j < length ys → P (f (getD ys j d))) → Each P (map f ys)
+  each-map f d [] h = none
+  each-map f d (y ∷ ys) h = more (h 0 (omega arith)) (each-map f d ys (λ j l. h (suc j) (omega arith)))
+
+pub each-imply : {A : Type 0} {P Q : A → Type 0} → ((x : A) → P x → Q x) → {xs : List A} → Each P xs → Each Q xs
+each-imply f none = none
+each-imply f (more {x = x} h p) = more (f x h) (each-imply f p)
