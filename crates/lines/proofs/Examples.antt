@@ -12,7 +12,7 @@ use Rattle.lists.specs.Pairs.{none, both}
 use Rattle.marks.specs.Bits.{withMark}
 use Rattle.marks.specs.Sets.{joined}
 use Rattle.lines.specs.declared.Command.{Command}
-use Rattle.lines.specs.declared.Command.the-variants.{Change, Plan, Check, Broken}
+use Rattle.lines.specs.declared.Command.the-variants.{Change, Plan, Check, Save, Broken}
 use Rattle.lines.specs.declared.Change.the-variants.{Clear, Book, Start, End, Rule, Row, Load, Power, Worth, Budget}
 use Rattle.lines.specs.Text.{bytes, same, decimalTo, decimal, field}
 use Rattle.lines.specs.Length.{tooLong}
@@ -30,7 +30,7 @@ session : map reads ("book,2,2" ∷ "start,1" ∷ "end,2" ∷ "rule,1,0,2" ∷ "
 unfolding same fields isNumber valueFrom isBits joinedFrom findForm parse every withMark joined
 session = refl
 
-others : map reads ("clear" ∷ "power,64,99999" ∷ "worth,0,1000" ∷ "check,1" ∷ []) ≡ Change Clear ∷ Change (Power 64 99999) ∷ Change (Worth 0 1000) ∷ Check (record { 0 = 1 }) 1 ∷ []
+others : map reads ("clear" ∷ "power,64,99999" ∷ "worth,0,1000" ∷ "check,1" ∷ "save" ∷ []) ≡ Change Clear ∷ Change (Power 64 99999) ∷ Change (Worth 0 1000) ∷ Check (record { 0 = 1 }) 1 ∷ Save ∷ []
 unfolding same fields isNumber valueFrom isBits joinedFrom findForm parse every withMark joined
 others = refl
 
@@ -52,7 +52,7 @@ keypad-zeros = record {
 -- each of these breaks the form: words, blanks, signs, a sixth digit though it be a zero in front, empty fields, wrong counts, bits that are none
 unsound : List String
 unsound =
-    "" ∷ "," ∷ "Plan" ∷ "plans" ∷ "pla" ∷ "plan," ∷ "clear," ∷ " plan" ∷ "plan " ∷ "plan\n" ∷ "plan\r" ∷ ",plan" ∷ "clear,1" ∷ "save" ∷ "budgets,1"
+    "" ∷ "," ∷ "Plan" ∷ "plans" ∷ "pla" ∷ "plan," ∷ "clear," ∷ " plan" ∷ "plan " ∷ "plan\n" ∷ "plan\r" ∷ ",plan" ∷ "clear,1" ∷ "Save" ∷ "saves" ∷ "sav" ∷ "save," ∷ "save,1" ∷ "budgets,1"
     ∷ "budget" ∷ "budget," ∷ "budget,100000" ∷ "budget,000000" ∷ "budget,000001" ∷ "budget,-1" ∷ "budget,+1" ∷ "budget,1.0" ∷ "budget,1a" ∷ "budget, 1"
     ∷ "budget,1 " ∷ "budget,501," ∷ "budget,1,2" ∷ "book,1" ∷ "book,1,2,3" ∷ "book,,2" ∷ "load,0,501,x" ∷ "load,0,1" ∷ "load,0,1,1,0"
     ∷ "check" ∷ "check," ∷ "check,012" ∷ "check,0,1" ∷ "check,01," ∷ "check,,01" ∷ []

@@ -13,8 +13,11 @@ pub mod Sizes
 pub mod Padding
 pub mod Answers
 pub mod Wrote
+pub mod Saves
 pub mod Taking
 pub mod Without
 pub mod Input
 pub mod Shown
 pub mod Written
+pub mod SaveText
+pub mod SaveLines

@@ -18,7 +18,7 @@ use Rattle.lines.proofs.Fields.{Cons, cons, fields-cons}
 use Rattle.lines.proofs.Codes.{not-same}
 use Rattle.lines.proofs.Rows.{check, Kept, kept}
 use Rattle.lines.proofs.Sizes.{number-few}
-use Rattle.lines.proofs.Decimal.{digit-range, decimal-one, decimal-on}
+use Rattle.lines.proofs.Decimal.{decimal-one, decimal-value, decimal-digits, decimal-some, digit-range, decimal-on}
 
 -- ---- a field: what one zero in front does not change, none of them changes
 module _ {A : Type 0} (p : List ℕ → A) (k : (c : ℕ) (bs : List ℕ) → p (nought ∷ c ∷ bs) ≡ p (c ∷ bs)) where
@@ -125,6 +125,10 @@ unpadded-decimal (b ∷ c ∷ bs) l h = go (eqb b nought) refl (unpadded-decimal
         let r = digit-range b first in
         let z : b ≡ nought → ⊥ = eqb-false b nought e in
         sym (decimal-on (0 * 10 + (b - nought)) (omega (arith, r .0)) (c ∷ bs) rest ∙ ap (λ (x : List ℕ). x ++ (c ∷ bs)) (one-digit b first))
+
+-- a number in decimal has none
+pub decimal-unpadded : (n : ℕ) → unpadded (decimal n) ≡ decimal n
+decimal-unpadded n = unpadded-decimal (decimal n) (decimal-some n) (decimal-digits n) ∙ ap decimal (decimal-value n)
 
 number-decimal : (f : List ℕ) → isNumber f ≡ true → unpadded f ≡ decimal (value f)
 unfolding isNumber

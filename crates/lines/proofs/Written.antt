@@ -1,10 +1,10 @@
 -- Lines as they are written are read back: each as the command that it stands for. Assumes nothing.
-use Prim.Native.Nat.{ℕ, zero, suc, _+_, _-_, _<_}
+use Prim.Native.Nat.{ℕ, zero, suc, _+_, _-_, _≤_, _<_}
 use mathlib.Core.Path.{_≡_, refl, ap, _∙_}
 use mathlib.Core.Bool.{Bool, true, false, _&&_, not}
 use mathlib.Core.List.{List, [], _∷_, map}
 use native.Mathlib.Omega.{arith}
-use borrow.Author.Tests.{le-leb, ltb-true, eq-eqb, ne-eqb, not-true}
+use borrow.Author.Tests.{le-leb, ltb-true, eqb-true, eq-eqb, ne-eqb, not-true}
 use lib.Dec.{eqb, ltb}
 use lib.ListN.{length, getD}
 use Rattle.lists.specs.Tests.{pick, some, every, distinct}
@@ -24,14 +24,18 @@ use Rattle.lines.proofs.Rows.{check, isLetter, Row, Kept, kept}
 use Rattle.lines.proofs.Commands.{find-meant}
 
 -- ---- a word and numbers
-word : (w : List ℕ) → every isLetter w ≡ true → Without comma w
+-- neither a comma nor a line feed
+pub letters-without : (x : ℕ) → x ≤ comma → (w : List ℕ) → every isLetter w ≡ true → Without x w
 unfolding every
-word [] h = none
-word (b ∷ w) h =
-    byte (ne-eqb b comma (λ e. absurd (omega (arith, ltb-true comma b (and-left (ltb comma b) (ltb b 256) (and-left (isLetter b) (every isLetter w) h))))))
-    (word w (and-right (isLetter b) (every isLetter w) h))
+letters-without x l [] h = none
+letters-without x l (b ∷ w) h =
+    byte (ne-eqb b x (λ e. absurd (omega (arith, ltb-true comma b (and-left (ltb comma b) (ltb b 256) (and-left (isLetter b) (every isLetter w) h))))))
+    (letters-without x l w (and-right (isLetter b) (every isLetter w) h))
 
-line-fields : (ns : List ℕ) {w : List ℕ} → Without comma w → fields (line w ns) ≡ w ∷ map decimal ns
+word : (w : List ℕ) → every isLetter w ≡ true → Without comma w
+word w h = letters-without comma (omega arith) w h
+
+pub line-fields : (ns : List ℕ) {w : List ℕ} → Without comma w → fields (line w ns) ≡ w ∷ map decimal ns
 unfolding parted
 line-fields [] p = fields-last p
 line-fields (n ∷ ns) {w} p =
@@ -91,24 +95,28 @@ module _ {w : List ℕ} {n : ℕ} {f : (ℕ → ℕ) → Command} where
   row-parses p ns e s = let r = in-kept kept p in line-meant w ns (r .letters) (r .other) s ∙ meant-in apart p ns e
 
 -- ---- the line of a change
--- a word for which the table has a command is that of a row
-meant-word : (w ns : List ℕ) (xs : List Form) → Kept xs → (meant xs w ns ≡ Broken → ⊥) → (every isLetter w ≡ true) × (same check w ≡ false)
+-- a word and numbers for which the table has a command are those of a row
+meant-row : (w ns : List ℕ) (xs : List Form) → Kept xs → (meant xs w ns ≡ Broken → ⊥) → Row w (length ns)
 unfolding meant
-meant-word w ns [] q h = absurd (h refl)
-meant-word w ns (numbers v n f ∷ xs) q h = go (same v w) refl h (meant-word w ns xs (q .1))
+meant-row w ns [] q h = absurd (h refl)
+meant-row w ns (numbers v n f ∷ xs) q h = go (same v w) refl (eqb (length ns) n) refl h (meant-row w ns xs (q .1))
   where
-    go : (t : Bool) → same v w ≡ t → (pick (t && eqb (length ns) n) (f (λ k. getD ns (k - 1) 0)) (meant xs w ns) ≡ Broken → ⊥)
-        → ((meant xs w ns ≡ Broken → ⊥) → (every isLetter w ≡ true) × (same check w ≡ false)) → (every isLetter w ≡ true) × (same check w ≡ false)
-    go true e h ih = rw (← (same-is v w e)) (q .0 .letters, q .0 .other)
-    go false e h ih = ih h
-meant-word w ns (bits v f ∷ xs) q h = meant-word w ns xs (q .1) h
+    go : (t : Bool) → same v w ≡ t → (u : Bool) → eqb (length ns) n ≡ u → (pick (t && u) (f (λ k. getD ns (k - 1) 0)) (meant xs w ns) ≡ Broken → ⊥)
+        → ((meant xs w ns ≡ Broken → ⊥) → Row w (length ns)) → Row w (length ns)
+    go true e true d h ih = rw (← (same-is v w e), eqb-true (length ns) n d) (q .0)
+    go true e false d h ih = ih h
+    go false e u d h ih = ih h
+meant-row w ns (bits v f ∷ xs) q h = meant-row w ns xs (q .1) h
+
+pub change-row : (c : change.Change) → Row (lineOf c .word) (length (lineOf c .values))
+change-row c = let l = lineOf c in meant-row (l .word) (l .values) table kept (λ e. absurd (let z : _≡_ {A = ℕ} 0 1 = cc (l .means) in omega arith))
 
 -- it is read as that change
 pub written-parses : (c : change.Change) → Short (lineOf c .values) → parse (written c) ≡ Change c
 written-parses c s =
     let l = lineOf c in
-    let r = meant-word (l .word) (l .values) table kept (λ e. absurd (let z : _≡_ {A = ℕ} 0 1 = cc (l .means) in omega arith)) in
-    line-meant (l .word) (l .values) (r .0) (r .1) s ∙ l .means
+    let r = change-row c in
+    line-meant (l .word) (l .values) (r .letters) (r .other) s ∙ l .means
 
 -- ---- the field of bits
 bit-plain : (t : Bool) → eqb (nought + pick t 1 0) comma ≡ false

@@ -7,8 +7,10 @@ use lib.Seq.{sets}
 use Rattle.tables.specs.declared.entry.Entry.{Entry}
 use Rattle.tables.specs.Limits.{maxStates, maxRules}
 use Rattle.lines.specs.declared.answer.Answer.{Answer}
-use Rattle.lines.specs.declared.answer.Answer.the-variants.{Accepted, Planned, Allowed, Refused}
+use Rattle.lines.specs.declared.answer.Answer.the-variants.{Accepted, Planned, Allowed, Saved, Refused}
+use Rattle.lines.specs.declared.Change.{Change}
 use Rattle.lines.specs.Text.{bytes, comma, lineFeed, field}
+use Rattle.lines.specs.Saved.{changesText}
 
 -- "An accepted change prints `ok`."
 abbrev pub ok : List ℕ
@@ -39,14 +41,16 @@ abbrev pub numberOf : Answer → ℕ
 numberOf Accepted = 0
 numberOf (Planned v w n) = 0
 numberOf Allowed = 0
+numberOf Saved = 0
 numberOf (Refused n) = n
 
--- its text, with the lines of the run beside it
-abbrev pub textOf : Answer → List Entry → List ℕ
-textOf Accepted es = ok
-textOf (Planned v w n) es = planLine v w n ++ entryLines es
-textOf Allowed es = yes ++ entryLines es
-textOf (Refused n) es = refused n
+-- its text: with the lines of the run beside it, or of the changes that a save writes
+abbrev pub textOf : Answer → List Entry → List Change → List ℕ
+textOf Accepted es cs = ok
+textOf (Planned v w n) es cs = planLine v w n ++ entryLines es
+textOf Allowed es cs = yes ++ entryLines es
+textOf Saved es cs = changesText cs
+textOf (Refused n) es cs = refused n
 
 -- the answer of a change with this number
 abbrev pub answerOf : ℕ → Answer

@@ -1,6 +1,6 @@
 -- The commands, and how a line is read: paper 01, "Lines". `parse` gives every line of bytes its command, and `Broken` to each that is
--- "no command of the table, wrong field count or form". The length of a line is judged apart (`Length`). `lineOf` gives every change
--- its line. Assumes nothing.
+-- "no command of the table, wrong field count or form". The length of a line is judged apart (`Length`), and first: `lineCommand`. `lineOf`
+-- gives every change its line. Assumes nothing.
 use Prim.Native.Nat.{ℕ, suc, _+_, _-_, _*_}
 use Prim.Native.String.{String}
 use mathlib.Core.Path.{_≡_, refl}
@@ -12,10 +12,11 @@ use Rattle.lists.specs.Tests.{pick, every}
 use Rattle.marks.specs.declared.LoadSet.{LoadSet}
 use Rattle.marks.specs.Sets.{noLoads, joined}
 use Rattle.lines.specs.declared.Command.{Command}
-use Rattle.lines.specs.declared.Command.the-variants.{Change, Plan, Check, Broken}
+use Rattle.lines.specs.declared.Command.the-variants.{Change, Plan, Check, Save, Broken, TooLong}
 use Rattle.lines.specs.declared.Change as change
 use Rattle.lines.specs.declared.Change.the-variants.{Clear, Book, Start, End, Rule, Row, Load, Power, Worth, Budget}
 use Rattle.lines.specs.Text.{bytes, comma, nought, same}
+use Rattle.lines.specs.Length.{tooLong}
 
 -- ---- "Fields stand in a fixed order, parted by commas, with no quoting and no blanks."
 -- one byte more at the front of the first field
@@ -81,6 +82,7 @@ table =
     ∷ numbers (bytes "budget") 1 (λ n. Change (Budget (n 1)))
     ∷ numbers (bytes "plan") 0 (λ n. Plan)
     ∷ bits (bytes "check") (λ s n. Check s n)
+    ∷ numbers (bytes "save") 0 (λ n. Save)
     ∷ []
 
 -- has a line with this word and these fields the form?
@@ -103,6 +105,10 @@ command (v ∷ fs) = findForm table v fs
 
 unfoldable pub parse : List ℕ → Command
 parse s = command (fields s)
+
+-- what a line asks for: "line over 80 bytes" has the lower number, so its length is judged before its form
+unfoldable pub lineCommand : List ℕ → Command
+lineCommand s = pick (tooLong s) TooLong (parse s)
 
 -- ---- the line of a change
 -- what the table has for a word and numbers

@@ -5,7 +5,9 @@ pub mod Length
 pub mod Grammar
 pub mod Padding
 pub mod Written
+pub mod Saved
 pub mod Answers
 pub mod Reading
 pub mod Input
+pub mod ReadBack
 pub mod Shown

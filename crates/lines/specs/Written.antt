@@ -5,7 +5,7 @@ use Rattle.lists.specs.Tests.{pick}
 use Rattle.marks.specs.declared.LoadSet.{LoadSet}
 use Rattle.marks.specs.Sets.{hasLoad}
 use Rattle.lines.specs.declared.Change.{Change}
-use Rattle.lines.specs.Text.{bytes, comma, nought, decimal}
+use Rattle.lines.specs.Text.{bytes, comma, lineFeed, nought, decimal}
 use Rattle.lines.specs.Grammar.{mostDigits, lineOf}
 
 -- a word and fields, parted by commas
@@ -25,6 +25,10 @@ Short (n ∷ ns) = (n < 10 ^ mostDigits) × Short ns
 -- the line of a change
 abbrev pub written : Change → List ℕ
 written c = line (lineOf c .word) (lineOf c .values)
+
+-- and with its line feed, as it stands in a text
+abbrev pub changeLine : Change → List ℕ
+changeLine c = written c ++ (lineFeed ∷ [])
 
 -- one 0 or 1 for each of n loads from number k on
 unfoldable pub bitsIn : LoadSet → (k n : ℕ) → List ℕ

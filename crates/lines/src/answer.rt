@@ -2,11 +2,12 @@
 ghost use mathlib.Core.Path.{_≡_};
 ghost use Rattle.lines.specs.Answers.{numberOf, answerOf};
 
-// The answer to a line. The run of a plan or of an allowed check stands beside it.
+// The answer to a line. The run of a plan or of an allowed check stands beside it, and the tables that a save writes.
 pub enum Answer {
     Accepted,
     Planned { worth: u32, power: u32, on: u32 },
     Allowed,
+    Saved,
     Refused { number: u8 },
 }
 
@@ -33,6 +34,7 @@ impl Answer {
                 on: _,
             } => 0,
             Answer::Allowed => 0,
+            Answer::Saved => 0,
             Answer::Refused { number } => number,
         }
     }

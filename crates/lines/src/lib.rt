@@ -1,6 +1,7 @@
 // Lines in, lines out: the border between bytes and tables.
 pub mod answer;
 pub mod reading;
+pub mod saving;
 pub mod splitting;
 pub mod writing;
 
@@ -15,6 +16,9 @@ const NOUGHT: u8 = 48;
 
 // A line has at most so many bytes, its line feed not counted.
 const MOST_BYTES: usize = 80;
+
+// No line has more numbers.
+const MOST_NUMBERS: usize = 3;
 
 // What a change asks for: a line that can print `ok`. The numbers of a line stand in its order.
 pub enum Change {
@@ -39,11 +43,14 @@ pub enum Change {
     Budget(u32),
 }
 
-// What a line asks for. `Broken` is a line that is no command of the table, or breaks its form.
+// What a line asks for. `Broken` is a line that is no command of the table, or breaks its form; `TooLong` one with more bytes than a line may
+// have, whatever they are.
 pub enum Command {
     Change(Change),
     Plan,
     // The loads whose bit is 1, as far as a set of loads goes, and the count of all bits.
     Check { set: LoadSet, count: usize },
+    Save,
     Broken,
+    TooLong,
 }

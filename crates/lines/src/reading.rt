@@ -3,24 +3,22 @@ use crate::COMMA;
 use crate::Change;
 use crate::Command;
 use crate::MOST_BYTES;
+use crate::MOST_NUMBERS;
 use crate::NOUGHT;
 use marks::LoadSet;
 ghost use Prim.Native.Nat.{_≤_};
 ghost use mathlib.Core.Path.{_≡_};
 ghost use lib.ListN.{drop};
-ghost use Rattle.lines.specs.Length.{tooLong};
-ghost use Rattle.lines.specs.Grammar.{table, parse};
+ghost use Rattle.lines.specs.Grammar.{table, parse, lineCommand};
 ghost use Rattle.lines.specs.Reading.{wordOf, mayFollow, mostNumbers, noNumbers, someNumbers, fieldsAfter, numbersIn, bitsOf, rows, mostAfter, placeOf, commandAt, withNumbers};
 
 const MOST_LETTERS: usize = 6;
 
 const MOST_DIGITS: u32 = 5;
 
-const MOST_NUMBERS: usize = 3;
-
 // The rows of the table with numbers, each as one number: the bytes of its word in base 256 after a 1, and as one byte more the count of
 // its numbers.
-const ROWS: [u64; 11] = [
+const ROWS: [u64; 12] = [
     0x1_636c656172_00, // clear
     0x1_626f6f6b_02, // book
     0x1_7374617274_01, // start
@@ -32,6 +30,7 @@ const ROWS: [u64; 11] = [
     0x1_776f727468_02, // worth
     0x1_627564676574_01, // budget
     0x1_706c616e_00, // plan
+    0x1_73617665_00, // save
 ];
 
 // The word before bits.
@@ -223,6 +222,7 @@ fn command_of(row: usize, v: [u32; MOST_NUMBERS]) -> Command
         8 => Command::Change(Change::Worth(a, b)),
         9 => Command::Change(Change::Budget(a)),
         10 => Command::Plan,
+        11 => Command::Save,
         _ => Command::Broken,
     }
 }
@@ -239,15 +239,8 @@ fn with_numbers(code: u64, n: Numbers) -> Command
     command_of(row_of(code, count), v)
 }
 
-// Is a line longer than a line may be? That is judged before its form, and apart from it.
-pub fn too_long(line: &[u8]) -> bool
-    ensures { λ r. ⌜ r ≡ tooLong (now (line .entry)) ⌝ }
-{
-    MOST_BYTES < line.len()
-}
-
-// What a line asks for. No byte after a word that is not in the table is read.
-pub fn read(line: &[u8]) -> Command
+// The command of a line by its form. No byte after a word that is not in the table is read.
+fn read_form(line: &[u8]) -> Command
     ensures { λ r. ⌜ r ≡ parse (now (line .entry)) ⌝ }
 {
     let word = read_word(line);
@@ -258,4 +251,14 @@ pub fn read(line: &[u8]) -> Command
     }
     let most = numbers_of(code);
     with_numbers(code, read_numbers(line, end, most))
+}
+
+// What a line asks for. Its length is judged before its form.
+pub fn read(line: &[u8]) -> Command
+    ensures { λ r. ⌜ r ≡ lineCommand (now (line .entry)) ⌝ }
+{
+    if MOST_BYTES < line.len() {
+        return Command::TooLong;
+    }
+    read_form(line)
 }

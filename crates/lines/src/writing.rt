@@ -2,12 +2,15 @@
 // place after what it wrote; all other bytes keep their values.
 use crate::COMMA;
 use crate::LINE_FEED;
+use crate::MOST_NUMBERS;
 use crate::NOUGHT;
 use tables::entry::Entry;
-ghost use mathlib.Core.List.{[], _∷_};
+ghost use mathlib.Core.List.{[], _∷_, _++_};
 ghost use Prim.Native.Nat.{_+_, _≤_};
-ghost use lib.ListN.{length};
-ghost use Rattle.lines.specs.Text.{decimal, field};
+ghost use lib.ListN.{length, take};
+ghost use Rattle.lines.specs.Text.{comma, lineFeed, decimal, field};
+ghost use Rattle.lines.specs.Reading.{mostNumbers};
+ghost use Rattle.lines.specs.Written.{line};
 ghost use Rattle.lines.specs.Answers.{Wrote, ok, yes, refused, planLine, entryLine};
 
 // One byte.
@@ -99,4 +102,41 @@ pub fn write_entry(out: &mut [u8], at: usize, e: Entry) -> usize
     let c = put_field(&mut *out, b, e.state as u32, COMMA);
     let d = put_field(&mut *out, c, e.rule as u32, COMMA);
     put_field(&mut *out, d, e.row as u32, LINE_FEED)
+}
+
+// A number and the comma before it.
+fn put_number(out: &mut [u8], at: usize, n: u32) -> usize
+    requires { ⌜ at + length (comma ∷ decimal n) ≤ length (now out) ⌝ }
+    ensures { λ r. ⌜ Wrote (now (out .entry)) (now (out .exit)) at r (comma ∷ decimal n) ⌝ }
+{
+    let next = put(&mut *out, at, COMMA);
+    put_decimal(&mut *out, next, n)
+}
+
+// The first of some numbers, with a comma before each.
+fn put_numbers(out: &mut [u8], at: usize, v: [u32; MOST_NUMBERS], count: usize) -> usize
+    requires { ⌜ (count ≤ mostNumbers) × (at + length (line [] (take count v)) ≤ length (now out)) ⌝ }
+    ensures { λ r. ⌜ Wrote (now (out .entry)) (now (out .exit)) at r (line [] (take count v)) ⌝ }
+{
+    let mut next = at;
+    for i in 0..count {
+        next = put_number(&mut *out, next, v[i]);
+    }
+    next
+}
+
+// A word and the first of some numbers, in a line of their own.
+pub(crate) fn write_line(
+    out: &mut [u8],
+    at: usize,
+    word: &[u8],
+    v: [u32; MOST_NUMBERS],
+    count: usize,
+) -> usize
+    requires { ⌜ (count ≤ mostNumbers) × (at + length (line (now word) (take count v) ++ (lineFeed ∷ [])) ≤ length (now out)) ⌝ }
+    ensures { λ r. ⌜ Wrote (now (out .entry)) (now (out .exit)) at r (line (now (word .entry)) (take count v) ++ (lineFeed ∷ [])) ⌝ }
+{
+    let a = put_text(&mut *out, at, word);
+    let b = put_numbers(&mut *out, a, v, count);
+    put(&mut *out, b, LINE_FEED)
 }

@@ -22,4 +22,5 @@ command-of-spec =
     (λ c. rw (c .match .keys9))
     (λ c. rw (c .match .keys10))
     (λ c. rw (c .match .keys11))
+    (λ c. rw (c .match .keys12))
     (λ c. command-rest _ _ (c .match .rest)))

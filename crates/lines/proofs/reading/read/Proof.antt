@@ -1,47 +1,30 @@
--- `read` meets its contract: the command that its parts find is that of the grammar. Assumes nothing.
-use mathlib.Core.Path.{ap, _∙_}
-use native.Mathlib.Omega.{arith}
+-- `read` meets its contract: length before form. Assumes nothing.
+use Prim.Native.Nat.{ℕ, _≤_, _<_}
+use mathlib.Core.Path.{_≡_}
+use mathlib.Core.List.{List}
 use borrow.Author.Needs.{needs}
-use Rattle.lines.specs.declared.reading.Word.{Word}
-use Rattle.lines.specs.Grammar.{table}
-use Rattle.lines.specs.Reading.{withNumbers}
-use Rattle.lines.proofs.Codes.{Bytes, all-bytes}
-use Rattle.lines.proofs.Rows.{kept, most-few}
-use Rattle.lines.proofs.Commands.{word-inside, read-bits, read-numbers}
+use borrow.Author.Tests.{lt-ltb, le-ltb}
+use lib.ListN.{length}
+use Rattle.lines.specs.declared.Command.{Command}
+use Rattle.lines.specs.declared.Command.the-variants.{TooLong}
+use Rattle.lines.specs.Length.{mostBytes}
+use Rattle.lines.specs.Grammar.{parse, lineCommand}
 use Rattle.lines.proofs.reading.read.Statement.{statement}
 use Rattle.lines.proofs.reading.read.Tie as tie
 
-bytes : (c : tie.After-shared-slice-known) → Bytes (c .before .args .line .now)
-bytes c = all-bytes (c .before .args .line .now) (λ i. c .shared-slice-known .given i .fits)
+long : (s : List ℕ) → mostBytes < length s → TooLong ≡ lineCommand s
+unfolding lineCommand
+long s h = rw (lt-ltb mostBytes (length s) h)
 
-add-read-bits : tie.Need-add-read-bits
-add-read-bits c =
-    let w = c .before .read-word in
-    let s = c .before .before .before .args .line .now in
-    omega (arith, word-inside s, ap (λ (x : Word). x .end) (w .ensures))
+short : (s : List ℕ) {c : Command} → length s ≤ mostBytes → c ≡ parse s → c ≡ lineCommand s
+unfolding lineCommand
+short s h e = rw (le-ltb mostBytes (length s) h) e
 
 returns : tie.Need-returns
-returns c = let w = c .before .before in c .read-bits .ensures ∙ read-bits _ (bytes (w .before)) (w .read-word .ensures) (c .before .if1 .taken)
-
-read-numbers-requires : tie.Need-read-numbers-requires
-read-numbers-requires c κs = rw (c .numbers-of .ensures) (most-few _ table kept 0 (omega arith))
+returns c = long _ (c .if1 .taken)
 
 returns-2 : tie.Need-returns-2
-returns-2 c =
-    let n = c .before .before in
-    let w = n .before .before in
-    c .with-numbers .ensures ∙ ap (withNumbers (w .read-word .result .code)) (c .before .read-numbers .ensures)
-    ∙ read-numbers _ (bytes (w .before)) (w .read-word .ensures) (n .before .if1 .left) (n .numbers-of .ensures)
+returns-2 c = short _ (c .before .if1 .left) (c .read-form .ensures)
 
 pub read-spec : {M : Type 1} → statement M
-read-spec =
-    tie.close
-    (tie.spec
-    (λ c κs. search needs)
-    add-read-bits
-    (λ c κs. search needs)
-    returns
-    (λ c κs. search needs)
-    read-numbers-requires
-    (λ c κs. search needs)
-    returns-2)
+read-spec = tie.close (tie.spec returns (λ c κs. search needs) returns-2)

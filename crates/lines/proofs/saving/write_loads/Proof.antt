@@ -1,0 +1,86 @@
+-- `write_loads` meets its contract. The invariant: the lines of the first i loads are written. Assumes nothing.
+use Prim.Native.Nat.{ℕ, _+_, _-_, _≤_, _<_}
+use mathlib.Core.Path.{_≡_}
+use mathlib.Core.List.{List, _++_, map}
+use native.Mathlib.Omega.{arith}
+use borrow.Author.Needs.{needs}
+use lib.ListN.{length, take, getD}
+use Rattle.lists.proofs.Arrays.{of-map}
+use Rattle.tables.specs.declared.load.Load.{Load}
+use Rattle.tables.specs.Tables.{noLoad}
+use Rattle.tables.specs.Limits.{maxLoads}
+use Rattle.lines.specs.Written.{changeLine}
+use Rattle.lines.specs.Answers.{Wrote}
+use Rattle.lines.specs.Saved.{loadChange, changesText}
+use Rattle.lines.proofs.Wrote.{wrote-none, wrote-length, part-room, part-more, part-all}
+use Rattle.lines.proofs.Saves.{each-next}
+use Rattle.lines.proofs.saving.write_loads.Statement.{statement}
+use Rattle.lines.proofs.saving.write_loads.Tie as tie
+
+-- the text of the first i loads, and what the next adds to it
+abbrev text : List Load → ℕ → List ℕ
+text xs i = changesText (map loadChange (take i xs))
+
+abbrev part : List Load → ℕ → List ℕ
+part xs i = changeLine (loadChange (getD xs i noLoad))
+
+abbrev Inv-loop : tie.InvT-loop
+Inv-loop out₀ at loads next₀ i₀ i-end out next i = (i ≤ loads .count) × Wrote out₀ out at next (text (loads .items) i)
+
+abbrev μ-loop : tie.MeasureT-loop
+μ-loop out₀ at loads next₀ i₀ i-end out next i = loads .count - i
+
+len : (c : tie.Start Inv-loop μ-loop) → length (c .args .t3 .items) ≡ maxLoads
+len c = search (needs, of-map)
+
+next-part : (c : tie.Start Inv-loop μ-loop) → let l = c .args .t3 in
+    (i : ℕ) → i < l .count → text (l .items) (i + 1) ≡ text (l .items) i ++ part (l .items) i
+next-part c i h = each-next loadChange noLoad (c .args .t3 .items) i (omega (arith, len c, c .pre .0))
+
+loop-holds : tie.Need-loop-holds Inv-loop μ-loop
+unfolding changesText
+loop-holds c = (omega arith, wrote-none _ _)
+
+write-load-requires : tie.Need-write-load-requires Inv-loop μ-loop
+write-load-requires c κs =
+    let t = c .before .before in
+    let l = t .before in
+    let s = l .before .before in
+    let x = s .args .t3 in
+    part-room (text (x .items)) (part (x .items)) (x .count) (next-part s) (l .loop .i) (t .loop-test .taken) (l .loop .inv .1) (s .pre .1)
+
+loop-again : tie.Need-loop-again Inv-loop μ-loop
+loop-again c =
+    let w = c .before .before in
+    let t = w .before .before .before in
+    let l = t .before in
+    let s = l .before .before in
+    let x = s .args .t3 in
+    let less = t .loop-test .taken in
+    (omega (arith, less), part-more (text (x .items)) (part (x .items)) (x .count) (next-part s) (l .loop .i) less (l .loop .inv .1) (w .write-load .ensures))
+
+same-length : tie.Need-same-length Inv-loop μ-loop
+same-length c = wrote-length (c .before .loop .inv .1)
+
+returns : tie.Need-returns Inv-loop μ-loop
+returns c =
+    let l = c .before in
+    let s = l .before .before in
+    let x = s .args .t3 in
+    part-all (text (x .items)) (part (x .items)) (x .count) (next-part s) (l .loop .i) (l .loop .inv .0) (c .loop-test .left) (l .loop .inv .1)
+
+pub write-loads-spec : {M : Type 1} → statement M
+write-loads-spec =
+    tie.close
+    (tie.spec
+    Inv-loop
+    μ-loop
+    loop-holds
+    (λ c. omega arith)
+    (λ c. omega (arith, len (c .before .before .before), c .before .before .before .pre .0))
+    write-load-requires
+    (λ c. omega arith)
+    (λ c. omega arith)
+    loop-again
+    same-length
+    returns)
