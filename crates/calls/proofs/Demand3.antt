@@ -8,12 +8,12 @@ use Rattle.calls.specs.Calls.{Done, after, answer}
 use Rattle.calls.specs.Demand2.{PlanRight}
 use Rattle.calls.specs.Demand3.{Exchange, History, last, paperFrom, Right, Demand3}
 use Rattle.calls.proofs.State.{fresh-within}
-use Rattle.calls.proofs.Keeps.{after-within}
+use Rattle.calls.proofs.Keeps.{after-places, after-within}
 use Rattle.calls.proofs.Plans.{plan-right}
 use Rattle.calls.proofs.Answers.{called-stored}
 
 -- after any calls, from a state within the limits
-history-right : (s : State) → Within s → (xs : List Exchange) → History (storedState s) xs
+pub history-right : (s : State) → Within s → (xs : List Exchange) → History (storedState s) xs
     → (last (storedState s) xs ≡ storedState (paperFrom s xs)) × Within (paperFrom s xs) × Right s xs
 history-right s h [] y = (refl, h, tt)
 history-right s h (x ∷ xs) y =
@@ -26,6 +26,10 @@ history-right s h (x ∷ xs) y =
       ih .1,
       (r, λ k. subst (PlanRight (s .tables) c) (sym r) (plan-right s c k h), ih .2),
     )
+
+pub history-places : (s : State) (xs : List Exchange) → paperFrom s xs .tables .places ≡ s .tables .places
+history-places s [] = refl
+history-places s (x ∷ xs) = history-places (after s (x .call)) xs ∙ after-places s (x .call)
 
 -- for every limit of loads up to `mostPlaces`, and every list of calls from a fresh planner
 pub demand3 : (n : ℕ) → n ≤ mostPlaces → (xs : List Exchange) → History (storedState (fresh n)) xs → Demand3 n xs

@@ -1,4 +1,4 @@
--- Every accepted line keeps the limits, and every answer fits. Assumes nothing.
+-- Every line keeps the limits and the places for loads, and every answer fits. Assumes nothing.
 use Prim.Native.Nat.{ℕ, zero, suc, _≤_}
 use mathlib.Core.Path.{_≡_, refl}
 use native.Mathlib.Omega.{arith}
@@ -21,6 +21,15 @@ use Rattle.calls.proofs.Refusals.{refusal-most}
 pub none-of-row : (n room place : ℕ) (r : Row) → refusal n room place r ≡ 0 → lowest (causesOf n r) ≡ 0
 unfolding refusal allCauses
 none-of-row n room place r e = passed no.unusable _ _ (lit< tt) e .1
+
+-- no line changes the limit of loads
+pub after-places : (s : State) (c : Call) → after s c .tables .places ≡ s .tables .places
+unfolding changed
+after-places s c = go (refusal 0 (length (c .output)) (c .place) (rowFor s c))
+  where
+    go : (n : ℕ) → acted (s .tables) n (rowFor s c) .places ≡ s .tables .places
+    go zero = line-right s 0 (c .line) .places
+    go (suc n) = refl
 
 module _ (s : State) (h : Within s) where
   pub after-within : (c : Call) → Within (after s c)

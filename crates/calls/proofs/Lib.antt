@@ -1,4 +1,5 @@
--- The theorems on calls, from the ground up: Demand1, Demand2 and Demand3 have the last ones.
+-- The theorems on calls, from the ground up: Demand1, Demand2 and Demand3 have the last ones of paper 01, Padding, Saves and SaveProgram those of
+-- requests One and Two of paper 02.
 pub mod State
 pub mod Numbers
 pub mod Answers
@@ -15,6 +16,10 @@ pub mod Demand2
 pub mod Plans
 pub mod Demand3
 pub mod Full
+pub mod Steps
+pub mod Rebuilds
+pub mod Saves
 pub mod Program
+pub mod SaveProgram
 pub mod Padding
 pub mod Session

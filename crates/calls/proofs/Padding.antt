@@ -5,6 +5,7 @@ use mathlib.Core.Path.{_≡_, refl, sym, ap, ap₂, _∙_}
 use mathlib.Core.List.{List, _∷_, _++_}
 use Rattle.lists.specs.Pairs.{Pairwise, none, both}
 use Rattle.lines.specs.Padding.{SameLine}
+use Rattle.lines.specs.Grammar.{lineCommand}
 use Rattle.lines.specs.Input.{lines}
 use Rattle.lines.proofs.Padding.{same-command, same-long}
 use Rattle.calls.specs.State.{State, StoredState}
@@ -16,7 +17,7 @@ use Rattle.calls.specs.Program.{Left, leftBy, callOn, doneOn, exchanges,
 use Rattle.calls.proofs.ByRow.{withLine, row-call}
 
 same-row : (s : State) {l m : List ℕ} → SameLine l m → lineRow s l ≡ lineRow s m
-unfolding lineRow
+unfolding lineRow lineCommand
 same-row s q = rw (same-long q, same-command q)
 
 -- one call: number, count, planner, output and work, on every planner

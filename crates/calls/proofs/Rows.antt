@@ -1,4 +1,5 @@
--- Every row of the table is right: its causes ascend, its change keeps the limits, and its text fits the bytes that it needs. Assumes nothing.
+-- Every row of the table is right: its causes ascend, its change keeps the limits and the places, and its text fits the bytes that it needs.
+-- Assumes nothing.
 use Prim.Native.Nat.{ℕ, suc, _≤_, _<_}
 use mathlib.Core.Path.{_≡_, refl}
 use mathlib.Core.Bool.{Bool, true, false, _&&_}
@@ -7,22 +8,25 @@ use mathlib.Core.Logic.{_⊎_, inl, inr}
 use borrow.Author.Tests.{leb-false, eqb-false}
 use lib.Dec.{lit<, lit≤, eqb, leb, ltb}
 use lib.ListN.{length}
-use Rattle.lists.specs.Tests.{pick, some}
+use Rattle.lists.specs.Tests.{some}
 use Rattle.lists.proofs.Bools.{and-right}
 use Rattle.marks.specs.Sets.{markIn}
 use Rattle.lines.specs.declared.Change.{Change}
 use Rattle.lines.specs.declared.Change.the-variants as to
 use Rattle.lines.specs.declared.Command.{Command}
 use Rattle.lines.specs.declared.Command.the-variants as line
-use Rattle.lines.specs.Length.{tooLong}
-use Rattle.lines.specs.Grammar.{parse}
+use Rattle.lines.specs.declared.answer.Answer.the-variants.{Accepted}
+use Rattle.lines.specs.Grammar.{lineCommand}
+use Rattle.lines.specs.Saved.{saved}
 use Rattle.lines.specs.Answers.{freeBytes, AllRanged, numberOf, textOf}
+use Rattle.lines.proofs.SaveText.{save-fits}
 use Rattle.tables.specs.declared.rule.Sort.{Sort}
 use Rattle.tables.specs.declared.rule.Sort.the-variants as sort
 use Rattle.tables.specs.declared.load.Figure.{Figure}
 use Rattle.tables.specs.declared.load.Figure.the-variants as figure
 use Rattle.tables.specs.declared.rule.Transition.{Transition}
 use Rattle.tables.specs.Refusals as no
+use Rattle.tables.specs.Tables as on-paper
 use Rattle.tables.specs.Tables.{Tables, sizeFor, rulesFor}
 use Rattle.tables.specs.Limits.{between, bookSize, sameRule, maxRules, loadIn, figureIn, budgetIn, Limits}
 use Rattle.tables.proofs.Lawful.{lawful}
@@ -33,7 +37,7 @@ use Rattle.meaning.specs.Claims.{EachLoad}
 use Rattle.meaning.specs.Cells.{cellsOf}
 use Rattle.meaning.proofs.Claims.{claims}
 use Rattle.calls.specs.State.{State, Within}
-use Rattle.calls.specs.Rows.{Changing, Shown, shownText, Row, changes, shows, rule, load, isLoad, noneFits, notAllowed, marking, ruleCauses, adding, setting, changing, refuses, row, lineRow, bytesOf, mostBytes, causesOf, effectOf, shownOf, cellsFor}
+use Rattle.calls.specs.Rows.{Changing, Shown, alone, shownText, Row, rule, load, isLoad, noneFits, notAllowed, marking, ruleCauses, adding, setting, changing, refuses, row, lineRow, bytesOf, mostBytes, causesOf, effectOf, shownOf, cellsFor}
 use Rattle.calls.specs.Causes.{lowest}
 use Rattle.calls.proofs.Numbers.{passed, passed-not, Ascending}
 use Rattle.calls.proofs.Answers.{positive}
@@ -43,9 +47,10 @@ use Rattle.calls.proofs.Fits.{plan-ranged, check-ranged, planned-fits, 
 pub record Sound (t : Tables) (x : Changing) : Type 0 where
   pub ordered : Ascending 2 (x .causes)
   pub keeps : Limits t → lowest (x .causes) ≡ 0 → Limits (x .after)
+  pub places : x .after .places ≡ t .places
 
-is-sound : {t : Tables} {x : Changing} → Ascending 2 (x .causes) → (Limits t → lowest (x .causes) ≡ 0 → Limits (x .after)) → Sound t x
-is-sound o k = record { ordered = o; keeps = k }
+is-sound : {t : Tables} {x : Changing} → Ascending 2 (x .causes) → x .after .places ≡ t .places → (Limits t → lowest (x .causes) ≡ 0 → Limits (x .after)) → Sound t x
+is-sound o e k = record { ordered = o; keeps = k; places = e }
 
 -- what a rule of either sort that is accepted has passed
 new-rule : (b : Bool) (r : Transition) (rs : List Transition) → lowest (ruleCauses b r rs) ≡ 0 → (b ≡ true) × (length rs < maxRules) × (some (sameRule r) rs ≡ false)
@@ -55,41 +60,43 @@ new-rule b r rs e =
     (p .0, leb-false maxRules (length rs) (q .0), passed no.sameRule (some (sameRule r) rs) [] (lit< tt) (q .1) .0)
 
 mark-sound : (t : Tables) (k : Sort) (q : ℕ) → Sound t (marking t k q)
-mark-sound t k q = is-sound (lit≤ tt, lit≤ tt) (λ h e. mark-keeps t h k q (passed-not no.outOfRange (between 1 (sizeFor (t .book) k) q) [] (lit< tt) e .0))
+mark-sound t k q = is-sound (lit≤ tt, lit≤ tt) refl (λ h e. mark-keeps t h k q (passed-not no.outOfRange (between 1 (sizeFor (t .book) k) q) [] (lit< tt) e .0))
 
 add-sound : (t : Tables) (k : Sort) (r : Transition) → Sound t (adding t k r)
 add-sound t k r =
-    is-sound (lit≤ tt, (lit≤ tt, (lit≤ tt, lit≤ tt))) (λ h e. let p = new-rule _ r (rulesFor (t .book) k) e in add-rule-keeps t h k r (p .0) (p .1) (p .2))
+    is-sound (lit≤ tt, (lit≤ tt, (lit≤ tt, lit≤ tt))) refl (λ h e. let p = new-rule _ r (rulesFor (t .book) k) e in add-rule-keeps t h k r (p .0) (p .1) (p .2))
 
 set-sound : (t : Tables) (f : Figure) (k x : ℕ) → Sound t (setting t f k x)
 set-sound t f k x =
-    is-sound (lit≤ tt, lit≤ tt) (λ h e. set-figure-keeps t h f k x (and-right (isLoad t k) (figureIn f x) (passed-not no.outOfRange (isLoad t k && figureIn f x) [] (lit< tt) e .0)))
+    is-sound (lit≤ tt, lit≤ tt) refl (λ h e. set-figure-keeps t h f k x (and-right (isLoad t k) (figureIn f x) (passed-not no.outOfRange (isLoad t k && figureIn f x) [] (lit< tt) e .0)))
 
 sound : (t : Tables) (c : Change) → Sound t (changing t c)
-unfolding changing
-sound t to.Clear = is-sound (lit≤ tt) (λ h e. fresh-limits (t .places) (lawful t h .places))
-sound t (to.Book s g) = is-sound (lit≤ tt, lit≤ tt) (λ h e. new-book-keeps t h s g (passed-not no.outOfRange (bookSize s g) [] (lit< tt) e .0))
+unfolding changing on-paper.fresh
+sound t to.Clear = is-sound (lit≤ tt) refl (λ h e. fresh-limits (t .places) (lawful t h .places))
+sound t (to.Book s g) = is-sound (lit≤ tt, lit≤ tt) refl (λ h e. new-book-keeps t h s g (passed-not no.outOfRange (bookSize s g) [] (lit< tt) e .0))
 sound t (to.Start q) = mark-sound t sort.Load q
 sound t (to.End g) = mark-sound t sort.Row g
 sound t (to.Rule q m g) = add-sound t sort.Load (rule q m g)
 sound t (to.Row g q h) = add-sound t sort.Row (rule g q h)
 sound t (to.Load p w v) =
-    is-sound (lit≤ tt, (lit≤ tt, lit≤ tt)) (λ h e.
+    is-sound (lit≤ tt, (lit≤ tt, lit≤ tt)) refl (λ h e.
     let a = passed-not no.outOfRange (loadIn (suc (length (t .loads))) (load p w v)) _ (lit< tt) e in
     let b = passed no.full (leb (t .places) (length (t .loads))) [] (lit< tt) (a .1) in
     add-load-keeps t h (load p w v) (a .0) (leb-false (t .places) (length (t .loads)) (b .0)))
 sound t (to.Power k w) = set-sound t figure.Power k w
 sound t (to.Worth k v) = set-sound t figure.Worth k v
-sound t (to.Budget w) = is-sound (lit≤ tt, lit≤ tt) (λ h e. set-budget-keeps t h w (passed-not no.outOfRange (budgetIn w) [] (lit< tt) e .0))
+sound t (to.Budget w) = is-sound (lit≤ tt, lit≤ tt) refl (λ h e. set-budget-keeps t h w (passed-not no.outOfRange (budgetIn w) [] (lit< tt) e .0))
 
 -- ---- rows
--- an answer has no load lines, or its entries are one for each load
+-- the entries of a run, one for each load
 pub record OneEach (t : Tables) (es : List Entry) : Type 0 where
   pub loads : EachLoad t es
   pub ranged : AllRanged es
 
-abbrev pub Listing : Tables → Shown → Type 0
-Listing t x = ((es : List Entry) → textOf (x .answer) es ≡ shownText x) ⊎ OneEach t (x .entries)
+-- an answer has no load lines, or its entries are those of a run; and it writes no changes, or those of a save
+pub record Listing (t : Tables) (x : Shown) : Type 0 where
+  pub entries : ((es : List Entry) (cs : List Change) → textOf (x .answer) es cs ≡ textOf (x .answer) (x .entries) cs) ⊎ OneEach t (x .entries)
+  pub changes : ((cs : List Change) → textOf (x .answer) (x .entries) cs ≡ shownText x) ⊎ (x .changes ≡ saved t)
 
 -- what a row shows where no cause applies
 pub record Showing (t : Tables) (bytes : ℕ) (x : Shown) : Type 0 where
@@ -102,7 +109,14 @@ pub record Right (s : State) (cells : ℕ) (r : Row) : Type 0 where
   pub most : bytesOf r ≤ mostBytes
   pub accepts : numberOf (shownOf r .answer) ≡ 0
   pub keeps : Within s → lowest (causesOf cells r) ≡ 0 → Limits (effectOf (s .tables) r)
+  pub places : effectOf (s .tables) r .places ≡ s .tables .places
   pub shown : Within s → lowest (causesOf cells r) ≡ 0 → Showing (s .tables) (bytesOf r) (shownOf r)
+
+no-lines : {t : Tables} → Listing t (alone Accepted)
+no-lines = record { entries = inl (λ es cs. refl); changes = inl (λ cs. refl) }
+
+run-lines : {t : Tables} (x : Shown) → OneEach t (x .entries) → ((cs : List Change) → textOf (x .answer) (x .entries) cs ≡ shownText x) → Listing t x
+run-lines x o e = record { entries = inr o; changes = inl e }
 
 refuses-right : (s : State) (cells n : ℕ) → no.unusable < n → n ≤ no.greatest → Right s cells (refuses n)
 refuses-right s cells n a b = record {
@@ -111,7 +125,8 @@ refuses-right s cells n a b = record {
   most = lit≤ tt;
   accepts = refl;
   keeps = λ h e. h .tables;
-  shown = λ h e. record { fits = lit≤ tt; lists = inl (λ es. refl) };
+  places = refl;
+  shown = λ h e. record { fits = lit≤ tt; lists = no-lines };
 }
 
 right : (s : State) (n : ℕ) (c : Command) → Right s n (row s c)
@@ -124,7 +139,8 @@ right s n (line.Change c) =
       most = lit≤ tt;
       accepts = refl;
       keeps = λ h. x .keeps (h .tables);
-      shown = λ h e. record { fits = lit≤ tt; lists = inl (λ es. refl) };
+      places = x .places;
+      shown = λ h e. record { fits = lit≤ tt; lists = no-lines };
     }
 right s n line.Plan =
     let t = s .tables in
@@ -134,10 +150,11 @@ right s n line.Plan =
       most = lit≤ tt;
       accepts = refl;
       keeps = λ h e. h .tables;
+      places = refl;
       shown = λ h e.
           let some = passed no.noneFits (noneFits t) [] (lit< tt) (passed no.tooFewCells (ltb n (cellsOf t)) _ (lit< tt) (passed no.noLoads (eqb (length (t .loads)) 0) _ (lit< tt) e .1) .1) .0 in
           let p = claims t (h .tables) .planned (positive (eqb-false (bestPlan t) 0 some)) in
-          record { fits = planned-fits t (h .tables) some; lists = inr (record { loads = p .loads; ranged = plan-ranged t (h .tables) }) };
+          record { fits = planned-fits t (h .tables) some; lists = run-lines _ (record { loads = p .loads; ranged = plan-ranged t (h .tables) }) (λ cs. refl) };
     }
 right s n (line.Check σ k) =
     let t = s .tables in
@@ -147,20 +164,27 @@ right s n (line.Check σ k) =
       most = lit≤ tt;
       accepts = refl;
       keeps = λ h e. h .tables;
+      places = refl;
       shown = λ h e.
           let some = passed no.notAllowed (notAllowed t (markIn σ)) [] (lit< tt) (passed-not no.outOfRange (eqb k (length (t .loads))) _ (lit< tt) (passed no.noLoads (eqb (length (t .loads)) 0) _ (lit< tt) e .1) .1) .0 in
           let p = claims t (h .tables) .checked (markIn σ) (positive (eqb-false (bestCheck t (markIn σ)) 0 some)) in
-          record { fits = checked-fits t (h .tables) (markIn σ); lists = inr (record { loads = p .loads; ranged = check-ranged t (h .tables) (markIn σ) }) };
+          record { fits = checked-fits t (h .tables) (markIn σ); lists = run-lines _ (record { loads = p .loads; ranged = check-ranged t (h .tables) (markIn σ) }) (λ cs. refl) };
     }
+right s n line.Save = record {
+  ordered = lit≤ tt;
+  room = lit≤ tt;
+  most = lit≤ tt;
+  accepts = refl;
+  keeps = λ h e. h .tables;
+  places = refl;
+  shown = λ h e. record { fits = save-fits (s .tables) (h .tables); lists = record { entries = inl (λ es cs. refl); changes = inr refl } };
+}
 right s n line.Broken = refuses-right s n no.broken (lit≤ tt) (lit≤ tt)
+right s n line.TooLong = refuses-right s n no.tooLong (lit≤ tt) (lit≤ tt)
 
 pub line-right : (s : State) (n : ℕ) (l : List ℕ) → Right s n (lineRow s l)
 unfolding lineRow
-line-right s n l = go (tooLong l)
-  where
-    go : (b : Bool) → Right s n (pick b (refuses no.tooLong) (row s (parse l)))
-    go true = refuses-right s n no.tooLong (lit≤ tt) (lit≤ tt)
-    go false = right s n (parse l)
+line-right s n l = right s n (lineCommand l)
 
 -- of all commands only a plan works in cells
 pub works-plan : (s : State) (c : Command) → (c ≡ line.Plan) ⊎ (cellsFor (row s c) ≡ 0)
@@ -168,4 +192,6 @@ unfolding row
 works-plan s (line.Change c) = inr refl
 works-plan s line.Plan = inl refl
 works-plan s (line.Check σ n) = inr refl
+works-plan s line.Save = inr refl
 works-plan s line.Broken = inr refl
+works-plan s line.TooLong = inr refl

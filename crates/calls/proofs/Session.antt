@@ -8,7 +8,9 @@ use Rattle.lists.specs.Argmax.{argmax}
 use Rattle.marks.specs.Bits.{hasMark, withMark}
 use Rattle.marks.specs.Sets.{joined, hasLoad}
 use Rattle.lines.specs.Text.{same, decimalTo, decimal, field}
-use Rattle.lines.specs.Grammar.{fields, isNumber, valueFrom, isBits, joinedFrom, parse, findForm}
+use Rattle.lines.specs.Grammar.{fields, isNumber, valueFrom, isBits, joinedFrom, parse, findForm, lineCommand, lineOf}
+use Rattle.lines.specs.Written.{parted}
+use Rattle.lines.specs.Saved.{markChanges, sizeChange, bookChanges, saved, changesText}
 use Rattle.lines.specs.Answers.{refused, planLine, entryLine, entryLines}
 use Rattle.lines.specs.Input.{lines}
 use Rattle.tables.specs.Tables.{fresh}
@@ -28,5 +30,5 @@ use Rattle.calls.specs.Program.{exchanges, printedBy, sessionWith}
 use Rattle.calls.specs.Session.{sessionRight}
 
 pub session-right : sessionRight ≡ true
-unfolding some every everyFrom distinct laid limited argmax hasMark withMark joined hasLoad same decimalTo decimal field fields isNumber valueFrom isBits joinedFrom parse findForm refused planLine entryLine entryLines lines fresh ruleIn sameRule sortIn bookIn loadIn loadsIn limits storedBook stored bookOf tablesOf zeroRule zeroLoad keepsLimits row tree sum cell _⊕_ best bestTree bestPlan bestCheck choose chooseTree plan check find inOrder planEntries checkEntries lowest cellsOf noneFits notAllowed changing rowOf lineRow allCauses refusal changed text zeroed workAfter answer called exchanges printedBy sessionWith sessionRight
+unfolding some every everyFrom distinct laid limited argmax hasMark withMark joined hasLoad same decimalTo decimal field fields isNumber valueFrom isBits joinedFrom parse findForm lineCommand lineOf parted markChanges sizeChange bookChanges saved changesText refused planLine entryLine entryLines lines fresh ruleIn sameRule sortIn bookIn loadIn loadsIn limits storedBook stored bookOf tablesOf zeroRule zeroLoad keepsLimits row tree sum cell _⊕_ best bestTree bestPlan bestCheck choose chooseTree plan check find inOrder planEntries checkEntries lowest cellsOf noneFits notAllowed changing rowOf lineRow allCauses refusal changed text zeroed workAfter answer called exchanges printedBy sessionWith sessionRight
 session-right = refl

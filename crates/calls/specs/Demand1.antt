@@ -1,15 +1,18 @@
 -- Demand 1: what every call gives and leaves, on any planner, whatever its fields hold, with any line, output, place and work. (The proof
 -- takes the lengths of the planner's arrays, which their types give: `Lengths` of crate tables.)
 -- It stands for "Causes and numbers" of paper 01: "The lowest number that applies is given. Each is given exactly in its case." and the
--- columns "returned" and "left as it was"; and for the buffers of "Lines". (That a call ends and does nothing undefined is part of the proof
--- of every function. The judge's part stands in the crate judge.) Assumes nothing.
-use Prim.Native.Nat.{_+_, _≤_, _<_}
+-- columns "returned" and "left as it was"; for the buffers of "Lines"; and for the free bytes of request Two of paper 02. (That a call ends and
+-- does nothing undefined is part of the proof of every function. The judge's part stands in the crate judge.) Assumes nothing.
+use Prim.Native.Nat.{ℕ, _+_, _≤_, _<_}
 use mathlib.Core.Path.{_≡_}
 use mathlib.Core.Bool.{true, false, not}
 use mathlib.Core.List.{List, _∷_}
+use mathlib.Core.Logic.{_⊎_, _↔_}
 use lib.ListN.{length, take, drop}
-use Rattle.lines.specs.declared.Command.the-variants.{Plan}
-use Rattle.lines.specs.Grammar.{parse}
+use Rattle.lines.specs.declared.Command.{Command}
+use Rattle.lines.specs.declared.Command.the-variants as line
+use Rattle.lines.specs.Grammar.{parse, lineCommand}
+use Rattle.lines.specs.Saved.{saveBytes}
 use Rattle.lines.specs.Answers.{refused, freeBytes}
 use Rattle.tables.specs.Refusals as no
 use Rattle.meaning.specs.Cells.{cellsOf}
@@ -42,13 +45,30 @@ pub record Demand1 (p : StoredState) (c : Call) (d : Done) : Type 0 where
   pub cleared : searched (d .reply .number) ≡ true → d .reply .work ≡ zeroed (cellsFor (rowFor (stateOf p) c)) (c .work)
   pub unchanged : searched (d .reply .number) ≡ false → d .reply .work ≡ c .work
 
--- the same of tables, output and work, by the command that a line asks for and not by its row
+-- ---- by the command that a line asks for
+-- the bytes that it needs: "1,024 bytes must be free from there"
+abbrev pub bytesFor : Command → ℕ
+bytesFor (line.Change c) = freeBytes
+bytesFor line.Plan = freeBytes
+bytesFor (line.Check σ n) = freeBytes
+-- "It needs 3,000 free bytes, which the line program now lends, and fewer is refusal 1."
+bytesFor line.Save = saveBytes
+-- "A line that breaks its form or is too long needs 1,024, its command word notwithstanding."
+bytesFor line.Broken = freeBytes
+bytesFor line.TooLong = freeBytes
+
+unfoldable pub bytesNeeded : (line : List ℕ) → ℕ
+bytesNeeded l = bytesFor (lineCommand l)
+
+-- the same of tables, output and work, by the command and not by its row
 pub record ByCommand (p : StoredState) (c : Call) (d : Done) : Type 0 where
   -- "an accepted line changes them as its row below says, a refused one not at all"
   pub tables : 0 < d .reply .number → d .state .tables ≡ p .tables
-  -- "1,024 bytes must be free from there"
-  pub fits : d .reply .count ≤ freeBytes
+  -- 1 exactly for "fewer free output bytes than needed; place past the end; a planner handed in that breaks a limit"
+  pub one : (d .reply .number ≡ no.unusable) ↔ ((keeps p ≡ false) ⊎ (length (c .output) < c .place + bytesNeeded (c .line)))
+  -- no answer is longer than the bytes that its line needs
+  pub fits : d .reply .count ≤ bytesNeeded (c .line)
   -- "After a plan or refusal 9 those cells are 0"
-  pub cleared : parse (c .line) ≡ Plan → searched (d .reply .number) ≡ true → d .reply .work ≡ zeroed (cellsOf (stateOf p .tables)) (c .work)
+  pub cleared : parse (c .line) ≡ line.Plan → searched (d .reply .number) ≡ true → d .reply .work ≡ zeroed (cellsOf (stateOf p .tables)) (c .work)
   -- ".. and all cells after any other call, are unchanged"
-  pub unchanged : (parse (c .line) ≡ Plan → searched (d .reply .number) ≡ true → ⊥) → d .reply .work ≡ c .work
+  pub unchanged : (parse (c .line) ≡ line.Plan → searched (d .reply .number) ≡ true → ⊥) → d .reply .work ≡ c .work

@@ -1,21 +1,22 @@
 -- What each line of the table asks for: a row a line, with the bytes that it needs, its causes in the order of their numbers, and what it does
 -- where none applies. What a call returns and leaves is read off its row.
--- It stands for the table of "Lines" and rows 2 to 10 of "Causes and numbers" of paper 01. Assumes nothing.
+-- It stands for the table of "Lines" and rows 2 to 10 of "Causes and numbers" of paper 01, and for the command `save` of request Two of paper 02.
+-- Assumes nothing.
 use Prim.Native.Nat.{ℕ, suc}
 use mathlib.Core.Bool.{Bool, true, _&&_, not}
 use mathlib.Core.List.{List, [], _∷_, _++_}
 use lib.Dec.{eqb, leb, ltb}
 use lib.ListN.{length}
-use Rattle.lists.specs.Tests.{pick, some}
+use Rattle.lists.specs.Tests.{some}
 use Rattle.marks.specs.Sets.{markIn}
 use Rattle.lines.specs.declared.Change.{Change}
 use Rattle.lines.specs.declared.Change.the-variants as to
 use Rattle.lines.specs.declared.Command.{Command}
 use Rattle.lines.specs.declared.Command.the-variants as line
 use Rattle.lines.specs.declared.answer.Answer.{Answer}
-use Rattle.lines.specs.declared.answer.Answer.the-variants.{Accepted, Planned, Allowed}
-use Rattle.lines.specs.Length.{tooLong}
-use Rattle.lines.specs.Grammar.{parse}
+use Rattle.lines.specs.declared.answer.Answer.the-variants.{Accepted, Planned, Allowed, Saved}
+use Rattle.lines.specs.Grammar.{lineCommand}
+use Rattle.lines.specs.Saved.{saved, saveBytes}
 use Rattle.lines.specs.Answers.{freeBytes, textOf}
 use Rattle.tables.specs.declared.rule.Transition.{Transition}
 use Rattle.tables.specs.declared.rule.Sort.{Sort}
@@ -48,10 +49,11 @@ pub record Changing : Type 0 where
   pub causes : List Cause
   pub after : Tables
 
--- an answer, and the entries whose load lines it shows
+-- an answer, the entries whose load lines it shows, and the changes whose lines it writes
 pub record Shown : Type 0 where
   pub answer : Answer
   pub entries : List Entry
+  pub changes : List Change
 
 -- a row: a change prints `ok`; what shows changes nothing; what works needs cells (8) besides, and leaves them 0 if it looked
 pub data Row : Type 0 where
@@ -61,18 +63,22 @@ pub data Row : Type 0 where
 
 -- ---- what is shown
 abbrev pub alone : Answer → Shown
-alone a = record { answer = a; entries = [] }
+alone a = record { answer = a; entries = []; changes = [] }
 
 -- "A plan prints `plan,worth,power,n`, n being the number of loads on": the figures of the set shown
 abbrev pub showingPlan : Tables → List Entry → Shown
-showingPlan t es = record { answer = Planned (worth t (shownSet es)) (power t (shownSet es)) (numberOn t (shownSet es)); entries = es }
+showingPlan t es = record { answer = Planned (worth t (shownSet es)) (power t (shownSet es)) (numberOn t (shownSet es)); entries = es; changes = [] }
 
 -- "An allowed check prints `yes` and the same load lines."
 abbrev pub showingCheck : List Entry → Shown
-showingCheck es = record { answer = Allowed; entries = es }
+showingCheck es = record { answer = Allowed; entries = es; changes = [] }
+
+-- "The command `save` writes lines that rebuild the state" of request Two
+abbrev pub showingSave : Tables → Shown
+showingSave t = record { answer = Saved; entries = []; changes = saved t }
 
 abbrev pub shownText : Shown → List ℕ
-shownText x = textOf (x .answer) (x .entries)
+shownText x = textOf (x .answer) (x .entries) (x .changes)
 
 unfoldable pub planText : Tables → List Entry → List ℕ
 planText t es = shownText (showingPlan t es)
@@ -153,12 +159,15 @@ row s (line.Check σ n) =
     shows freeBytes
     ((no.noLoads if eqb (length (t .loads)) 0) ∷ (no.outOfRange if not (eqb n (length (t .loads)))) ∷ (no.notAllowed if notAllowed t (markIn σ)) ∷ [])
     (showingCheck (checkEntries t (markIn σ)))
+-- "The command `save` writes lines that rebuild the state"; "It needs 3,000 free bytes .. and fewer is refusal 1."
+row s line.Save = shows saveBytes [] (showingSave (s .tables))
 -- "no command of the table, wrong field count or form"
 row s line.Broken = refuses no.broken
+-- "line over 80 bytes"
+row s line.TooLong = refuses no.tooLong
 
--- of a line: "line over 80 bytes" is judged before its form
 unfoldable pub lineRow : State → List ℕ → Row
-lineRow s l = pick (tooLong l) (refuses no.tooLong) (row s (parse l))
+lineRow s l = row s (lineCommand l)
 
 -- ---- what is read off a row
 -- the bytes that must be free
@@ -169,7 +178,7 @@ bytesOf (works b m before after x) = b
 
 -- no row needs more
 abbrev pub mostBytes : ℕ
-mostBytes = freeBytes
+mostBytes = saveBytes
 
 -- the causes, in the order of their numbers
 abbrev pub causesOf : (cells : ℕ) → Row → List Cause

@@ -1,0 +1,210 @@
+-- A save that is fed back through the line program, after any input. Assumes nothing.
+use Prim.Native.Nat.{ℕ, _+_, _≤_}
+use mathlib.Core.Path.{_≡_, refl, sym, ap, ap₂, subst, _∙_}
+use mathlib.Core.Bool.{Bool, true, false}
+use mathlib.Core.List.{List, [], _∷_, _++_, flatten, append-assoc, append-nil}
+use native.Mathlib.Omega.{arith}
+use lib.Dec.{eqb, lit≤}
+use lib.ListN.{length, replicate, length-replicate, length-map}
+use lib.Seq.{length-sets}
+use Rattle.lists.specs.Tests.{pick, every}
+use Rattle.lists.specs.Each as each
+use Rattle.lists.specs.Each.{Each}
+use Rattle.lines.specs.declared.Command.the-variants as line
+use Rattle.lines.specs.Text.{bytes, lineFeed, same}
+use Rattle.lines.specs.Grammar.{fields, parse, findForm}
+use Rattle.lines.specs.Written.{written}
+use Rattle.lines.specs.Saved.{saved, saveText, saveBytes}
+use Rattle.lines.specs.Answers.{ok}
+use Rattle.lines.specs.Input.{onLine, lines}
+use Rattle.lines.proofs.SaveLines.{lines-before, save-lines}
+use Rattle.tables.specs.Tables as on-paper
+use Rattle.tables.specs.Tables.{Tables}
+use Rattle.tables.specs.Limits.{maxLoads, Limits}
+use Rattle.tables.specs.Stored.{stored}
+use Rattle.calls.specs.State.{State, StoredState, fresh, storedState, stateOf, keeps, Within}
+use Rattle.calls.specs.Printing.{text}
+use Rattle.calls.specs.Calls.{Call, writtenBy, rowFor, numberFor, answer, calledIf, called}
+use Rattle.calls.specs.Demand1.{bytesNeeded}
+use Rattle.calls.specs.Demand3.{Exchange, History, last, paperFrom, Right}
+use Rattle.calls.specs.Program.{Left, leftBy, callOn, doneOn, exchanges, leftAfter, atStart, printedBy, sessionWith}
+use Rattle.calls.specs.Saves.{SaveCall, linesOf, AllFree, Accepted, Whole, empty, ended, FedBack}
+use Rattle.calls.proofs.State.{fresh-within}
+use Rattle.calls.proofs.ByCommand.{needed-range}
+use Rattle.calls.proofs.Demand3.{history-right, history-places}
+use Rattle.calls.proofs.Rebuilds.{rebuilds}
+use Rattle.calls.proofs.Saves.{save-writes, fed}
+use Rattle.calls.proofs.Program.{exchanges-history, left-append, left-last}
+
+-- ---- lines after whole lines
+data Some : List (List ℕ) → Type 0 where
+  some : (l : List ℕ) (ls : List (List ℕ)) → Some (l ∷ ls)
+
+first-line : (b : ℕ) (s : List ℕ) → Some (lines (b ∷ s))
+unfolding lines
+first-line b s = go (eqb b lineFeed) (lines s)
+  where
+    go : (t : Bool) (ls : List (List ℕ)) → Some (pick t ([] ∷ ls) (onLine b ls))
+    go true ls = some [] ls
+    go false [] = some (b ∷ []) []
+    go false (l ∷ ls) = some (b ∷ l) ls
+
+some-line : (s r : List ℕ) → Some (lines (s ++ (lineFeed ∷ r)))
+some-line [] r = first-line lineFeed r
+some-line (b ∷ s) r = first-line b (s ++ (lineFeed ∷ r))
+
+lines-ended : (s r : List ℕ) → lines (s ++ (lineFeed ∷ r)) ≡ lines (s ++ (lineFeed ∷ [])) ++ lines r
+unfolding lines
+lines-ended [] r = refl
+lines-ended (b ∷ s) r = go (eqb b lineFeed) (lines (s ++ (lineFeed ∷ []))) (some-line s []) (lines-ended s r)
+  where
+    go : (t : Bool) (ls : List (List ℕ)) → Some ls → lines (s ++ (lineFeed ∷ r)) ≡ ls ++ lines r
+        → pick t ([] ∷ lines (s ++ (lineFeed ∷ r))) (onLine b (lines (s ++ (lineFeed ∷ r)))) ≡ pick t ([] ∷ ls) (onLine b ls) ++ lines r
+    go true ls (some k ks) e = ap (λ (ms : List (List ℕ)). [] ∷ ms) e
+    go false ls (some k ks) e = ap (onLine b) e
+
+lines-whole : {s : List ℕ} → Whole s → (r : List ℕ) → lines (s ++ r) ≡ lines s ++ lines r
+unfolding lines
+lines-whole empty r = refl
+lines-whole (ended s) r = ap lines (append-assoc s (lineFeed ∷ []) r) ∙ lines-ended s r
+
+-- ---- calls after calls
+exchanges-append : (x : Left) (a b : List (List ℕ)) → exchanges x (a ++ b) ≡ exchanges x a ++ exchanges (leftAfter x a) b
+unfolding exchanges leftAfter
+exchanges-append x [] b = refl
+exchanges-append x (l ∷ a) b = ap (λ (xs : List Exchange). record { call = callOn x l; done = doneOn x l } ∷ xs) (exchanges-append (leftBy (doneOn x l)) a b)
+
+printed-append : (a b : List Exchange) → printedBy (a ++ b) ≡ printedBy a ++ printedBy b
+unfolding printedBy
+printed-append [] b = refl
+printed-append (x ∷ a) b =
+    ap (λ (t : List ℕ). writtenBy (x .call) (x .done .reply) ++ t) (printed-append a b) ∙ sym (append-assoc (writtenBy (x .call) (x .done .reply)) (printedBy a) (printedBy b))
+
+exchanges-lines : (x : Left) (ls : List (List ℕ)) → linesOf (exchanges x ls) ≡ ls
+unfolding exchanges
+exchanges-lines x [] = refl
+exchanges-lines x (l ∷ ls) = ap (λ (ms : List (List ℕ)). l ∷ ms) (exchanges-lines (leftBy (doneOn x l)) ls)
+
+accepted-printed : {xs : List Exchange} → Each Accepted xs → printedBy xs ≡ flatten (replicate (length xs) ok)
+unfolding printedBy flatten
+accepted-printed each.none = refl
+accepted-printed (each.more a p) = ap₂ _++_ (a .prints) (accepted-printed p)
+
+-- ---- the output keeps its length, so that every line has the bytes that it needs
+output-length : (p : StoredState) (c : Call) → length (called p c .reply .output) ≡ length (c .output)
+unfolding called answer
+output-length p c = go (keeps p)
+  where
+    go : (b : Bool) → length (calledIf b p c .reply .output) ≡ length (c .output)
+    go true = length-sets (c .output) (c .place) (text (numberFor (stateOf p) c) (rowFor (stateOf p) c))
+    go false = refl
+
+left-length : (x : Left) (ls : List (List ℕ)) → length (leftAfter x ls .output) ≡ length (x .output)
+unfolding leftAfter
+left-length x [] = refl
+left-length x (l ∷ ls) = left-length (leftBy (doneOn x l)) ls ∙ output-length (x .state) (callOn x l)
+
+exchanges-free : (x : Left) (ls : List (List ℕ)) → saveBytes ≤ length (x .output) → AllFree (exchanges x ls)
+unfolding exchanges
+exchanges-free x [] h = each.none
+exchanges-free x (l ∷ ls) h =
+    let free : 0 + bytesNeeded l ≤ length (x .output) = omega (arith, needed-range l) in
+    each.more free (exchanges-free (leftBy (doneOn x l)) ls (omega (arith, output-length (x .state) (callOn x l))))
+
+-- ---- the last line of all
+save-parses : parse (bytes "save") ≡ line.Save
+unfolding parse fields findForm same every
+save-parses = refl
+
+one-save : (x : Left) → printedBy (exchanges x (lines (bytes "save\n"))) ≡ writtenBy (callOn x (bytes "save")) (doneOn x (bytes "save") .reply)
+unfolding exchanges printedBy lines
+one-save x = append-nil (writtenBy (callOn x (bytes "save")) (doneOn x (bytes "save") .reply))
+
+-- ---- the lines of a save, given to what the calls before left
+module _ (t : Tables) (h : Limits t) (x : Left) (room : saveBytes ≤ length (x .output)) (s : State) (within : Within s) (holds : x .state ≡ storedState s)
+    (as-many : s .tables .places ≡ t .places) where
+  abbrev back : List (List ℕ)
+  back = lines (saveText t)
+
+  abbrev fedBack : List Exchange
+  fedBack = exchanges x back
+
+  past : (last (storedState s) fedBack ≡ storedState (paperFrom s fedBack)) × Within (paperFrom s fedBack) × Right s fedBack
+  past = history-right s within fedBack (subst (λ (p : StoredState). History p fedBack) holds (exchanges-history x back))
+
+  taken : Each Accepted fedBack × (paperFrom s fedBack .tables ≡ t)
+  taken = fed (rebuilds t h (s .tables) as-many) (save-lines t h .back) s refl fedBack (past .2) (exchanges-lines x back ∙ save-lines t h .cut) (exchanges-free x back room)
+
+  abbrev reached : State
+  reached = paperFrom s fedBack
+
+  ends : leftAfter x back .state ≡ storedState reached
+  ends = left-last x back ∙ ap (λ (p : StoredState). last p fedBack) holds ∙ past .0
+
+  left-tables : leftAfter x back .state .tables ≡ stored t
+  left-tables = ap (λ (p : StoredState). p .tables) ends ∙ ap stored (taken .1)
+
+  back-printed : printedBy fedBack ≡ flatten (replicate (length (saved t)) ok)
+  back-printed = accepted-printed (taken .0) ∙ ap (λ (n : ℕ). flatten (replicate n ok)) count
+    where
+      count : length fedBack ≡ length (saved t)
+      count = sym (length-map fedBack (λ (x : Exchange). x .call .line)) ∙ ap length (exchanges-lines x back ∙ save-lines t h .cut) ∙ length-map (saved t) written
+
+  again : let y = leftAfter x back in writtenBy (callOn y (bytes "save")) (doneOn y (bytes "save") .reply) ≡ saveText t
+  again =
+      let y = leftAfter x back in
+      let c = callOn y (bytes "save") in
+      let k : SaveCall c = record { line = save-parses; free = omega (arith, room, left-length x back) } in
+      ap (λ (p : StoredState). writtenBy c (called p c .reply)) ends ∙ save-writes reached c k (past .1) ∙ ap (λ (u : Tables). saveText u) (taken .1)
+
+-- ---- after any input of whole lines
+module _ (cells : ℕ) {s : List ℕ} (whole : Whole s) (t : Tables) (h : Limits t) (as-many : t .places ≡ maxLoads) where
+  abbrev begun : List Exchange
+  begun = exchanges (atStart cells) (lines s)
+
+  abbrev x : Left
+  x = leftAfter (atStart cells) (lines s)
+
+  before : (last (storedState (fresh maxLoads)) begun ≡ storedState (paperFrom (fresh maxLoads) begun)) × Within (paperFrom (fresh maxLoads) begun) × Right (fresh maxLoads) begun
+  before = history-right (fresh maxLoads) (fresh-within maxLoads (lit≤ tt)) begun (exchanges-history (atStart cells) (lines s))
+
+  held : x .state ≡ storedState (paperFrom (fresh maxLoads) begun)
+  held = left-last (atStart cells) (lines s) ∙ before .0
+
+  room : saveBytes ≤ length (x .output)
+  room = omega (arith, left-length (atStart cells) (lines s), length-replicate {A = ℕ} saveBytes 0)
+
+  places : paperFrom (fresh maxLoads) begun .tables .places ≡ t .places
+  unfolding on-paper.fresh
+  places = history-places (fresh maxLoads) begun ∙ sym as-many
+
+  tables : last (storedState (fresh maxLoads)) (sessionWith cells (s ++ saveText t)) .tables ≡ stored t
+  unfolding sessionWith
+  tables =
+      ap (λ (ls : List (List ℕ)). last (storedState (fresh maxLoads)) (exchanges (atStart cells) ls) .tables) (lines-whole whole (saveText t))
+      ∙ ap (λ (p : StoredState). p .tables) (sym (left-last (atStart cells) (lines s ++ lines (saveText t))) ∙ ap (λ (y : Left). y .state) (left-append (atStart cells) (lines s) (lines (saveText t))))
+      ∙ left-tables t h x room (paperFrom (fresh maxLoads) begun) (before .1) held places
+
+  cut : lines (s ++ saveText t ++ bytes "save\n") ≡ lines s ++ (lines (saveText t) ++ lines (bytes "save\n"))
+  cut =
+      ap lines (append-assoc s (saveText t) (bytes "save\n")) ∙ lines-whole whole (saveText t ++ bytes "save\n")
+      ∙ ap (λ (ls : List (List ℕ)). lines s ++ ls) (lines-before (saved t) (bytes "save\n") ∙ ap (λ (ls : List (List ℕ)). ls ++ lines (bytes "save\n")) (sym (save-lines t h .cut)))
+
+  after-save : printedBy (exchanges x (lines (saveText t) ++ lines (bytes "save\n"))) ≡ flatten (replicate (length (saved t)) ok) ++ saveText t
+  after-save =
+      let y = leftAfter x (lines (saveText t)) in
+      let s = paperFrom (fresh maxLoads) begun in
+      ap printedBy (exchanges-append x (lines (saveText t)) (lines (bytes "save\n")))
+      ∙ printed-append (exchanges x (lines (saveText t))) (exchanges y (lines (bytes "save\n")))
+      ∙ ap₂ _++_ (back-printed t h x room s (before .1) held places) (one-save y ∙ again t h x room s (before .1) held places)
+
+  printed : printedBy (sessionWith cells (s ++ saveText t ++ bytes "save\n")) ≡ printedBy (sessionWith cells s) ++ flatten (replicate (length (saved t)) ok) ++ saveText t
+  unfolding sessionWith
+  printed =
+      let rest = lines (saveText t) ++ lines (bytes "save\n") in
+      ap (λ (ls : List (List ℕ)). printedBy (exchanges (atStart cells) ls)) cut
+      ∙ ap printedBy (exchanges-append (atStart cells) (lines s) rest) ∙ printed-append begun (exchanges x rest)
+      ∙ ap (λ (r : List ℕ). printedBy begun ++ r) after-save ∙ sym (append-assoc (printedBy begun) (flatten (replicate (length (saved t)) ok)) (saveText t))
+
+  pub fed-back : FedBack cells s t
+  fed-back = record { tables = tables; printed = printed }
