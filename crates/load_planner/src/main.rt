@@ -6,7 +6,7 @@ use lines::splitting::MOST_KEPT;
 use lines::splitting::take_line;
 use planner::Planner;
 use planner::call::Called;
-use planner::call::FREE_BYTES;
+use planner::call::SAVE_BYTES;
 ghost use Prim.Native.Nat.{_≤_};
 ghost use mathlib.Core.Path.{_≡_};
 ghost use mathlib.Core.Bool.{true, false};
@@ -17,8 +17,8 @@ ghost use Rattle.calls.specs.Program.{doneOn, answered, afterChunk, atEnd};
 ghost use Rattle.planner.specs.Calls.{doneOf};
 ghost use Rattle.load_planner.specs.Session.{leftOf, carriedOf, Within, Stepped};
 
-// "The line program lends 1,024 bytes and 16,384 cells."
-const LENT_BYTES: usize = FREE_BYTES;
+// "The line program lends .. 16,384 cells" and, since request Two, the 3,000 bytes that a save needs.
+const LENT_BYTES: usize = SAVE_BYTES;
 
 const LENT_CELLS: usize = 16384;
 

@@ -9,6 +9,7 @@ use native.Mathlib.Omega.{arith}
 use borrow.Rule.Slice.PartMut.{putMid}
 use lib.ListN.{length, take, drop}
 use lib.Seq.{sets}
+use Rattle.lines.specs.Saved.{saved}
 use Rattle.lines.specs.Answers.{numberOf, textOf, Wrote}
 use Rattle.lines.proofs.Wrote.{free-back}
 use Rattle.tables.specs.Refusals as no
@@ -74,15 +75,19 @@ module _ (p : Planner) (h : Lawful p) (c : Call) where
     unfolding decidedBy
     number-is = ap (λ (d : Decided). numberOf (d .answer)) is ∙ answered-number x rowNumber
 
-    text-is : textOf (d .answer) (entriesTo (d .run) (p .tables .loads .count)) ≡ text rowNumber r
+    -- the text that is written
+    abbrev pub toWrite : List ℕ
+    toWrite = textOf (d .answer) (entriesTo (d .run) (p .tables .loads .count)) (saved (stateIn p .tables))
+
+    text-is : toWrite ≡ text rowNumber r
     unfolding decidedBy
     text-is =
-        ap (λ (n : ℕ). textOf (d .answer) (entriesTo (d .run) n)) (load-count p h)
-        ∙ ap (λ (d : Decided). textOf (d .answer) (entriesTo (d .run) (length (stateIn p .tables .loads)))) is
+        ap (λ (n : ℕ). textOf (d .answer) (entriesTo (d .run) n) (saved (stateIn p .tables))) (load-count p h)
+        ∙ ap (λ (d : Decided). textOf (d .answer) (entriesTo (d .run) (length (stateIn p .tables .loads))) (saved (stateIn p .tables))) is
         ∙ answered-text x (kept-within (held p) h) (places (p .tables) (h .tables)) rowNumber (λ e. e) (λ e. absurd (omega (arith, e, past-one x (omega (arith, e)))))
 
     -- it fits the free bytes
-    pub text-few : length (textOf (d .answer) (entriesTo (d .run) (p .tables .loads .count))) ≤ bytesOf r
+    pub text-few : length toWrite ≤ bytesOf r
     text-few = rw text-is (text-fits (stateIn p) (kept-within (held p) h) (length (c .work)) rowNumber x (go (eq-zero-or-pos rowNumber)) (λ e. e))
       where
         go : (rowNumber ≡ 0) ⊎ (0 < rowNumber) → rowNumber ≤ no.greatest
@@ -90,7 +95,7 @@ module _ (p : Planner) (h : Lawful p) (c : Call) where
         go (inr l) = past-one x l .1
 
     pub written : c .place + bytesOf r ≤ length (c .output) → (m w : List ℕ) (i n : ℕ) → i ≡ numberOf (d .answer)
-        → Wrote (take (length (c .output) - c .place) (drop (c .place) (c .output))) m 0 n (textOf (d .answer) (entriesTo (d .run) (p .tables .loads .count)))
+        → Wrote (take (length (c .output) - c .place) (drop (c .place) (c .output))) m 0 n toWrite
         → w ≡ workAfter (numberOf (d .answer)) r (c .work)
         → doneOf (record { planner = d .planner; number = i; count = n }) (putMid (c .place) (length (c .output) - c .place) (c .output) m) w ≡ called (held p) c
     unfolding decidedBy

@@ -4,10 +4,13 @@ use mathlib.Core.Path.{_≡_, refl, sym, ap, subst, _∙_}
 use mathlib.Core.List.{List}
 use lib.ListN.{length}
 use Rattle.lines.specs.declared.Change.{Change}
+use Rattle.lines.specs.declared.Command.{Command}
+use Rattle.lines.specs.Grammar.{lineCommand}
+use Rattle.lines.specs.Saved.{saved}
 use Rattle.lines.specs.Answers.{numberOf, answerOf, textOf}
 use Rattle.tables.specs.Limits.{maxLoads}
 use Rattle.calls.specs.State.{State, storedState, Within}
-use Rattle.calls.specs.Rows.{Row, changes, changing, causesOf, cellsFor}
+use Rattle.calls.specs.Rows.{Row, changes, changing, row, lineRow, bytesOf, causesOf, cellsFor}
 use Rattle.calls.specs.Causes.{lowest}
 use Rattle.calls.specs.Effects.{stateBy}
 use Rattle.calls.specs.Printing.{shownBy, text}
@@ -30,15 +33,23 @@ module _ {s : State} {cells : ℕ} {r : Row} (x : Right s cells r) where
 
   -- 0 is given only where no cause applies, and 1 is not given here
   pub answered-text : Within s → s .tables .places ≡ maxLoads → (n : ℕ) → (n ≡ 0 → lowest (causesOf cells r) ≡ 0) → (n ≡ 1 → ⊥)
-      → textOf (shownBy n r .answer) (entriesTo (runOf (shownBy n r .entries)) (length (s .tables .loads))) ≡ text n r
+      → textOf (shownBy n r .answer) (entriesTo (runOf (shownBy n r .entries)) (length (s .tables .loads))) (saved (s .tables)) ≡ text n r
   unfolding text
   answered-text h places zero e d = shown-lines (s .tables) (h .tables) places (shownBy 0 r) (x .shown h (e refl) .lists)
   answered-text h places (suc zero) e d = absurd (d refl)
   answered-text h places (suc (suc n)) e d = refl
 
--- ---- what is decided of a row is decided of an equal one
-pub along : {s : State} {q r : Row} {w v : List ℕ} {d : Decided} → q ≡ r → Decides s q w v d → Decides s r w v d
-along {s} {w = w} {v = v} {d = d} e = subst (λ (r : Row). Decides s r w v d) e
+-- ---- the command that was read is the line's
+module _ (s : State) (l : List ℕ) {c : Command} (read : c ≡ lineCommand l) where
+  line-row : row s c ≡ lineRow s l
+  unfolding lineRow
+  line-row = ap (row s) read
+
+  pub line-bytes : bytesOf (row s c) ≡ bytesOf (lineRow s l)
+  line-bytes = ap bytesOf line-row
+
+  pub line-decides : {w v : List ℕ} {d : Decided} → Decides s (row s c) w v d → Decides s (lineRow s l) w v d
+  line-decides {w} {v} {d} = subst (λ (r : Row). Decides s r w v d) line-row
 
 -- ---- a row that works in no cells leaves the work as it was
 pub works-in-none : (s : State) (r : Row) (w : List ℕ) {d : Decided} → cellsFor r ≡ 0 → d ≡ decided s (length w) r → Decides s r w w d

@@ -4,19 +4,22 @@ use mathlib.Core.Path.{_≡_, sym, ap, subst, _∙_}
 use mathlib.Core.List.{List}
 use lib.Dec.{lit≤}
 use Rattle.marks.specs.declared.LoadSet.{LoadSet}
+use Rattle.lines.specs.Input.{lines}
 use Rattle.tables.specs.Limits.{maxLoads}
 use Rattle.calls.specs.State.{Sized}
-use Rattle.calls.specs.Calls.{Call, Reply, Done, called}
+use Rattle.calls.specs.Calls.{Call, Reply, Done, writtenBy, called}
 use Rattle.calls.specs.Demand1.{Demand1}
 use Rattle.calls.specs.Demand2.{CheckCall, CheckRight, PlanCall, PlanRight}
 use Rattle.calls.specs.Demand3.{Exchange, History, Demand3}
 use Rattle.calls.specs.Padding.{SameCalls, SameTreatment}
+use Rattle.calls.specs.Saves.{SaveCall, SaveRight, linesOf, AllFree, Restored}
 use Rattle.calls.proofs.State.{kept-within}
 use Rattle.calls.proofs.Demand1 as paper1
 use Rattle.calls.proofs.Demand2.{check-right}
 use Rattle.calls.proofs.Plans.{plan-right}
 use Rattle.calls.proofs.Demand3 as paper3
 use Rattle.calls.proofs.Padding.{same-treatment}
+use Rattle.calls.proofs.Saves.{save-right, restores}
 use Rattle.planner.specs.declared.Planner.{Planner}
 use Rattle.planner.specs.Planner.{held, stateIn, fresh, Lawful}
 use Rattle.planner.proofs.Calling.{handles}
@@ -45,3 +48,14 @@ demand3 = paper3.demand3 maxLoads (lit≤ tt)
 -- request One: on every planner, whatever it holds, lists of calls whose lines differ only in leading zeros get the same treatment
 pub padding : (p : Planner) (xs ys : List Exchange) → SameCalls xs ys → History (held p) xs → History (held p) ys → SameTreatment (held p) xs ys
 padding p = same-treatment (held p)
+
+-- request Two: on every planner within the limits, a save with the bytes that it needs writes the lines of its tables, and leaves everything else
+pub save : (p : Planner) → Lawful p → (c : Call) → SaveCall c → (d : Done) → d ≡ called (held p) c → SaveRight (held p) c d
+save p h c k d is = is ∙ save-right (held p) h c k
+
+-- these lines, fed to any such planner with the bytes that they need, are accepted, give it equal tables, and a further save gives equal bytes
+pub fed-back : (q p : Planner) → Lawful q → Lawful p → (c : Call) → SaveCall c → (d : Done) → d ≡ called (held q) c
+    → (xs : List Exchange) → History (held p) xs → linesOf xs ≡ lines (writtenBy c (d .reply)) → AllFree xs → Restored (held q) (held p) xs (writtenBy c (d .reply))
+fed-back q p g h c k d is xs y l f =
+    let e = ap (λ (d : Done). writtenBy c (d .reply)) is in
+    subst (Restored (held q) (held p) xs) (sym e) (restores (held q) (held p) g h c k xs y (l ∙ ap lines e) f)

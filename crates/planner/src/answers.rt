@@ -1,6 +1,7 @@
 // The text of an answer, in the free part of the output.
 use engine::run::Run;
 use lines::answer::Answer;
+use lines::saving::write_save;
 use lines::writing::write_entry;
 use lines::writing::write_no;
 use lines::writing::write_ok;
@@ -8,12 +9,15 @@ use lines::writing::write_plan;
 use lines::writing::write_yes;
 use marks::LoadSet;
 use tables::entry::Entry;
+use tables::tables::StoredTables;
 ghost use mathlib.Core.Path.{_≡_};
 ghost use Prim.Native.Nat.{_+_, _≤_, _<_};
 ghost use lib.ListN.{length};
 ghost use Rattle.marks.specs.Sets.{markIn};
 ghost use Rattle.lines.specs.Answers.{Wrote, entryLines, textOf};
+ghost use Rattle.lines.specs.Saved.{saved};
 ghost use Rattle.tables.specs.Limits.{maxLoads};
+ghost use Rattle.tables.specs.Stored.{tablesOf, Holds};
 ghost use Rattle.planner.specs.Answers.{entryAt, entriesTo};
 
 // The mark of a load in a set.
@@ -49,11 +53,12 @@ fn write_run(out: &mut [u8], at: usize, run: Run, n: usize) -> usize
     next
 }
 
-// The text of an answer, with the run of n loads beside it.
-pub(crate) fn write_answer(out: &mut [u8], a: Answer, run: Run, n: usize) -> usize
-    requires { ⌜ (n ≤ maxLoads) × (length (textOf a (entriesTo run n)) ≤ length (now out)) ⌝ }
-    ensures { λ r. ⌜ Wrote (now (out .entry)) (now (out .exit)) 0 r (textOf a (entriesTo run n)) ⌝ }
+// The text of an answer on tables, with the run of their loads beside it.
+pub(crate) fn write_answer(out: &mut [u8], a: Answer, run: Run, tables: StoredTables) -> usize
+    requires { ⌜ Holds maxLoads tables × (length (textOf a (entriesTo run (tables .loads .count)) (saved (tablesOf tables))) ≤ length (now out)) ⌝ }
+    ensures { λ r. ⌜ Wrote (now (out .entry)) (now (out .exit)) 0 r (textOf a (entriesTo run (tables .loads .count)) (saved (tablesOf tables))) ⌝ }
 {
+    let n = tables.loads.count;
     match a {
         Answer::Accepted => write_ok(out, 0),
         Answer::Planned { worth, power, on } => {
@@ -64,6 +69,7 @@ pub(crate) fn write_answer(out: &mut [u8], a: Answer, run: Run, n: usize) -> usi
             let at = write_yes(&mut *out, 0);
             write_run(&mut *out, at, run, n)
         }
+        Answer::Saved => write_save(out, tables),
         Answer::Refused { number } => write_no(out, 0, number as u32),
     }
 }

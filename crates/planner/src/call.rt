@@ -5,15 +5,15 @@ use crate::changes::Changed;
 use crate::search::Decided;
 use crate::search::unshown;
 use lines::Command;
+use lines::answer::Answer;
 use lines::reading::read;
-use lines::reading::too_long;
 use tables::refusal::BROKEN;
 use tables::refusal::TOO_LONG;
 use tables::refusal::UNUSABLE;
 ghost use mathlib.Core.Path.{_≡_};
 ghost use mathlib.Core.Bool.{true};
 ghost use Rattle.calls.specs.State.{keeps};
-ghost use Rattle.calls.specs.Rows.{row, lineRow, bytesOf};
+ghost use Rattle.calls.specs.Rows.{row, bytesOf};
 ghost use Rattle.calls.specs.Calls.{called};
 ghost use Rattle.planner.specs.Planner.{held, stateIn, Lawful};
 ghost use Rattle.planner.specs.Decided.{unshown, Decides};
@@ -21,6 +21,9 @@ ghost use Rattle.planner.specs.Calls.{callOf, doneOf, turnedAway};
 
 // "1,024 bytes must be free from there."
 pub const FREE_BYTES: usize = 1024;
+
+// A save "needs 3,000 free bytes".
+pub const SAVE_BYTES: usize = 3000;
 
 // What a call returns: the next planner, the number, 0 if accepted, and the count of bytes written.
 pub struct Called {
@@ -48,19 +51,10 @@ impl Planner {
             Command::Change(change) => changed(self.change(change)),
             Command::Plan => self.plan(work),
             Command::Check { set, count } => self.check(set, count),
+            Command::Save => unshown(Answer::Saved, self),
             Command::Broken => self.refused(BROKEN),
+            Command::TooLong => self.refused(TOO_LONG),
         }
-    }
-
-    // What a line is answered, where there is room for the answer.
-    fn decide_line(self, line: &[u8], work: &mut [u32]) -> Decided
-        requires { ⌜ Lawful self ⌝ }
-        ensures { λ r. ⌜ Decides (stateIn self) (lineRow (stateIn self) (now (line .entry))) (now (work .entry)) (now (work .exit)) r ⌝ }
-    {
-        if too_long(line) {
-            return self.refused(TOO_LONG);
-        }
-        self.decide(read(line), work)
     }
 
     // Does a planner that is handed in keep the limits?
@@ -71,11 +65,18 @@ impl Planner {
         self.tables.keeps_limits()
     }
 
-    // The bytes that must be free for the answer to a line.
-    fn bytes_for(self, line: &[u8]) -> usize
-        ensures { λ r. ⌜ r ≡ bytesOf (lineRow (stateIn self) (now (line .entry))) ⌝ }
+    // The bytes that must be free for the answer to a command.
+    fn bytes_for(self, c: Command) -> usize
+        ensures { λ r. ⌜ r ≡ bytesOf (row (stateIn self) c) ⌝ }
     {
-        FREE_BYTES
+        match c {
+            Command::Change(_) => FREE_BYTES,
+            Command::Plan => FREE_BYTES,
+            Command::Check { set: _, count: _ } => FREE_BYTES,
+            Command::Save => SAVE_BYTES,
+            Command::Broken => FREE_BYTES,
+            Command::TooLong => FREE_BYTES,
+        }
     }
 
     // Nothing is written, and everything is left as it was.
@@ -99,14 +100,15 @@ impl Planner {
         if out.len() < place {
             return self.turned_away();
         }
-        if out.len() - place < self.bytes_for(line) {
+        let command = read(line);
+        if out.len() - place < self.bytes_for(command) {
             return self.turned_away();
         }
-        let d = self.decide_line(line, work);
+        let d = self.decide(command, work);
         let answer = d.answer;
         let run = d.run;
         let planner = d.planner;
-        let count = write_answer(&mut out[place..], answer, run, self.tables.loads.count);
+        let count = write_answer(&mut out[place..], answer, run, self.tables);
         Called {
             planner,
             number: answer.number(),

@@ -1,15 +1,24 @@
 -- `write_run` meets its contract. The invariant: the lines of the first i loads are written. Assumes nothing.
-use Prim.Native.Nat.{_-_, _≤_}
+use Prim.Native.Nat.{ℕ, _-_, _≤_}
+use mathlib.Core.List.{List}
 use native.Mathlib.Omega.{arith}
-use Rattle.lines.specs.Answers.{entryLines, Wrote}
-use Rattle.lines.proofs.Wrote.{wrote-length}
-use Rattle.planner.specs.Answers.{entriesTo}
-use Rattle.planner.proofs.RunLines.{lines-room, lines-none, lines-next, lines-all}
+use Rattle.lines.specs.Answers.{entryLine, entryLines, Wrote}
+use Rattle.lines.proofs.Wrote.{wrote-length, part-room, part-more, part-all}
+use Rattle.engine.specs.declared.run.Run.{Run}
+use Rattle.planner.specs.Answers.{entryAt, entriesTo}
+use Rattle.planner.proofs.RunLines.{lines-none, lines-more}
 use Rattle.planner.proofs.answers.write_run.Statement.{statement}
 use Rattle.planner.proofs.answers.write_run.Tie as tie
 
+-- the lines of the first i loads, and what the next adds to them
+abbrev text : Run → ℕ → List ℕ
+text r i = entryLines (entriesTo r i)
+
+abbrev part : Run → ℕ → List ℕ
+part r i = entryLine (entryAt r i)
+
 abbrev Inv-loop : tie.InvT-loop
-Inv-loop out₀ at run n next₀ i₀ out next i = (i ≤ n) × Wrote out₀ out at next (entryLines (entriesTo run i))
+Inv-loop out₀ at run n next₀ i₀ out next i = (i ≤ n) × Wrote out₀ out at next (text run i)
 
 abbrev μ-loop : tie.MeasureT-loop
 μ-loop out₀ at run n next₀ i₀ out next i = n - i
@@ -25,20 +34,29 @@ write-entry-requires c κs =
     let t = c .before .before in
     let l = t .before in
     let s = l .before .before in
-    rw (c .entry-at .ensures) (omega (arith, s .pre .1, l .loop .inv .1 .end, wrote-length (l .loop .inv .1), lines-room (s .args .run) (s .args .n) (l .loop .i) (t .loop-test .taken)))
+    let r = s .args .run in
+    rw (c .entry-at .ensures) (part-room (text r) (part r) (s .args .n) (λ i h. lines-more r i) (l .loop .i) (t .loop-test .taken) (l .loop .inv .1) (s .pre .1))
 
 loop-again : tie.Need-loop-again Inv-loop μ-loop
 loop-again c =
     let w = c .before .before in
     let e = w .before in
-    let l = e .before .before .before in
-    (omega (arith, e .before .before .loop-test .taken), lines-next _ _ _ _ _ _ _ _ (l .loop .inv .1) (rw (e .entry-at .ensures) at (w .write-entry .ensures)))
+    let t = e .before .before in
+    let l = t .before in
+    let a = l .before .before .args in
+    let less = t .loop-test .taken in (
+      omega (arith, less),
+      part-more (text (a .run)) (part (a .run)) (a .n) (λ i h. lines-more (a .run) i) (l .loop .i) less (l .loop .inv .1) (rw (e .entry-at .ensures) at (w .write-entry .ensures)),
+    )
 
 same-length : tie.Need-same-length Inv-loop μ-loop
 same-length c = wrote-length (c .before .loop .inv .1)
 
 returns : tie.Need-returns Inv-loop μ-loop
-returns c = lines-all _ _ _ _ _ _ _ (c .before .loop .inv .0) (c .loop-test .left) (c .before .loop .inv .1)
+returns c =
+    let l = c .before in
+    let a = l .before .before .args in
+    part-all (text (a .run)) (part (a .run)) (a .n) (λ i h. lines-more (a .run) i) (l .loop .i) (l .loop .inv .0) (c .loop-test .left) (l .loop .inv .1)
 
 pub write-run-spec : {M : Type 1} → statement M
 write-run-spec =
