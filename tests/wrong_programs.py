@@ -28,7 +28,7 @@ ROOT = Path.cwd()
 WORKERS = max(1, min(4, os.cpu_count() or 1))
 
 # An error of one of these kinds says that a proof no longer fits the code, and not that a fact fails.
-MISFITS = re.compile(r"not in scope|has no field|unknown name|expects? \d+ arguments?|unused premise")
+MISFITS = re.compile(r"not in scope(?! here)|has no field|that can be named from here|unknown name|expects? \d+ arguments?|unused premise")
 CASCADE = re.compile(r"was not admitted|cannot be checked")
 
 
@@ -165,13 +165,19 @@ def restore(folder, kept):
             shutil.copy2(kept / path, folder / path)
 
 
+def errors(report):
+    """Each error, with the lines that go on with it."""
+    return re.findall(r"^\S+: error.*(?:\n  .*)*", report, re.M)
+
+
 def failed_needs(report):
     """Each fact that fails: the name of the declaration or need in question, without what only follows."""
     needs = set()
+    for error in errors(report):
+        named = re.match(r"\S+: error: `([^`]+)`", error)
+        if named and not CASCADE.search(error):
+            needs.add(named.group(1))
     for line in report.splitlines():
-        error = re.match(r"\S+: error: `([^`]+)`", line)
-        if error and not CASCADE.search(line):
-            needs.add(error.group(1))
         need = re.match(r"note: .* is not proved .*\(`([^`]+)`\)", line)
         if need:
             needs.add(need.group(1))
@@ -187,7 +193,7 @@ def fault_in(edit, status, report):
     """What is wrong with a refusal, or nothing."""
     if status != 1 or "logic=not-proved" not in report:
         return "not refused" if status == 0 else f"it did not reach the prover (status {status})"
-    misfit = next((line for line in report.splitlines() if ": error" in line and MISFITS.search(line)), None)
+    misfit = next((error for error in errors(report) if MISFITS.search(error)), None)
     if misfit:
         return "the proof no longer fits: " + misfit[:200]
     function, _, need = edit.refused.partition(" ")
