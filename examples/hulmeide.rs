@@ -6,7 +6,7 @@ use std::mem::{size_of, MaybeUninit};
 // ---- Version, sizes and numbers, as include/hulmeide.h has them: tests/limits.py compares the two.
 
 /// The version of the header that this wrapper is for: major * 10000 + minor * 100 + patch.
-pub const VERSION: u32 = 10100;
+pub const VERSION: u32 = 10200;
 
 /// A line has at most this many bytes, its line feed not counted.
 pub const LINE_BYTES: usize = 80;
@@ -14,8 +14,11 @@ pub const LINE_BYTES: usize = 80;
 /// A number in a line has at most this many digits, zeros in front of it among them: such zeros change nothing.
 pub const MAX_DIGITS: usize = 5;
 
-/// So many bytes must be free in the output from the place on.
+/// So many bytes must be free in the output from the place on, for every line but `save`.
 pub const FREE_BYTES: usize = 1024;
+
+/// So many must be free for `save`. An output of this length is enough for every line.
+pub const SAVE_BYTES: usize = 3000;
 
 /// The cells that the line program lends. What the plan of a planner needs is [`Planner::cells_needed`].
 pub const LINE_PROGRAM_CELLS: usize = 16384;
@@ -212,6 +215,13 @@ impl Planner {
             )
         };
         Answer { count: reply.count, refusal: Refusal::of(reply.number) }
+    }
+
+    /// The lines that rebuild the tables, each with its line feed, as `save` writes them. It changes nothing, and is never refused: lines alone
+    /// changed the tables, and the output is long enough.
+    pub fn save<'a>(&mut self, out: &'a mut [u8; SAVE_BYTES]) -> &'a [u8] {
+        let answer = self.call(b"save", out, 0, &mut []);
+        &out[..answer.count]
     }
 
     /// Are these numbers, three for each load, a run?

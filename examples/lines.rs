@@ -1,6 +1,6 @@
 //! The line program again, in Rust over the safe wrapper: lines from standard input, answers to standard output.
 
-use hulmeide::{Planner, Refusal, FREE_BYTES, LINE_BYTES, LINE_PROGRAM_CELLS};
+use hulmeide::{Planner, Refusal, LINE_BYTES, LINE_PROGRAM_CELLS, SAVE_BYTES};
 use std::io::{self, BufRead, Write};
 
 /// Of a line that is too long one byte more is kept than a line may have.
@@ -44,6 +44,17 @@ fn judged(planner: &Planner, text: &str) -> bool {
     !shows || planner.judge(&shown_run(text)) == Ok(true)
 }
 
+/// Do the lines of a save make another planner that saves the same? An answer that is no save passes.
+fn rebuilds(text: &str) -> bool {
+    if !text.starts_with("clear") {
+        return true;
+    }
+    let mut other = Planner::new();
+    let mut out = [0; SAVE_BYTES];
+    let taken = text.lines().all(|line| other.call(line.as_bytes(), &mut out, 0, &mut []).refusal.is_none());
+    taken && other.save(&mut out) == text.as_bytes()
+}
+
 /// The refusal that an answer prints, if it prints one.
 fn printed_refusal(text: &str) -> Option<u32> {
     text.strip_prefix("no,").map(|number| number.trim_end().parse().expect("a number"))
@@ -51,7 +62,7 @@ fn printed_refusal(text: &str) -> Option<u32> {
 
 fn main() -> io::Result<()> {
     let mut planner = Planner::new();
-    let mut out = [0; FREE_BYTES];
+    let mut out = [0; SAVE_BYTES];
     let mut work = vec![0; LINE_PROGRAM_CELLS];
     let mut input = io::stdin().lock();
     let mut output = io::stdout().lock();
@@ -63,6 +74,7 @@ fn main() -> io::Result<()> {
         let few_cells = line == b"plan" && planner.cells_needed() > work.len();
         assert_eq!(answer.refusal == Some(Refusal::FewCells), few_cells);
         assert!(judged(&planner, text), "the planner showed what is no run");
+        assert!(rebuilds(text), "the planner showed a save that does not rebuild it");
         // These two try again by themselves what was interrupted.
         output.write_all(text.as_bytes())?;
         output.flush()?;

@@ -25,7 +25,7 @@
 static struct hulmeide_planner planner;
 static uint8_t line[KEPT_BYTES];
 static size_t held;
-static uint8_t out[HULMEIDE_FREE_BYTES];
+static uint8_t out[HULMEIDE_SAVE_BYTES]; /* enough for every line */
 static uint32_t work[HULMEIDE_LINE_PROGRAM_CELLS];
 
 /* Is the port of load k, port_on[k - 1], switched on? */

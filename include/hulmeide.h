@@ -31,8 +31,12 @@ extern "C" {
 #endif
 
 /* The version of this header: major * 10000 + minor * 100 + patch. hulmeide_version returns that of the archive, and they fit where the two
- * are the same. The minor number goes up with each request that changes what lines there are, or the layout. */
-#define HULMEIDE_VERSION 10100
+ * are the same. The minor number goes up with each request that changes what lines there are, or the layout:
+ * 1.1: a number may have zeros in front.
+ * 1.2: `save` is a command. It needs HULMEIDE_SAVE_BYTES free bytes, and a caller that lends fewer has it turned away; its other lines go as
+ *      before.
+ */
+#define HULMEIDE_VERSION 10200
 
 /* ---- Sizes ----
  *
@@ -45,8 +49,12 @@ extern "C" {
 /* A number in a line has at most this many digits, zeros in front of it among them: such zeros change nothing. */
 #define HULMEIDE_MAX_DIGITS 5
 
-/* So many bytes must be free in the output from the place on, whatever the line. No answer is longer. */
+/* So many bytes must be free in the output from the place on, for every line but `save`. No answer but a save is longer. */
 #define HULMEIDE_FREE_BYTES 1024
+
+/* So many must be free for `save`, and no save is longer: a caller that passes every line on lends this. A line that only begins like it, as
+ * `save,1` and `saves` do, or one over HULMEIDE_LINE_BYTES bytes, needs HULMEIDE_FREE_BYTES. */
+#define HULMEIDE_SAVE_BYTES 3000
 
 /* The line program's number, and no limit of the library: the cells of 32 bits that it lends as work. Another caller lends what its plans
  * need, hulmeide_cells_needed, or HULMEIDE_MAX_CELLS, which is enough for every plan. */
@@ -75,8 +83,9 @@ extern "C" {
 enum hulmeide_number {
     /* A line was accepted. The judge: yes, the numbers are a run. */
     HULMEIDE_ACCEPTED = 0,
-    /* Under HULMEIDE_FREE_BYTES free bytes from the place on, a place past the end, or a planner that breaks a limit (the judge: only
-     * the last). Nothing is written, and everything is left as it was. */
+    /* Fewer free bytes from the place on than the line needs (HULMEIDE_SAVE_BYTES for `save`, HULMEIDE_FREE_BYTES for every other line), a
+     * place past the end, or a planner that breaks a limit (the judge: only the last). Nothing is written, and everything is left as it
+     * was. */
     HULMEIDE_TURNED_AWAY = 1,
     /* A line over HULMEIDE_LINE_BYTES bytes. */
     HULMEIDE_LONG_LINE = 2,
@@ -155,6 +164,9 @@ struct hulmeide_reply {
     size_t count;
 };
 
+/* An output with room for a save has room for every answer. */
+HULMEIDE_ASSERT(HULMEIDE_SAVE_BYTES >= HULMEIDE_FREE_BYTES, "HULMEIDE_SAVE_BYTES");
+
 /* The layouts are those that the archive was built with. */
 HULMEIDE_ASSERT(sizeof(size_t) == 8, "the archive is for x86-64");
 HULMEIDE_ASSERT(sizeof(struct hulmeide_rule) == 3, "hulmeide_rule");
@@ -191,6 +203,8 @@ void hulmeide_fresh(struct hulmeide_planner *planner);
  * Handles one line, given without its line feed. The answer is written from out + place on, and `count` says how many bytes it has; the
  * bytes before the place and after the answer keep their values. A plan fills the cells that it needs at the start of the work, and
  * leaves 0 in them, after HULMEIDE_NONE_FITS too; all other cells, and all cells after any other line, keep their values.
+ * `save` changes nothing and writes lines, each with its line feed, that rebuild the tables: any planner that breaks no limit accepts them one
+ * by one, and has these tables then.
  */
 struct hulmeide_reply hulmeide_call(struct hulmeide_planner *planner, const uint8_t *line, size_t line_length, uint8_t *out,
                                     size_t out_length, size_t place, uint32_t *work, size_t work_length);
