@@ -32,8 +32,8 @@ Outcome plain_c_plan(const Tables *t, uint32_t *work);
 Outcome same_ideas_plan(const Tables *t, uint32_t *work);
 void plain_rust_plan(const Tables *t, uint32_t *work, size_t cells, Outcome *out);
 
-// What the static library answers to a line; proved.c.
-typedef struct { struct hulmeide_reply reply; uint8_t text[HULMEIDE_FREE_BYTES]; } Answer;
+// What the static library answers to a line, a save too; proved.c.
+typedef struct { struct hulmeide_reply reply; uint8_t text[HULMEIDE_SAVE_BYTES]; } Answer;
 
 void answer_line(Tables *t, const char *line, uint32_t *work, Answer *answer);
 Outcome shown(const Answer *answer);

@@ -106,6 +106,7 @@ static void print_calls(Shape shape) {
     char change[HULMEIDE_LINE_BYTES];
     snprintf(change, sizeof change, "power,%d,1", HULMEIDE_MAX_LOADS);
     print_line("change", change, HULMEIDE_ACCEPTED);
+    print_line("save", "save", HULMEIDE_ACCEPTED);
     print_line("refused", "load,1,1,1", HULMEIDE_FULL);
     printf(" plan in plain C %zu, in plain Rust %zu\n", depth(plain_c), depth(plain_rust));
 }

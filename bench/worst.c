@@ -192,8 +192,10 @@ static size_t joins_after(const uint32_t *branch, int width) {
     return joins;
 }
 
+// The cells that are filled to count the joins, and lent with a line.
+static uint32_t work[HULMEIDE_MAX_CELLS];
+
 static size_t joins_of(const Tables *t) {
-    static uint32_t work[HULMEIDE_MAX_CELLS];
     size_t joins = 0;
     same_ideas_fill(t, work);
     for (int k = 0; k < (int)t->loads.count; k++)
@@ -225,27 +227,11 @@ static size_t most_joins(void) {
 
 // ---- what is printed
 
-static void print_rules(const char *command, const TransitionList *list) {
-    for (size_t j = 0; j < list->count; j++)
-        printf("%s,%d,%d,%d\n", command, list->items[j].from, list->items[j].label, list->items[j].to);
-}
-
-static void print_marks(const char *command, uint8_t marks) {
-    for (int x = 1; x <= 8; x++)
-        if (marks >> (x - 1) & 1)
-            printf("%s,%d\n", command, x);
-}
-
-// The lines that enter these tables into a fresh planner, and ask for the plan.
-static void print_lines(const Tables *t) {
-    printf("book,%d,%d\n", t->book.states, t->book.stages);
-    print_marks("start", t->book.starts);
-    print_marks("end", t->book.ends);
-    print_rules("rule", &t->book.load_rules);
-    print_rules("row", &t->book.row_rules);
-    for (size_t k = 0; k < t->loads.count; k++)
-        printf("load,%d,%d,%d\n", t->loads.items[k].parent, t->loads.items[k].power, t->loads.items[k].worth);
-    printf("budget,%d\nplan\n", t->budget);
+// The lines that enter these tables into a planner, as `save` writes them, and ask for the plan.
+static void print_lines(Tables *t) {
+    Answer answer;
+    answer_line(t, "save", work, &answer);
+    printf("%.*splan\n", (int)answer.reply.count, (const char *)answer.text);
 }
 
 static void print_slowest(const Recipe *r, Tables *t) {
