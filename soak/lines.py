@@ -6,13 +6,13 @@ from model import RANGES, Model
 
 SEASON = 150  # lines
 SEASONS = (
-    {b'load': 30, b'power': 2, b'worth': 2, b'budget': 1, b'plan': 2, b'check': 2},
-    {b'start': 2, b'end': 2, b'rule': 20, b'row': 20, b'load': 3, b'plan': 2, b'check': 2},
-    {b'start': 1, b'end': 1, b'rule': 5, b'row': 5, b'load': 2, b'power': 5, b'worth': 5, b'budget': 5, b'plan': 8, b'check': 5},
-    {b'book': 1, b'start': 6, b'end': 6, b'rule': 8, b'row': 8, b'load': 1, b'budget': 2, b'plan': 2, b'check': 2},
+    {b'load': 30, b'power': 2, b'worth': 2, b'budget': 1, b'plan': 2, b'check': 2, b'save': 1},
+    {b'start': 2, b'end': 2, b'rule': 20, b'row': 20, b'load': 3, b'plan': 2, b'check': 2, b'save': 1},
+    {b'start': 1, b'end': 1, b'rule': 5, b'row': 5, b'load': 2, b'power': 5, b'worth': 5, b'budget': 5, b'plan': 8, b'check': 5, b'save': 1},
+    {b'book': 1, b'start': 6, b'end': 6, b'rule': 8, b'row': 8, b'load': 1, b'budget': 2, b'plan': 2, b'check': 2, b'save': 1},
     {word: 1 for word in (*RANGES, b'check')},
 )
-OTHER_WORDS = (b'', b'Plan', b'plans', b'pla', b'save', b'drop', b'last', b'need', b'rules', b'check1', b'cler', b'0', b'no', b'ok')
+OTHER_WORDS = (b'', b'Plan', b'plans', b'pla', b'save', b'saves', b'drop', b'last', b'need', b'rules', b'check1', b'cler', b'0', b'no', b'ok')
 STRAY = bytes((0, 1, 9, 11, 13, 32, 34, 43, 44, 45, 46, 47, 48, 49, 57, 58, 65, 97, 127, 128, 255))
 LONG = (*range(Model.most_bytes - 1, Model.most_bytes + 3), Model.most_bytes + 20, 1024, 1025, 4095, 4096, 4097, 9000)
 
@@ -122,7 +122,7 @@ def made_long(rng, line):
     """The line filled up to a length at or past the limit, in form or not."""
     length = rng.choice(LONG)
     filling = rng.choice((b'0', b'1', b',', b' ', b'x', b'\0'))
-    return rng.choice((line, b'check,', b'budget,')).ljust(length, filling)
+    return rng.choice((line, b'check,', b'budget,', b'save')).ljust(length, filling)
 
 
 def noise(rng, line):

@@ -1,4 +1,5 @@
-"""A plain model of the planner's tables, straight from papers 01 and 02: what each line changes, and the refusals that the tables settle.
+"""A plain model of the planner's tables, straight from papers 01 and 02: what each line changes, the refusals that the tables settle, and the
+lines of a save.
 
 It does no planning and shares no code with the product, nor with tests/oracle.py; the limits are those of the header, by tests/limits.py.
 The limits and the steps that wrong.py gets wrong on purpose are attributes and methods of their own.
@@ -135,6 +136,31 @@ class Model:
     def set_budget(self, watts):
         self.budget = watts
 
+    # ---- "lines that rebuild the state: `clear`, then `book` if there are states, .. `budget` last"
+
+    def ascending(self, marks):
+        return sorted(marks)
+
+    def rebuilding(self):
+        """The word and the values of each line of a save."""
+        yield b'clear', ()
+        if self.states > 0:
+            yield b'book', (self.states, self.stages)
+        for state in self.ascending(self.starts):
+            yield b'start', (state,)
+        for stage in self.ascending(self.ends):
+            yield b'end', (stage,)
+        for word, listed in ((b'rule', self.rules), (b'row', self.rows), (b'load', self.loads)):
+            for values in listed:
+                yield word, values
+        yield b'budget', (self.budget,)
+
+    def saved(self):
+        """The lines of a save."""
+        return [b','.join([word] + [b'%d' % value for value in values]) for word, values in self.rebuilding()]
+
+    # ---- a line
+
     def take(self, line):
         """Takes a line: the number that the tables settle, the word and its values. An accepted change is made."""
         if len(line) > self.most_bytes:
@@ -162,9 +188,10 @@ RANGES = {
     b'worth': lambda t: ((1, len(t.loads)), (0, t.most_worth)),
     b'budget': lambda t: ((0, t.most_budget),),
     b'plan': lambda t: (),
+    b'save': lambda t: (),
 }
 
-# The method that makes each change; `plan` and `check` change nothing.
+# The method that makes each change; `plan`, `check` and `save` change nothing.
 EFFECTS = {
     b'clear': 'clear', b'book': 'book', b'start': 'start', b'end': 'end', b'rule': 'rule', b'row': 'row',
     b'load': 'load', b'power': 'power', b'worth': 'worth', b'budget': 'set_budget',

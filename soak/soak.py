@@ -3,8 +3,8 @@
 
   soak.py PROGRAM [--lines N] [--seed S] [--wrong NAME]
 
-Every answer to a change and every refusal from 2 to 8 is compared. Of a plan or a check that the tables do not refuse, the answer must be
-9 or 10, or a run of the set it shows, line for line (shown.py). Every number that a word can be answered with must come up.
+Every answer to a change, every refusal from 2 to 8 and every save is compared. Of a plan or a check that the tables do not refuse, the answer
+must be 9 or 10, or a run of the set it shows, line for line (shown.py). Every number that a word can be answered with must come up.
 Then the same lines are given to models that are wrong on purpose (wrong.py), and each must be told apart from the program.
 With --wrong NAME the wrong model takes the right one's place, and the run is to fail.
 The last line is 'N passed, M failed': sessions, kinds of answers, wrong models.
@@ -27,7 +27,7 @@ KEPT = 20  # sessions that the wrong models are given
 # The numbers that each word can be answered with, 0 for accepted. A line with no word that counts is answered with 2 or 3.
 KINDS = {
     b'clear': (0,), b'book': (0, 5), b'start': (0, 5), b'end': (0, 5), b'rule': (0, 5, 6, 7), b'row': (0, 5, 6, 7), b'load': (0, 5, 6),
-    b'power': (0, 5), b'worth': (0, 5), b'budget': (0, 5), b'plan': (0, 4, 8, 9), b'check': (0, 4, 5, 10), None: (2, 3),
+    b'power': (0, 5), b'worth': (0, 5), b'budget': (0, 5), b'plan': (0, 4, 8, 9), b'check': (0, 4, 5, 10), b'save': (0,), None: (2, 3),
 }
 
 
@@ -39,11 +39,13 @@ def printed_by(program, session, ended):
 
 
 def expected(model, line):
-    """What the model says of a line: its number, its word, its values, and the line printed, None where that needs planning."""
+    """What the model says of a line: its number, its word, its values, and the lines printed, None where that needs planning."""
     number, word, values = model.take(line)
     if number:
-        return number, word, values, b'no,%d' % number
-    return number, word, values, b'ok' if word in EFFECTS else None
+        return number, word, values, [b'no,%d' % number]
+    if word == b'save':
+        return number, word, values, model.saved()
+    return number, word, values, [b'ok'] if word in EFFECTS else None
 
 
 def compare(model, session, printed, seen):
@@ -51,12 +53,12 @@ def compare(model, session, printed, seen):
     at = 0
     for line in session:
         number, word, values, answer = expected(model, line)
-        count = 1
         if answer is None:
             fault, kind, count = shown.read(model, word, values, printed, at)
             number = int(kind[3:]) if kind.startswith(b'no,') else 0
         else:
-            fault = None if printed[at:at + 1] == [answer] else answer.decode()
+            count = len(answer)
+            fault = None if printed[at:at + count] == answer else repr(answer)
         if fault:
             return '%r: expected %s, printed %r' % (line, fault, printed[at:at + count])
         seen[word, number] += 1

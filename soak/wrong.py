@@ -290,4 +290,34 @@ class RefusedBudgetStored(Model):
         return number
 
 
+class MarksDescend(Model):
+    """A save has the greatest mark first."""
+
+    def ascending(self, marks):
+        return sorted(marks, reverse=True)
+
+
+class LoadsFirst(Model):
+    """A save has the loads before the rules."""
+
+    def rebuilding(self):
+        return sorted(super().rebuilding(), key=lambda line: line[0] in (b'rule', b'row', b'budget'))
+
+
+class NoBudgetOfNone(Model):
+    """A save leaves out a budget of 0."""
+
+    def rebuilding(self):
+        return (line for line in super().rebuilding() if line != (b'budget', (0,)))
+
+
+class SaveClears(Model):
+    """A save leaves a fresh planner."""
+
+    def saved(self):
+        lines = super().saved()
+        self.clear()
+        return lines
+
+
 WRONG = {kind.__name__: kind for kind in Model.__subclasses__()}

@@ -4,8 +4,9 @@
   crosscheck.py PROGRAM [--cases N] [--seed S]
 
 Each case is a session on a fresh book and tree. Every printed line is compared. Each session is run again with other zeros in front of its
-numbers, and must print the same. Then the lines are given to oracles that are wrong on purpose, and each must be told apart from the program:
-a comparison that cannot fail would show nothing.
+numbers, and must print the same. The save that each ends with is fed to another process, after other lines, which must take it line by line
+and save the same bytes; so must those of a fresh planner and of the fullest cabinet. Then the lines are given to oracles that are wrong on
+purpose, and each must be told apart from the program: a comparison that cannot fail would show nothing.
 The last line is 'N passed, M failed'.
 """
 import argparse
@@ -13,8 +14,8 @@ import random
 import subprocess
 import sys
 
-from limits import CELLS, LINE_BYTES, MAX_BUDGET, MAX_DIGITS, MAX_LOADS, MAX_STATES, MAX_WORTH
-from oracle import Oracle
+from limits import CELLS, LINE_BYTES, MAX_BUDGET, MAX_DIGITS, MAX_LOADS, MAX_POWER, MAX_RULES, MAX_STAGES, MAX_STATES, MAX_WORTH
+from oracle import WORDS, Oracle
 
 
 class StageRestarts(Oracle):
@@ -77,9 +78,74 @@ class ZerosNotCounted(Oracle):
         return super().answer(without_zeros(line), cells)
 
 
-WRONG = [StageRestarts, LeafAlwaysEnds, HighestFirst, PowerKept, FirstBudget, StoresNothing, ZerosBarred, ZerosNotCounted]
+def in_order(lines, *words):
+    """The lines of a save in another order of their words."""
+    return sorted(lines, key=lambda line: words.index(line.split(',')[0]))
+
+
+class EndsFirst(Oracle):
+    """A save has the end stages before the start states."""
+
+    def save(self):
+        return in_order(super().save(), 'clear', 'book', 'end', 'start', 'rule', 'row', 'load', 'budget')
+
+
+class RowsFirst(Oracle):
+    """A save has the row rules before the load rules."""
+
+    def save(self):
+        return in_order(super().save(), 'clear', 'book', 'start', 'end', 'row', 'rule', 'load', 'budget')
+
+
+class MarksDescend(Oracle):
+    """A save has the greatest mark first."""
+
+    def mark_lines(self, word, marks):
+        return super().mark_lines(word, marks)[::-1]
+
+
+class BookOfNone(Oracle):
+    """A save has a book though there are no states."""
+
+    def book_lines(self):
+        return ['book,%d,%d' % (self.states, self.stages)]
+
+
+class NoBudgetOfNone(Oracle):
+    """A save leaves out a budget of 0."""
+
+    def save(self):
+        return super().save() if self.budget else super().save()[:-1]
+
+
+class PaddedSave(Oracle):
+    """A save writes its budget with two digits at least."""
+
+    def save(self):
+        return super().save()[:-1] + ['budget,%02d' % self.budget]
+
+
+class NoSaveOfNoLoads(Oracle):
+    """A save with no loads is refused."""
+
+    def refusal(self, command, cells):
+        return 4 if command == ('save', []) and not self.loads else super().refusal(command, cells)
+
+
+class SaveTakesFields(Oracle):
+    """A save may have fields."""
+
+    def answer(self, line, cells=CELLS):
+        return super().answer(b'save' if line.startswith(b'save,') else line, cells)
+
+
+WRONG = [
+    StageRestarts, LeafAlwaysEnds, HighestFirst, PowerKept, FirstBudget, StoresNothing, ZerosBarred, ZerosNotCounted,
+    EndsFirst, RowsFirst, MarksDescend, BookOfNone, NoBudgetOfNone, PaddedSave, NoSaveOfNoLoads, SaveTakesFields,
+]
 MOST_RUNS = 1500  # a tree with more runs is left out: plain enumeration would be slow
 BATCH = 100  # sessions that are given to one run of the program
+TRIED, ENOUGH = 500, 20  # sessions that a wrong oracle is given at most, and those that tell it apart till no more are
 
 
 def with_fields(line, change):
@@ -138,20 +204,20 @@ def figures(rng):
 def damaged(rng):
     """A line that may break its form, its range or its length in any way."""
     kind = rng.randrange(7)
-    word = rng.choice(('clear', 'book', 'start', 'end', 'rule', 'row', 'load', 'power', 'worth', 'budget', 'plan', 'check', 'Plan', 'plans', 'save', ''))
+    word = rng.choice((*WORDS, 'check', 'Plan', 'plans', 'Save', 'saves', ''))
     if kind < 4 and word != 'clear':
         return ','.join([word] + [figures(rng) for _ in range(rng.randint(0, 4))]).encode()
     if kind == 4:
         return bytes(rng.choice((0, 9, 13, 32, 44, 48, 49, 57, 99, 112, 128, 255)) for _ in range(rng.randint(0, 12)))
     if kind == 5:
         return b'check,' + rng.choice((b'0', b'1')) * rng.randint(1, LINE_BYTES)
-    return b'budget,' + b'0' * rng.randint(LINE_BYTES - 20, LINE_BYTES + 10)
+    return rng.choice((b'budget,', b'save,', b'save')) + b'0' * rng.randint(LINE_BYTES - 20, LINE_BYTES + 10)
 
 
 def question(rng, loads):
     """A line of a session whose book and tree stand: mostly plans and what changes them."""
     return rng.choice((
-        lambda: b'budget,%d' % rng.randint(0, 20), lambda: b'plan', lambda: b'plan',
+        lambda: b'budget,%d' % rng.randint(0, 20), lambda: b'plan', lambda: b'plan', lambda: b'plan', lambda: b'save',
         lambda: b'check,' + bytes(rng.choice(b'01') for _ in range(loads)),
         lambda: b'power,%d,%d' % (rng.randint(1, loads + 1), rng.randint(0, 8)),
         lambda: b'worth,%d,%d' % (rng.randint(1, loads + 1), rng.randint(0, 4)),
@@ -170,6 +236,8 @@ def session(rng):
     for line in ['clear'] + rng.choice((book_lines(rng) + tree_lines(rng), tree_lines(rng) + book_lines(rng))):
         if not say(line.encode()):
             return None
+        if rng.random() < 0.05:
+            say(b'save')
     for _ in range(rng.randint(3, 10)):
         line = question(rng, len(oracle.loads))
         if line.startswith((b'load,', b'book', b'rule', b'row', b'start')) and rng.random() < 0.5:
@@ -177,6 +245,7 @@ def session(rng):
         if not say(line):
             return None
     say(b'plan')
+    say(b'save')
     return lines, answers
 
 
@@ -191,10 +260,11 @@ def sessions(rng, count):
 
 
 def printed(program, lines):
-    """The lines that the program prints for lines."""
+    """The lines that the program prints for lines, and what it prints after the last line feed, if anything."""
     data = b''.join(line + b'\n' for line in lines)
     out = subprocess.run([program], input=data, stdout=subprocess.PIPE, check=True).stdout
-    return out.decode('latin-1').split('\n')[:-1]
+    *ended, rest = out.decode('latin-1').split('\n')
+    return ended + [rest] if rest else ended
 
 
 def shares(program, batch):
@@ -236,8 +306,52 @@ def again(rng, cases):
     return [([padded(rng, line) for line in lines], answers) for lines, answers in cases]
 
 
+def fed_back(case, out, other):
+    """A session that ends with a save, fed back: the lines of another one, those that were printed for the save, and a save. Each line fed is to
+    be taken, and the save to be the same."""
+    saved = out[-len(case[1][-1]):]
+    lines, answers = other
+    return lines + [line.encode('latin-1') for line in saved] + [b'save'], answers + [['ok']] * len(saved) + [saved]
+
+
 def answered_by(oracle, lines):
     return [oracle.answer(line) for line in lines]
+
+
+def told_apart(wrong, cases, outs):
+    """In how many sessions a wrong oracle was told apart from the program, and how many it was given."""
+    told = given = 0
+    for (lines, _), out in zip(cases[:TRIED], outs):
+        if told < ENOUGH:
+            told += difference(lines, answered_by(wrong(), lines), out) is not None
+            given += 1
+    return told, given
+
+
+def fullest():
+    """The lines of the fullest cabinet: every mark, as many rules and loads as there may be, and the widest figures."""
+    lines = ['book,%d,%d' % (MAX_STATES, MAX_STAGES)]
+    lines += ['start,%d' % (q + 1) for q in range(MAX_STATES)] + ['end,%d' % (g + 1) for g in range(MAX_STAGES)]
+    lines += ['rule,%d,%d,%d' % (n % MAX_STATES + 1, n // MAX_STATES % 2, n // MAX_STATES // 2 + 1) for n in range(MAX_RULES)]
+    lines += ['row,%d,%d,%d' % (n % MAX_STAGES + 1, n // MAX_STAGES + 1, MAX_STAGES) for n in range(MAX_RULES)]
+    lines += ['load,%d,%d,%d' % (k, MAX_POWER, MAX_WORTH) for k in range(MAX_LOADS)]
+    return lines + ['budget,%d' % MAX_BUDGET]
+
+
+def with_save(lines):
+    """The session of these lines and a save."""
+    encoded = [line.encode() for line in lines + ['save']]
+    return encoded, answered_by(Oracle(), encoded)
+
+
+NAMED = {'a fresh planner': with_save([]), 'the fullest cabinet': with_save(fullest())}
+
+
+def rebuilt(program, case):
+    """Is the save of a session as it should be, and also once it is fed to the fullest cabinet, in another process?"""
+    out = printed(program, case[0])
+    fed = fed_back(case, out, NAMED['the fullest cabinet'])
+    return not difference(*case, out) and not difference(*fed, printed(program, fed[0]))
 
 
 def main():
@@ -249,8 +363,8 @@ def main():
     rng = random.Random(args.seed)
     cases = sessions(rng, args.cases)
     outs = all_printed(args.program, cases)
-    repadded = again(rng, cases)
-    wrong = differing(cases, outs) + differing(repadded, all_printed(args.program, repadded))
+    others = again(rng, cases) + [fed_back(*three) for three in zip(cases, outs, cases[1:] + cases[:1])]
+    wrong = differing(cases, outs) + differing(others, all_printed(args.program, others))
     for lines, first in wrong[:3]:
         print('DIFFERS at %r: expected %r, printed %r, in the session %r' % (*first, lines))
     firsts = [answer[0] for _, answers in cases for answer in answers]
@@ -258,12 +372,15 @@ def main():
     print('%d sessions with %d plans shown, %d refusals 9, %d sets allowed, %d not'
           % (len(cases), plans, firsts.count('no,9'), firsts.count('yes'), firsts.count('no,10')))
     failed = len(wrong)
-    for other in WRONG:
-        answered = [(lines, answered_by(other(), lines)) for lines, _ in cases[:500]]
-        told = len(differing(answered, outs))
-        print('%s: told apart in %d of %d sessions' % (other.__name__, told, len(answered)))
+    for name, case in NAMED.items():
+        right = rebuilt(args.program, case)
+        print('%s: a save of %d lines, %s' % (name, len(case[1][-1]), 'rebuilt' if right else 'DIFFERS'))
+        failed += not right
+    for oracle in WRONG:
+        told, given = told_apart(oracle, cases, outs)
+        print('%s: told apart in %d of %d sessions' % (oracle.__name__, told, given))
         failed += told == 0
-    print('%d passed, %d failed' % (len(cases) + len(repadded) + len(WRONG) - failed, failed))
+    print('%d passed, %d failed' % (len(cases) + len(others) + len(NAMED) + len(WRONG) - failed, failed))
     return 1 if failed else 0
 
 

@@ -30,7 +30,7 @@ def joined(lines):
 def long_lines(rng):
     """Lines around the most bytes, and far beyond it."""
     lengths = [0, 1, *range(LINE_BYTES - 1, LINE_BYTES + 3), 2 * LINE_BYTES, 255, 256, 257, 4095, 4096, 4097, 20000]
-    lines = [b'check,' + b'1' * length for length in lengths]
+    lines = [word + b'1' * length for length in lengths for word in (b'check,', b'save')]
     lines += [bytes(rng.choice(b'01,plan\r\x00\xff') for _ in range(length)) for length in lengths]
     return joined(lines + [b'plan'])
 
@@ -38,11 +38,11 @@ def long_lines(rng):
 def every_byte():
     """Each byte alone, before and after a command, but for the line feed that ends a line."""
     bytes_but_feed = [bytes([b]) for b in range(256) if b != 10]
-    return joined([line for b in bytes_but_feed for line in (b, b + b'plan', b'plan' + b, b'budget,1' + b)])
+    return joined([line for b in bytes_but_feed for line in (b, b + b'plan', b'plan' + b, b'save' + b, b'budget,1' + b)])
 
 
 def large_cabinet(rng):
-    """The most loads under a book with two states and two stages, and plans with as many cells as the line program lends."""
+    """The most loads under a book with two states and two stages, plans with as many cells as the line program lends, and a save."""
     lines = [b'clear', b'book,2,2', b'start,1', b'start,2', b'end,1', b'end,2']
     lines += [b'rule,1,1,1', b'rule,1,0,2', b'rule,2,0,2', b'row,1,1,1', b'row,2,2,2', b'row,1,2,1']
     for k in range(MAX_LOADS + 1):
@@ -50,7 +50,7 @@ def large_cabinet(rng):
     last = CELLS // (4 * MAX_LOADS) - 1
     for budget in (0, 1, 20, last - 1, last, last + 1, MAX_BUDGET):
         lines += [b'budget,%d' % budget, b'plan', b'check,' + bytes(rng.choice(b'01') for _ in range(MAX_LOADS))]
-    return joined(lines + [b'check,' + b'0' * MAX_LOADS, b'check,' + b'1' * MAX_LOADS])
+    return joined(lines + [b'check,' + b'0' * MAX_LOADS, b'check,' + b'1' * MAX_LOADS, b'save'])
 
 
 def inputs(rng, sessions):

@@ -15,7 +15,7 @@ import sys
 from script import Script
 
 # The whole output and work, of which a part is lent.
-ALL_BYTES = 1100
+ALL_BYTES = 3100
 ALL_CELLS = 620
 
 

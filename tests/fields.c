@@ -1,6 +1,7 @@
 /*
  * The header against the archive: their versions; the layout, for which the planner's fields are read by their names after the lines of
- * paper 01's session, and the memory after the planner must be as it was; and what the header's helpers answer. It is C99, C11 and C++11.
+ * paper 01's session, and the memory after the planner must be as it was; what the header's helpers answer; and the session's save, with the
+ * free bytes that the header names. It is C99, C11 and C++11.
  * The last line printed is 'N passed, M failed'.
  */
 #include "hulmeide.h"
@@ -24,7 +25,7 @@ static struct {
     uint8_t guard[GUARD_BYTES];
 } kept;
 
-static uint8_t out[HULMEIDE_FREE_BYTES];
+static uint8_t out[HULMEIDE_SAVE_BYTES];
 static uint32_t work[SESSION_CELLS];
 static int passed;
 static int failed;
@@ -81,6 +82,20 @@ static void expect_helpers(void)
     expect_reply("no output", hulmeide_call_bytes(planner, NULL, 0, NULL, 0, 0, NULL, 0), HULMEIDE_TURNED_AWAY, 0);
 }
 
+/* The session's save, with just the free bytes that it needs, and with one less. The session's lines stand in the order of a save. */
+static void expect_save(void)
+{
+    struct hulmeide_planner *planner = &kept.planner;
+    char saved[HULMEIDE_SAVE_BYTES] = "clear\n";
+    for (size_t i = 0; i < sizeof lines / sizeof *lines; i++) {
+        strcat(strcat(saved, lines[i]), "\n");
+    }
+    expect_reply("save", hulmeide_call_text(planner, "save", out, sizeof out, 0, NULL, 0), HULMEIDE_ACCEPTED, strlen(saved));
+    expect("the save is another text", memcmp(out, saved, strlen(saved)) != 0, 0);
+    expect_reply("one byte less", hulmeide_call_text(planner, "save", out, sizeof out - 1, 0, NULL, 0), HULMEIDE_TURNED_AWAY, 0);
+    expect_reply("no save", hulmeide_call_text(planner, "save,", out, HULMEIDE_FREE_BYTES, 0, NULL, 0), HULMEIDE_BAD_FORM, 5);
+}
+
 static void expect_guard(void)
 {
     size_t same = 0;
@@ -111,6 +126,7 @@ int main(void)
     expect_load("load 64", kept.planner.loads.items[HULMEIDE_MAX_LOADS - 1], 0, 0, 0);
     expect("budget", kept.planner.budget, 30);
     expect_helpers();
+    expect_save();
     expect_guard();
     printf("%d passed, %d failed\n", passed, failed);
     return failed != 0;

@@ -6,7 +6,7 @@ touch.
 import ctypes
 
 import script
-from limits import CELLS, FREE_BYTES, PLANNER_BYTES, VERSION, Reply, Tables
+from limits import CELLS, PLANNER_BYTES, SAVE_BYTES, VERSION, Reply, Tables
 
 GUARD = bytes(range(160, 224))
 
@@ -60,7 +60,7 @@ class Planner:
 
     def answer(self, line):
         """The lines printed for a line, with what the line program lends."""
-        _, count, output, _ = self.call(line, bytes(FREE_BYTES), 0, bytes(4 * CELLS))
+        _, count, output, _ = self.call(line, bytes(SAVE_BYTES), 0, bytes(4 * CELLS))
         return output[:count].decode('latin-1').split('\n')[:-1]
 
     def judge(self, numbers):

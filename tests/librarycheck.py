@@ -5,7 +5,8 @@
 
 Each line of a random session is handed to the library with an output full of rubbish, of any length and with any place in it, and with a work
 full of rubbish, of any length. Compared are the number, the count, every byte of the output, every cell of the work and every field of the
-planner. The last line is 'N passed, M failed'.
+planner. The lines of the save that each session ends with, each with the free bytes that it needs, must make the planner of the session before
+hold the same. The last line is 'N passed, M failed'.
 """
 import argparse
 import random
@@ -13,17 +14,20 @@ import sys
 
 from crosscheck import sessions
 from library import Library, Planner, held
-from limits import FREE_BYTES, LINE_BYTES, PLANNER_BYTES
-from oracle import Oracle, parse
+from limits import FREE_BYTES, LINE_BYTES, PLANNER_BYTES, SAVE_BYTES
+from oracle import Oracle, bytes_needed, parse
 from script import stored
 
+
 def rubbish(rng, count):
-    return bytes(rng.randrange(1, 256) for _ in range(count))
+    """Bytes by chance, none of them 0."""
+    return rng.randbytes(count).replace(b'\0', b'\1')
 
 
-def lent(rng, cells):
-    """An output, a place in it, and a work: mostly enough, now and then too little."""
-    room = rng.choice((FREE_BYTES, FREE_BYTES, FREE_BYTES + 9, FREE_BYTES - 1, 0))
+def lent(rng, line, cells):
+    """An output, a place in it, and a work: mostly enough for the line, now and then too little."""
+    needed = bytes_needed(line)
+    room = rng.choice((needed, needed, needed + 9, needed - 1, FREE_BYTES, 0))
     place = rng.choice((0, 0, 1, 40))
     output = rubbish(rng, room + place)
     if rng.random() < 0.05:
@@ -33,7 +37,7 @@ def lent(rng, cells):
 
 def expected(oracle, line, output, place, work):
     """Number, count, output and work after the call, as the paper has them. The oracle reads the line."""
-    if place > len(output) or len(output) - place < FREE_BYTES:
+    if place > len(output) or len(output) - place < bytes_needed(line):
         return 1, 0, output, work
     needed, plans = 4 * oracle.cells(), parse(line) == ('plan', []) and len(line) <= LINE_BYTES
     lines = oracle.answer(line, len(work) // 4)
@@ -44,18 +48,25 @@ def expected(oracle, line, output, place, work):
     return number, len(text), output[:place] + text + output[place + len(text):], work
 
 
-def session_fault(rng, library, lines):
-    """None, or the first call of a session that differs."""
+def rebuilds(planner, other):
+    """Is each line of a planner's save accepted by another planner, and does that hold the same then?"""
+    _, count, output, _ = planner.call(b'save', bytes(SAVE_BYTES), 0, b'')
+    replies = [other.call(line, bytes(FREE_BYTES), 0, b'')[:2] for line in output[:count].splitlines()]
+    return set(replies) == {(0, len('ok\n'))} and held(other.state.content()).same(held(planner.state.content()))
+
+
+def session_fault(rng, library, other, lines):
+    """None, or the first call of a session that differs, or what its save makes of another planner."""
     planner, oracle = Planner(library, rubbish(rng, PLANNER_BYTES)).fresh(), Oracle()
     for line in lines:
-        output, place, work = lent(rng, oracle.cells())
+        output, place, work = lent(rng, line, oracle.cells())
         want = expected(oracle, line, output, place, work)
         got = planner.call(line, output, place, work)
         if got != want:
             return '%r at %d in %d bytes with %d cells: %r for %r' % (line, place, len(output), len(work) // 4, got[:2], want[:2])
         if not held(planner.state.content()).same(stored(oracle)):
             return '%r leaves another planner' % line
-    return None
+    return None if rebuilds(planner, other) else 'the save after %r does not rebuild the planner' % lines
 
 
 def main():
@@ -66,7 +77,8 @@ def main():
     args = options.parse_args()
     rng, library = random.Random(args.seed), Library(args.library)
     cases = [lines for lines, _ in sessions(rng, args.sessions)]
-    faults = [session_fault(rng, library, lines) for lines in cases]
+    other = Planner(library).fresh()
+    faults = [session_fault(rng, library, other, lines) for lines in cases]
     for fault in [f for f in faults if f][:5]:
         print('DIFFERS: ' + fault)
     failed = sum(fault is not None for fault in faults)

@@ -1,13 +1,14 @@
-"""Paper 01 and request One of paper 02 by plain enumeration: every run of every set, straight from the text. It shares no code with the
-product, and with the header of the product only the limits.
+"""Paper 01 and requests One and Two of paper 02 by plain enumeration: every run of every set, straight from the text. It shares no code with
+the product, and with the header of the product only the limits.
 
 It is slow on purpose. Trees of up to five or six loads and small books are what it is for.
 """
 import re
 
-from limits import CELLS, LINE_BYTES, MAX_BUDGET, MAX_DIGITS, MAX_LOADS, MAX_POWER, MAX_RULES, MAX_STAGES, MAX_STATES, MAX_WORTH
+from limits import CELLS, FREE_BYTES, LINE_BYTES, SAVE_BYTES
+from limits import MAX_BUDGET, MAX_DIGITS, MAX_LOADS, MAX_POWER, MAX_RULES, MAX_STAGES, MAX_STATES, MAX_WORTH
 
-WORDS = {'clear': 0, 'book': 2, 'start': 1, 'end': 1, 'rule': 3, 'row': 3, 'load': 3, 'power': 2, 'worth': 2, 'budget': 1, 'plan': 0}
+WORDS = {'clear': 0, 'book': 2, 'start': 1, 'end': 1, 'rule': 3, 'row': 3, 'load': 3, 'power': 2, 'worth': 2, 'budget': 1, 'plan': 0, 'save': 0}
 NUMBER = re.compile(rb'[0-9]{1,%d}\Z' % MAX_DIGITS)
 BITS = re.compile(rb'[01]+\Z')
 
@@ -29,6 +30,11 @@ def parse(line):
     if not all(NUMBER.match(f) for f in fields):
         return None
     return name, [int(f) for f in fields]
+
+
+def bytes_needed(line):
+    """How many bytes must be free for the answer to a line."""
+    return SAVE_BYTES if len(line) <= LINE_BYTES and parse(line) == ('save', []) else FREE_BYTES
 
 
 class Oracle:
@@ -171,6 +177,26 @@ class Oracle:
             return out
         return [run[1][1], run[1][2]] + row(self.children(1))
 
+    # ---- a save: the lines that rebuild the tables
+
+    def book_lines(self):
+        return ['book,%d,%d' % (self.states, self.stages)] if self.states else []
+
+    def mark_lines(self, word, marks):
+        return ['%s,%d' % (word, number) for number in sorted(marks)]
+
+    def save(self):
+        return [
+            'clear',
+            *self.book_lines(),
+            *self.mark_lines('start', self.starts),
+            *self.mark_lines('end', self.ends),
+            *('rule,%d,%d,%d' % rule for rule in self.rules),
+            *('row,%d,%d,%d' % row for row in self.rows),
+            *('load,%d,%d,%d' % load for load in self.loads),
+            'budget,%d' % self.budget,
+        ]
+
     # ---- lines
 
     def in_range(self, word, f):
@@ -264,5 +290,7 @@ class Oracle:
         if word == 'check':
             run = self.check(f)
             return ['no,10'] if run is None else ['yes'] + self.lines_of(run)
+        if word == 'save':
+            return self.save()
         self.act(word, f)
         return ['ok']

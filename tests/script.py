@@ -23,12 +23,12 @@ import copy
 import re
 import sys
 
-from limits import FREE_BYTES, MAX_BUDGET, MAX_LOADS, MAX_POWER, MAX_RULES, MAX_STAGES, MAX_STATES, MAX_WORTH
-from oracle import Oracle
+from limits import MAX_BUDGET, MAX_LOADS, MAX_POWER, MAX_RULES, MAX_STAGES, MAX_STATES, MAX_WORTH
+from oracle import Oracle, bytes_needed
 
 NONE = (0, 0, 0)  # what an unused place holds
 WORKED_RUN = [1, 2, 0, 1, 2, 1, 1, 2, 1, 1, 1, 1]
-HANDED_IN = (b'plan', b'', b'clear', b'check,1110', b'x' * 99)
+HANDED_IN = (b'plan', b'', b'clear', b'check,1110', b'save', b'x' * 99)
 
 
 class Planner:
@@ -132,11 +132,11 @@ class Lent:
         self.cells = cells
         self.place = place
 
-    def has_room(self):
-        return self.place <= self.size and self.size - self.place >= FREE_BYTES
+    def has_room(self, line):
+        return self.place <= self.size and self.size - self.place >= bytes_needed(line)
 
 
-ROOM = Lent(1090, 610, 20)
+ROOM = Lent(3090, 610, 20)
 
 
 class Reply:
@@ -156,7 +156,7 @@ def number_of(answer):
 
 
 def reply(p, lent, line):
-    if not keeps_limits(p) or not lent.has_room():
+    if not keeps_limits(p) or not lent.has_room(line):
         return Reply(p, 1, [], 0)
     tables = tables_of(p)
     cells_of_plan = tables.cells()
