@@ -28,18 +28,19 @@ use Rattle.calls.proofs.Answers.{command-long, row-is}
 use Rattle.calls.proofs.Rows.{line-right, works-plan}
 
 -- ---- the bytes that a line needs
--- they go by the line alone
+-- they go by the command, and so by the line, alone
+pub row-bytes : (s : State) (c : Command) → bytesOf (row s c) ≡ bytesFor c
+unfolding row
+row-bytes s (line.Change x) = refl
+row-bytes s line.Plan = refl
+row-bytes s (line.Check σ n) = refl
+row-bytes s line.Save = refl
+row-bytes s line.Broken = refl
+row-bytes s line.TooLong = refl
+
 pub bytes-needed : (s : State) (l : List ℕ) → bytesOf (lineRow s l) ≡ bytesNeeded l
-unfolding lineRow row bytesNeeded
-bytes-needed s l = go (lineCommand l)
-  where
-    go : (c : Command) → bytesOf (row s c) ≡ bytesFor c
-    go (line.Change x) = refl
-    go line.Plan = refl
-    go (line.Check σ n) = refl
-    go line.Save = refl
-    go line.Broken = refl
-    go line.TooLong = refl
+unfolding lineRow bytesNeeded
+bytes-needed s l = row-bytes s (lineCommand l)
 
 -- "1,024 bytes must be free from there"; "3,000 free bytes, which the line program now lends"
 pub needed-range : (l : List ℕ) → (freeBytes ≤ bytesNeeded l) × (bytesNeeded l ≤ saveBytes)

@@ -14,8 +14,10 @@ use Rattle.calls.specs.Rows.{Row, changes, changing, row, lineRow, bytesOf, cau
 use Rattle.calls.specs.Causes.{lowest}
 use Rattle.calls.specs.Effects.{stateBy}
 use Rattle.calls.specs.Printing.{shownBy, text}
+use Rattle.calls.specs.Demand1.{bytesFor}
 use Rattle.calls.proofs.Rows.{Right}
 use Rattle.calls.proofs.Work.{no-cells}
+use Rattle.calls.proofs.ByCommand.{row-bytes}
 use Rattle.engine.specs.Shown.{runOf}
 use Rattle.planner.specs.declared.changes.Changed.{Changed}
 use Rattle.planner.specs.declared.search.Decided.{Decided}
@@ -45,8 +47,8 @@ module _ (s : State) (l : List ℕ) {c : Command} (read : c ≡ lineCommand l) w
   unfolding lineRow
   line-row = ap (row s) read
 
-  pub line-bytes : bytesOf (row s c) ≡ bytesOf (lineRow s l)
-  line-bytes = ap bytesOf line-row
+  pub line-bytes : bytesFor c ≡ bytesOf (lineRow s l)
+  line-bytes = sym (row-bytes s c) ∙ ap bytesOf line-row
 
   pub line-decides : {w v : List ℕ} {d : Decided} → Decides s (row s c) w v d → Decides s (lineRow s l) w v d
   line-decides {w} {v} {d} = subst (λ (r : Row). Decides s r w v d) line-row

@@ -13,8 +13,9 @@ use tables::refusal::UNUSABLE;
 ghost use mathlib.Core.Path.{_≡_};
 ghost use mathlib.Core.Bool.{true};
 ghost use Rattle.calls.specs.State.{keeps};
-ghost use Rattle.calls.specs.Rows.{row, bytesOf};
+ghost use Rattle.calls.specs.Rows.{row};
 ghost use Rattle.calls.specs.Calls.{called};
+ghost use Rattle.calls.specs.Demand1.{bytesFor};
 ghost use Rattle.planner.specs.Planner.{held, stateIn, Lawful};
 ghost use Rattle.planner.specs.Decided.{unshown, Decides};
 ghost use Rattle.planner.specs.Calls.{callOf, doneOf, turnedAway};
@@ -30,6 +31,20 @@ pub struct Called {
     pub planner: Planner,
     pub number: u8,
     pub count: usize,
+}
+
+// The bytes that must be free for the answer to a command.
+fn bytes_for(c: Command) -> usize
+    ensures { λ r. ⌜ r ≡ bytesFor c ⌝ }
+{
+    match c {
+        Command::Change(_) => FREE_BYTES,
+        Command::Plan => FREE_BYTES,
+        Command::Check { set: _, count: _ } => FREE_BYTES,
+        Command::Save => SAVE_BYTES,
+        Command::Broken => FREE_BYTES,
+        Command::TooLong => FREE_BYTES,
+    }
 }
 
 // A change shows no run.
@@ -65,20 +80,6 @@ impl Planner {
         self.tables.keeps_limits()
     }
 
-    // The bytes that must be free for the answer to a command.
-    fn bytes_for(self, c: Command) -> usize
-        ensures { λ r. ⌜ r ≡ bytesOf (row (stateIn self) c) ⌝ }
-    {
-        match c {
-            Command::Change(_) => FREE_BYTES,
-            Command::Plan => FREE_BYTES,
-            Command::Check { set: _, count: _ } => FREE_BYTES,
-            Command::Save => SAVE_BYTES,
-            Command::Broken => FREE_BYTES,
-            Command::TooLong => FREE_BYTES,
-        }
-    }
-
     // Nothing is written, and everything is left as it was.
     fn turned_away(self) -> Called
         ensures { λ r. ⌜ r ≡ turnedAway self ⌝ }
@@ -101,7 +102,7 @@ impl Planner {
             return self.turned_away();
         }
         let command = read(line);
-        if out.len() - place < self.bytes_for(command) {
+        if out.len() - place < bytes_for(command) {
             return self.turned_away();
         }
         let d = self.decide(command, work);

@@ -1,31 +1,24 @@
--- `Planner::bytes_for` meets its contract: an arm for each sort of command. Assumes nothing.
+-- `bytes_for` meets its contract: an arm for each sort of command. Assumes nothing.
 use borrow.Author.Needs.{needs}
-use Rattle.calls.specs.Rows.{row}
-use Rattle.planner.proofs.Planner.bytes_for.Statement.{statement}
-use Rattle.planner.proofs.Planner.bytes_for.Tie as tie
+use Rattle.planner.proofs.call.bytes_for.Statement.{statement}
+use Rattle.planner.proofs.call.bytes_for.Tie as tie
 
 returns : tie.Need-returns
-unfolding row
 returns c = rw (c .enum-told .given .1)
 
 returns-2 : tie.Need-returns-2
-unfolding row
 returns-2 c = rw (c .enum-told2 .given .1)
 
 returns-3 : tie.Need-returns-3
-unfolding row
 returns-3 c = rw (c .enum-told3 .given .1)
 
 returns-4 : tie.Need-returns-4
-unfolding row
 returns-4 c = rw (c .enum-told4 .given .1)
 
 returns-5 : tie.Need-returns-5
-unfolding row
 returns-5 c = rw (c .enum-told5 .given .1)
 
 returns-6 : tie.Need-returns-6
-unfolding row
 returns-6 c = rw (c .enum-told6 .given .1)
 
 pub bytes-for-spec : {M : Type 1} → statement M
