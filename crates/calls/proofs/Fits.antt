@@ -8,6 +8,7 @@ use native.Mathlib.Omega.{arith}
 use borrow.Author.Tests.{eqb-false}
 use lib.Dec.{lit≤, eqb}
 use lib.ListN.{length, getD}
+use Rattle.lists.specs.Each.{none, more}
 use Rattle.lists.specs.Argmax.{guard}
 use Rattle.lines.specs.Answers.{freeBytes, AllRanged}
 use Rattle.lines.proofs.Answers.{plan-fits, check-fits}
@@ -33,11 +34,10 @@ use Rattle.calls.proofs.Answers.{positive}
 ranged : (es : List Entry) → ((i : ℕ) → Bounded (find es i)) → (k n : ℕ) → ((i : ℕ) → k ≤ i → i < k + n → find es i .number < 1000)
     → AllRanged (inOrder es k n)
 unfolding inOrder
-ranged es b k zero h = tt
-ranged es b k (suc n) h = (
-  record { number = h k (omega arith) (omega arith); mark = b k .mark; state = b k .state; rule = b k .rule; row = b k .row },
-  ranged es b (suc k) n (λ i c d. h i (omega arith) (omega arith)),
-)
+ranged es b k zero h = none
+ranged es b k (suc n) h =
+    more (record { number = h k (omega arith) (omega arith); mark = b k .mark; state = b k .state; rule = b k .rule; row = b k .row })
+    (ranged es b (suc k) n (λ i c d. h i (omega arith) (omega arith)))
 
 all-ranged : (es : List Entry) (n : ℕ) → n < 1000 → Listed es n → ((i : ℕ) → Bounded (find es i)) → AllRanged (inOrder es 1 n)
 all-ranged es n few l b = ranged es b 1 n (λ i c d. omega (arith, l .number i c (omega arith)))

@@ -5,6 +5,7 @@ use mathlib.Core.List.{List, [], _∷_, _++_, append-assoc, append-nil}
 use native.Mathlib.Omega.{arith}
 use lib.Dec.{lit≤}
 use lib.ListN.{length, length-append}
+use Rattle.lists.specs.Each.{none, more}
 use Rattle.tables.specs.declared.entry.Entry.{Entry}
 use Rattle.lines.specs.Text.{comma, lineFeed, decimal, field}
 use Rattle.lines.specs.Answers.{yes, refused, planLine, entryLine, entryLines, freeBytes, Ranged, AllRanged}
@@ -44,10 +45,10 @@ entry-fits l r =
       field-fits 2 (l .row) lineFeed (lit≤ tt) (omega (arith, r .row)),
     )
 
-pub entries-fit : (ls : List Entry) → AllRanged ls → length (entryLines ls) ≤ 14 * length ls
+pub entries-fit : {ls : List Entry} → AllRanged ls → length (entryLines ls) ≤ 14 * length ls
 unfolding entryLines
-entries-fit [] r = omega arith
-entries-fit (l ∷ ls) r = omega (arith, length-append (entryLine l) (entryLines ls), entry-fits l (r .0), entries-fit ls (r .1))
+entries-fit none = omega arith
+entries-fit (more {x = l} {xs = ls} r rs) = omega (arith, length-append (entryLine l) (entryLines ls), entry-fits l r, entries-fit rs)
 
 -- one line more, as a loop writes them
 pub entries-more : (ls : List Entry) (l : Entry) → entryLines (ls ++ (l ∷ [])) ≡ entryLines ls ++ entryLine l
@@ -63,10 +64,10 @@ plan-line-fits v w n a b c =
 -- ---- every answer fits the bytes that must be free
 module _ (ls : List Entry) (r : AllRanged ls) (few : 14 * length ls + 20 ≤ freeBytes) where
   pub plan-fits : (v w n : ℕ) → v < 1000000 → w < 1000 → n < 1000 → length (planLine v w n ++ entryLines ls) ≤ freeBytes
-  plan-fits v w n a b c = omega (arith, length-append (planLine v w n) (entryLines ls), plan-line-fits v w n a b c, entries-fit ls r)
+  plan-fits v w n a b c = omega (arith, length-append (planLine v w n) (entryLines ls), plan-line-fits v w n a b c, entries-fit r)
 
   pub check-fits : length (yes ++ entryLines ls) ≤ freeBytes
-  check-fits = omega (arith, length-append yes (entryLines ls), entries-fit ls r)
+  check-fits = omega (arith, length-append yes (entryLines ls), entries-fit r)
 
 pub refused-fits : (n : ℕ) → n < 100 → length (refused n) ≤ freeBytes
 refused-fits n h = omega (arith, refused-length n, field-fits 2 n lineFeed (lit≤ tt) h)

@@ -13,7 +13,7 @@ use Rattle.lines.specs.declared.Change.{Change}
 use Rattle.lines.specs.Text.{comma, lineFeed, decimal}
 use Rattle.lines.specs.Grammar.{lineOf}
 use Rattle.lines.specs.Padding.{unpadded}
-use Rattle.lines.specs.Written.{parted, line, Short, written, changeLine}
+use Rattle.lines.specs.Written.{parted, line, written, changeLine}
 use Rattle.lines.specs.Saved.{saved, changesText}
 use Rattle.lines.specs.Input.{lines}
 use Rattle.lines.specs.ReadBack.{ReadBack, SaveLines}
@@ -21,7 +21,7 @@ use Rattle.lines.proofs.Decimal.{decimal-digits}
 use Rattle.lines.proofs.Without.{Without, none, byte, without-append, without-digits, lines-first}
 use Rattle.lines.proofs.Padding.{decimal-unpadded}
 use Rattle.lines.proofs.Written.{letters-without, line-fields, change-row, written-parses}
-use Rattle.lines.proofs.SaveText.{Few, FewDigits, saved-few, line-length, save-fits}
+use Rattle.lines.proofs.SaveText.{FewDigits, saved-few, line-length, save-fits}
 
 -- ---- no line feed in a line
 line-without : (ns : List ℕ) {w : List ℕ} → Without lineFeed w → Without lineFeed (line w ns)
@@ -49,10 +49,6 @@ all-unpadded : (ns : List ℕ) → Each (λ f. unpadded f ≡ f) (map decimal ns
 all-unpadded [] = each.none
 all-unpadded (n ∷ ns) = each.more (decimal-unpadded n) (all-unpadded ns)
 
-few-short : {ns : List ℕ} → Each Few ns → Short ns
-few-short each.none = tt
-few-short (each.more h p) = (omega arith, few-short p)
-
 read-back : (c : Change) → FewDigits c → ReadBack c
 unfolding FewDigits
 read-back c h =
@@ -60,7 +56,7 @@ read-back c h =
     let r = change-row c in
     record {
       short = omega (arith, line-length (l .word) h, r .few, r .count);
-      read = written-parses c (few-short h);
+      read = written-parses c (each-imply (λ n few. omega arith) h);
       unpadded = rw (line-fields (l .values) (letters-without comma (omega arith) (l .word) (r .letters))) (all-unpadded (l .values));
     }
 

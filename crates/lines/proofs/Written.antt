@@ -8,6 +8,7 @@ use borrow.Author.Tests.{le-leb, ltb-true, eqb-true, eq-eqb, ne-eqb, not-true}
 use lib.Dec.{eqb, ltb}
 use lib.ListN.{length, getD}
 use Rattle.lists.specs.Tests.{pick, some, every, distinct}
+use Rattle.lists.specs.Each as each
 use Rattle.lists.proofs.Bools.{and-left, and-right, or-left, or-right}
 use Rattle.marks.specs.declared.LoadSet.{LoadSet}
 use Rattle.marks.specs.Sets.{hasLoad}
@@ -42,10 +43,10 @@ line-fields (n ∷ ns) {w} p =
     fields-first (line (decimal n) ns) p
     ∙ ap (λ (fs : List (List ℕ)). w ∷ fs) (line-fields ns (without-digits comma (omega arith) (decimal n) (decimal-digits n)))
 
-all-numbers : (ns : List ℕ) → Short ns → every isNumber (map decimal ns) ≡ true
+all-numbers : {ns : List ℕ} → Short ns → every isNumber (map decimal ns) ≡ true
 unfolding every
-all-numbers [] h = refl
-all-numbers (n ∷ ns) h = rw (decimal-form n (h .0)) (all-numbers ns (h .1))
+all-numbers each.none = refl
+all-numbers (each.more {x = n} h p) = rw (decimal-form n h) (all-numbers p)
 
 all-values : (ns : List ℕ) → map value (map decimal ns) ≡ ns
 all-values [] = refl
@@ -54,7 +55,7 @@ all-values (n ∷ ns) = rw (decimal-value n, all-values ns)
 -- the line of a word and numbers is read as what the table has for them
 pub line-meant : (w ns : List ℕ) → every isLetter w ≡ true → same check w ≡ false → Short ns → parse (line w ns) ≡ meant table w ns
 unfolding parse
-line-meant w ns l o s = rw (line-fields ns (word w l)) (find-meant w o (map decimal ns) (all-numbers ns s) table kept ∙ rw (all-values ns))
+line-meant w ns l o s = rw (line-fields ns (word w l)) (find-meant w o (map decimal ns) (all-numbers s) table kept ∙ rw (all-values ns))
 
 -- ---- the lines of a row: no row stands in the shade of an earlier one
 pub data In (w : List ℕ) (n : ℕ) (f : (ℕ → ℕ) → Command) : List Form → Type 0 where

@@ -4,6 +4,7 @@ use mathlib.Core.Path.{_≡_}
 use mathlib.Core.List.{List, [], _∷_, _++_}
 use lib.ListN.{length}
 use lib.Seq.{sets}
+use Rattle.lists.specs.Each.{Each}
 use Rattle.tables.specs.declared.entry.Entry.{Entry}
 use Rattle.tables.specs.Limits.{maxStates, maxRules}
 use Rattle.lines.specs.declared.answer.Answer.{Answer}
@@ -70,8 +71,7 @@ pub record Ranged (e : Entry) : Type 0 where
   pub row : e .row ≤ maxRules
 
 abbrev pub AllRanged : List Entry → Type 0
-AllRanged [] = Unit {0}
-AllRanged (e ∷ es) = Ranged e × AllRanged es
+AllRanged es = Each Ranged es
 
 -- bytes were written from a place on, all other bytes keep their values, and the next place is the one after them
 pub record Wrote (before after : List ℕ) (at next : ℕ) (text : List ℕ) : Type 0 where

@@ -2,6 +2,7 @@
 use Prim.Native.Nat.{ℕ, zero, suc, _+_, _<_, _^_}
 use mathlib.Core.List.{List, [], _∷_, _++_, map}
 use Rattle.lists.specs.Tests.{pick}
+use Rattle.lists.specs.Each.{Each}
 use Rattle.marks.specs.declared.LoadSet.{LoadSet}
 use Rattle.marks.specs.Sets.{hasLoad}
 use Rattle.lines.specs.declared.Change.{Change}
@@ -19,8 +20,7 @@ line w ns = parted w (map decimal ns)
 
 -- numbers of few enough digits
 abbrev pub Short : List ℕ → Type 0
-Short [] = Unit {0}
-Short (n ∷ ns) = (n < 10 ^ mostDigits) × Short ns
+Short ns = Each (λ n. n < 10 ^ mostDigits) ns
 
 -- the line of a change
 abbrev pub written : Change → List ℕ

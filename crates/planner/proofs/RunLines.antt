@@ -11,6 +11,7 @@ use lib.Dec.{eqb}
 use lib.ListN.{length, getD, take}
 use lib.Seq.{take-suc, take-all}
 use Rattle.lists.specs.Argmax.{guard}
+use Rattle.lists.proofs.Each.{each-at}
 use Rattle.lines.specs.declared.Change.{Change}
 use Rattle.lines.specs.Saved.{saved}
 use Rattle.lines.specs.Answers.{entryLine, entryLines, AllRanged, textOf, Wrote}
@@ -44,11 +45,6 @@ number-at [] k i o h = absurd (omega arith)
 number-at (e ∷ es) k zero o h = omega (arith, o .0)
 number-at (e ∷ es) k (suc i) o h = let j : k + suc i ≡ suc k + i = omega arith in number-at es (suc k) i (o .1) (omega arith) ∙ sym j
 
-marked-at : (es : List Entry) → AllRanged es → (i : ℕ) → i < length es → getD es i noEntry .mark ≤ 1
-marked-at [] r i h = absurd (omega arith)
-marked-at (e ∷ es) r zero h = r .0 .mark
-marked-at (e ∷ es) r (suc i) h = marked-at es (r .1) i (omega arith)
-
 one-or-none : (x : ℕ) → x ≤ 1 → guard (eqb x 1) 1 ≡ x
 one-or-none zero l = refl
 one-or-none (suc zero) l = refl
@@ -59,7 +55,7 @@ module _ (es : List Entry) (o : Numbered 1 es) (few : length es ≤ maxLoads) (r
   line-at i h =
       let s = shown-at es o few i h in
       let number : suc i ≡ getD es i noEntry .number = omega (arith, number-at es 1 i o h) in
-      let mark = ap (λ (b : Bool). guard b 1) (s .mark) ∙ one-or-none (getD es i noEntry .mark) (marked-at es r i h) in
+      let mark = ap (λ (b : Bool). guard b 1) (s .mark) ∙ one-or-none (getD es i noEntry .mark) (each-at noEntry r i h .mark) in
       λ j. record { number = number j; mark = mark j; state = s .state j; rule = s .rule j; row = s .row j }
 
   lines-to : (n : ℕ) → n ≤ length es → entriesTo (runOf es) n ≡ take n es
