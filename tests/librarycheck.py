@@ -5,8 +5,8 @@
 
 Each line of a random session is handed to the library with an output full of rubbish, of any length and with any place in it, and with a work
 full of rubbish, of any length. Compared are the number, the count, every byte of the output, every cell of the work and every field of the
-planner. The lines of the save that each session ends with, each with the free bytes that it needs, must make the planner of the session before
-hold the same. The last line is 'N passed, M failed'.
+planner. The lines of the save that each session ends with, each with the free bytes that it needs, must make the planner that an
+earlier session left hold the same. The last line is 'N passed, M failed'.
 """
 import argparse
 import random
