@@ -44,6 +44,14 @@ def typed(commands, folder, **variables):
     return ended.stdout
 
 
+def line_from(port):
+    """The next line that comes out of the port."""
+    text = b''
+    while not text.endswith(b'\n'):
+        text += os.read(port, 1)
+    return text
+
+
 def over_a_port(program, commands, folder):
     """What they print where a line program that holds the worked cabinet is behind the port."""
     switch, port = os.openpty()
@@ -52,7 +60,7 @@ def over_a_port(program, commands, folder):
     try:
         for line in WORKED:
             os.write(port, line + b'\n')
-            os.read(port, len(b'ok\n'))
+            line_from(port)
         return typed(commands, folder, port=os.ttyname(port))
     finally:
         running.kill()
