@@ -1,5 +1,5 @@
--- Lines of bytes: how they are read, which of them differ only in leading zeros, what is printed, and how input is cut into lines. Reading
--- serves only inside.
+-- Lines of bytes: how they are read, which of them differ only in leading zeros, how they are written, the lines of a save, what is printed, and
+-- how input is cut into lines. Reading serves only inside.
 pub mod Text
 pub mod Length
 pub mod Grammar

@@ -22,6 +22,7 @@ pub record ReadBack (c : change.Change) : Type 0 where
   pub read : parse (written c) ≡ Change c
   pub unpadded : Each (λ f. unpadded f ≡ f) (laterFields (written c))
 
+-- the save of tables: its bytes fit, and cut into lines they are those of its changes, each read back
 pub record SaveLines (t : Tables) : Type 0 where
   pub fits : length (saveText t) ≤ saveBytes
   pub cut : lines (saveText t) ≡ map written (saved t)
