@@ -17,6 +17,7 @@ use Rattle.lines.specs.Written.{written}
 use Rattle.lines.specs.Saved.{saved, saveText, saveBytes}
 use Rattle.lines.specs.Answers.{ok}
 use Rattle.lines.specs.Input.{onLine, lines}
+use Rattle.lines.proofs.Fields.{Cons, cons}
 use Rattle.lines.proofs.SaveLines.{lines-before, save-lines}
 use Rattle.tables.specs.Tables as on-paper
 use Rattle.tables.specs.Tables.{Tables}
@@ -37,31 +38,28 @@ use Rattle.calls.proofs.Saves.{save-writes, fed}
 use Rattle.calls.proofs.Program.{exchanges-history, left-append, left-last}
 
 -- ---- lines after whole lines
-data Some : List (List ℕ) → Type 0 where
-  some : (l : List ℕ) (ls : List (List ℕ)) → Some (l ∷ ls)
-
-first-line : (b : ℕ) (s : List ℕ) → Some (lines (b ∷ s))
+first-line : (b : ℕ) (s : List ℕ) → Cons (lines (b ∷ s))
 unfolding lines
 first-line b s = go (eqb b lineFeed) (lines s)
   where
-    go : (t : Bool) (ls : List (List ℕ)) → Some (pick t ([] ∷ ls) (onLine b ls))
-    go true ls = some [] ls
-    go false [] = some (b ∷ []) []
-    go false (l ∷ ls) = some (b ∷ l) ls
+    go : (t : Bool) (ls : List (List ℕ)) → Cons (pick t ([] ∷ ls) (onLine b ls))
+    go true ls = cons [] ls
+    go false [] = cons (b ∷ []) []
+    go false (l ∷ ls) = cons (b ∷ l) ls
 
-some-line : (s r : List ℕ) → Some (lines (s ++ (lineFeed ∷ r)))
-some-line [] r = first-line lineFeed r
-some-line (b ∷ s) r = first-line b (s ++ (lineFeed ∷ r))
+begun-line : (s r : List ℕ) → Cons (lines (s ++ (lineFeed ∷ r)))
+begun-line [] r = first-line lineFeed r
+begun-line (b ∷ s) r = first-line b (s ++ (lineFeed ∷ r))
 
 lines-ended : (s r : List ℕ) → lines (s ++ (lineFeed ∷ r)) ≡ lines (s ++ (lineFeed ∷ [])) ++ lines r
 unfolding lines
 lines-ended [] r = refl
-lines-ended (b ∷ s) r = go (eqb b lineFeed) (lines (s ++ (lineFeed ∷ []))) (some-line s []) (lines-ended s r)
+lines-ended (b ∷ s) r = go (eqb b lineFeed) (lines (s ++ (lineFeed ∷ []))) (begun-line s []) (lines-ended s r)
   where
-    go : (t : Bool) (ls : List (List ℕ)) → Some ls → lines (s ++ (lineFeed ∷ r)) ≡ ls ++ lines r
+    go : (t : Bool) (ls : List (List ℕ)) → Cons ls → lines (s ++ (lineFeed ∷ r)) ≡ ls ++ lines r
         → pick t ([] ∷ lines (s ++ (lineFeed ∷ r))) (onLine b (lines (s ++ (lineFeed ∷ r)))) ≡ pick t ([] ∷ ls) (onLine b ls) ++ lines r
-    go true ls (some k ks) e = ap (λ (ms : List (List ℕ)). [] ∷ ms) e
-    go false ls (some k ks) e = ap (onLine b) e
+    go true ls (cons k ks) e = ap (λ (ms : List (List ℕ)). [] ∷ ms) e
+    go false ls (cons k ks) e = ap (onLine b) e
 
 lines-whole : {s : List ℕ} → Whole s → (r : List ℕ) → lines (s ++ r) ≡ lines s ++ lines r
 unfolding lines

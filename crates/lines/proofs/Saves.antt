@@ -1,5 +1,5 @@
 -- Lines of changes as they are written: a number more, a change more, and a save part by part. Assumes nothing.
-use Prim.Native.Nat.{ℕ, suc, _+_, _≤_, _<_}
+use Prim.Native.Nat.{ℕ, suc, _+_, _<_}
 use mathlib.Core.Path.{_≡_, refl, sym, ap, _∙_}
 use mathlib.Core.Bool.{Bool, true, false}
 use mathlib.Core.List.{List, [], _∷_, _++_, map, map-append, append-nil, append-assoc}
@@ -13,9 +13,7 @@ use Rattle.tables.specs.declared.rule.Sort.{Sort}
 use Rattle.tables.specs.declared.rule.Sort.the-variants as sort
 use Rattle.tables.specs.declared.tables.StoredBook.{StoredBook}
 use Rattle.tables.specs.declared.tables.StoredTables.{StoredTables}
-use Rattle.tables.specs.Limits.{maxRules}
-use Rattle.tables.specs.Stored.{heldRules, rulesOf, loadsOf, bookOf, tablesOf, storedBook, stored, Holds}
-use Rattle.tables.proofs.Lawful.{lawful}
+use Rattle.tables.specs.Stored.{rulesOf, loadsOf, bookOf, tablesOf}
 use Rattle.lines.specs.declared.Change.{Change}
 use Rattle.lines.specs.declared.Change.the-variants.{Clear, Book, Budget}
 use Rattle.lines.specs.Text.{comma, decimal}
@@ -89,14 +87,3 @@ pub save-text : (s : StoredTables) → saveText (tablesOf s)
     ≡ changeLine Clear ++ changesText (bookChanges (bookOf (s .book))) ++ changesText (map loadChange (loadsOf (s .loads))) ++ changeLine (Budget (s .budget))
 unfolding saved tablesOf
 save-text s = simp (text-append, text-one)
-
--- tables that keep the limits have no more rules and loads than places
-module _ (n : ℕ) (s : StoredTables) (h : Holds n s) where
-  pub few-rules : (k : Sort) → heldRules (s .book) k .count ≤ maxRules
-  unfolding stored storedBook
-  few-rules sort.Load = rw (h .2) (lawful (h .0) (h .1) .rules sort.Load)
-  few-rules sort.Row = rw (h .2) (lawful (h .0) (h .1) .rules sort.Row)
-
-  pub few-loads : s .loads .count ≤ n
-  unfolding stored
-  few-loads = rw (h .2, ← h .3) (lawful (h .0) (h .1) .loads)

@@ -3,7 +3,6 @@ use Prim.Native.Nat.{ℕ, zero, suc, _≤_}
 use mathlib.Core.Path.{_≡_, refl, sym, ap, _∙_}
 use mathlib.Core.Bool.{Bool, true, false, _&&_, not}
 use mathlib.Core.List.{List, [], _∷_}
-use native.Mathlib.Omega.{arith}
 use borrow.Author.Tests.{not-true, not-false}
 use lib.Dec.{leb}
 use lib.ListN.{length}
@@ -22,12 +21,13 @@ use Rattle.tables.specs.Tables.{Tables, sizeFor, rulesFor}
 use Rattle.tables.specs.Limits.{between, ruleIn, rangeFor, sameRule, maxRules, loadIn, figureIn, maxLoads}
 use Rattle.tables.specs.Stored.{heldSize, stored, bookOf, tablesOf, Holds}
 use Rattle.tables.specs.Operations.{accepted, addingNumber, ruleNumber, loadNumber, ruleAdded, figureChanged}
-use Rattle.tables.proofs.Lawful.{inside, lawful}
+use Rattle.tables.proofs.Lawful.{inside}
+use Rattle.tables.proofs.Stored.{held-loads}
 use Rattle.tables.proofs.Changes.{rule-added, figure-changed}
 use Rattle.calls.specs.Rows.{Cause, _if_, isLoad, Row, changes, effectOf, unless, adding, setting}
 use Rattle.calls.specs.Causes.{lowest}
 use Rattle.calls.specs.Effects.{acted}
-use Rattle.calls.proofs.State.{is-stored, places, kept-within}
+use Rattle.calls.proofs.State.{is-stored, kept-within}
 use Rattle.planner.specs.declared.Planner.{Planner}
 use Rattle.planner.specs.declared.changes.Changed.{Changed}
 use Rattle.planner.specs.declared.changes.NamedRule.{NamedRule}
@@ -69,7 +69,7 @@ module _ (p : Planner) (h : Lawful p) where
   load-count = tables-count (p .tables) (h .tables)
 
   pub few : p .tables .loads .count ≤ maxLoads
-  few = omega (arith, load-count, places (p .tables) (h .tables), lawful (stateIn p .tables) (kept-within (held p) h .tables) .loads)
+  few = held-loads maxLoads (p .tables) (h .tables)
 
 -- how many states or stages
 pub size-held : (u : StoredTables) (k : Sort) → heldSize (u .book) k ≡ sizeFor (tablesOf u .book) k

@@ -17,9 +17,9 @@ use Rattle.tables.specs.declared.rule.TransitionList.{TransitionList}
 use Rattle.tables.specs.declared.load.LoadList.{LoadList}
 use Rattle.tables.specs.declared.tables.StoredTables.{StoredTables}
 use Rattle.tables.specs.declared.rule.Sort.the-variants as sort
-use Rattle.tables.specs.Tables.{Transition, Load, Tables, noRule, noLoad}
+use Rattle.tables.specs.Tables.{Sort, Transition, Load, Tables, noRule, noLoad}
 use Rattle.tables.specs.Limits.{maxRules, Limits}
-use Rattle.tables.specs.Stored.{storedRules, storedLoads, storedBook, stored, rulesOf, loadsOf, placesOf, bookOf, tablesOf, zeroRule, zeroLoad, rulesFree, loadsFree, keepsLimits, Lengths, Holds}
+use Rattle.tables.specs.Stored.{heldRules, storedRules, storedLoads, storedBook, stored, rulesOf, loadsOf, placesOf, bookOf, tablesOf, zeroRule, zeroLoad, rulesFree, loadsFree, keepsLimits, Lengths, Holds}
 use Rattle.tables.proofs.Lawful.{lawful}
 use Rattle.tables.proofs.Kept.{tested}
 
@@ -123,3 +123,14 @@ module _ (s : StoredTables) (len : Lengths s) where
     λ h. let p = keeps-stored h in (tablesOf s, p .1, p .0, full),
     λ (t, h, e, m). ap keepsLimits e ∙ stored-keeps t h,
   )
+
+-- tables that are held have no more rules and loads than places
+module _ (n : ℕ) (s : StoredTables) (h : Holds n s) where
+  pub held-rules : (k : Sort) → heldRules (s .book) k .count ≤ maxRules
+  unfolding stored storedBook
+  held-rules sort.Load = rw (h .2) (lawful (h .0) (h .1) .rules sort.Load)
+  held-rules sort.Row = rw (h .2) (lawful (h .0) (h .1) .rules sort.Row)
+
+  pub held-loads : s .loads .count ≤ n
+  unfolding stored
+  held-loads = rw (h .2, ← h .3) (lawful (h .0) (h .1) .loads)

@@ -10,12 +10,13 @@ use lib.ListN.{length, length-append}
 use Rattle.tables.specs.declared.tables.StoredTables.{StoredTables}
 use Rattle.tables.specs.Limits.{maxLoads}
 use Rattle.tables.specs.Stored.{loadsOf, bookOf}
+use Rattle.tables.proofs.Stored.{held-rules, held-loads}
 use Rattle.lines.specs.declared.Change.the-variants.{Clear, Budget}
 use Rattle.lines.specs.Grammar.{lineOf}
 use Rattle.lines.specs.Written.{changeLine}
 use Rattle.lines.specs.Saved.{loadChange, bookChanges, changesText}
 use Rattle.lines.proofs.Wrote.{wrote-then}
-use Rattle.lines.proofs.Saves.{save-text, few-rules, few-loads}
+use Rattle.lines.proofs.Saves.{save-text}
 use Rattle.lines.proofs.saving.write_save.Statement.{statement}
 use Rattle.lines.proofs.saving.write_save.Tie as tie
 
@@ -46,7 +47,7 @@ write-book-requires c κs =
     let w = c .before .before .before in
     let s = w .before .before .before .before in
     let r = room s in
-    (few-rules maxLoads (s .args .tables) (s .pre .0), omega (arith, w .write-line .ensures .end, w .write-line .kept .0))
+    (held-rules maxLoads (s .args .tables) (s .pre .0), omega (arith, w .write-line .ensures .end, w .write-line .kept .0))
 
 write-loads-requires : tie.Need-write-loads-requires
 unfolding lineOf
@@ -55,7 +56,7 @@ write-loads-requires c κs =
     let w = b .before .before .before .before in
     let s = w .before .before .before .before in
     let r = room s in
-    (few-loads maxLoads (s .args .tables) (s .pre .0), omega (arith, b .write-book .ensures .end, b .write-book .kept .0, w .write-line .ensures .end, w .write-line .kept .0))
+    (held-loads maxLoads (s .args .tables) (s .pre .0), omega (arith, b .write-book .ensures .end, b .write-book .kept .0, w .write-line .ensures .end, w .write-line .kept .0))
 
 write-line-requires-2 : tie.Need-write-line-requires-2
 unfolding lineOf

@@ -4,10 +4,10 @@ use native.Mathlib.Omega.{arith}
 use borrow.Author.Needs.{needs}
 use Rattle.lines.specs.declared.Change.{Change}
 use Rattle.lines.specs.Saved.{saved}
-use Rattle.lines.proofs.Saves.{few-loads}
 use Rattle.tables.specs.declared.entry.Entry.{Entry}
 use Rattle.tables.specs.Limits.{maxLoads}
 use Rattle.tables.specs.Stored.{tablesOf}
+use Rattle.tables.proofs.Stored.{held-loads}
 use Rattle.planner.specs.Answers.{entriesTo}
 use Rattle.planner.proofs.Writing.{plan-room, plan-rest, plan-wrote, check-room, check-rest, check-wrote}
 use Rattle.planner.proofs.answers.write_answer.Statement.{statement}
@@ -34,7 +34,7 @@ write-run-requires c κs =
     let w = c .before .before .before in
     let k = w .before .before .before in
     let e = k .before .before .before in
-    (few-loads maxLoads (e .args .tables) (e .pre .0), plan-rest (e .args .a) (entries e) (changes e) (k .a .given .1) (w .write-plan .ensures) (e .pre .1))
+    (held-loads maxLoads (e .args .tables) (e .pre .0), plan-rest (e .args .a) (entries e) (changes e) (k .a .given .1) (w .write-plan .ensures) (e .pre .1))
 
 write-yes-requires : tie.Need-write-yes-requires
 write-yes-requires c κs =
@@ -46,7 +46,7 @@ write-run-requires-2 c κs =
     let w = c .before .before .before in
     let k = w .before .before in
     let e = k .before .before .before in
-    (few-loads maxLoads (e .args .tables) (e .pre .0), check-rest (e .args .a) (entries e) (changes e) (k .enum-told2 .given .1) (w .write-yes .ensures) (e .pre .1))
+    (held-loads maxLoads (e .args .tables) (e .pre .0), check-rest (e .args .a) (entries e) (changes e) (k .enum-told2 .given .1) (w .write-yes .ensures) (e .pre .1))
 
 write-save-requires : tie.Need-write-save-requires
 write-save-requires c κs =
