@@ -89,6 +89,37 @@ module _ {A : Type 0} where
   getD-laid d (suc n) (y ∷ xs) zero h l = refl
   getD-laid d (suc n) (y ∷ xs) (suc i) h l = getD-laid d n xs i (le-of-suc-le-suc h) (le-of-suc-le-suc l)
 
+  -- d at the end changes no reading
+  pub getD-end : (d : A) (xs : List A) (i : ℕ) → getD (xs ++ (d ∷ [])) i d ≡ getD xs i d
+  getD-end d [] zero = refl
+  getD-end d [] (suc i) = refl
+  getD-end d (x ∷ xs) zero = refl
+  getD-end d (x ∷ xs) (suc i) = getD-end d xs i
+
+  -- one taken out: those behind it come one place down, and the last place holds d. Each is taken to another, d to itself, and those before it are kept
+  laid-end : (d : A) (n : ℕ) (xs : List A) → length xs ≤ n → laid d n xs ++ (d ∷ []) ≡ laid d (suc n) xs
+  unfolding laid
+  laid-end d zero [] h = refl
+  laid-end d zero (x ∷ xs) h = absurd (not-suc-le-zero h)
+  laid-end d (suc n) [] h = ap (λ (l : List A). d ∷ l) (laid-end d n [] zero-le)
+  laid-end d (suc n) (x ∷ xs) h = ap (λ (l : List A). x ∷ l) (laid-end d n xs (le-of-suc-le-suc h))
+
+  map-laid : (f : A → A) (d : A) → f d ≡ d → (n : ℕ) (xs : List A) → map f (laid d n xs) ≡ laid d n (map f xs)
+  unfolding laid
+  map-laid f d e zero xs = refl
+  map-laid f d e (suc n) [] = ap₂ _∷_ e (map-laid f d e n [])
+  map-laid f d e (suc n) (x ∷ xs) = ap (λ (l : List A). f x ∷ l) (map-laid f d e n xs)
+
+  pub laid-without : (f : A → A) (d : A) → f d ≡ d → (n j : ℕ) (xs : List A) → j < length xs → length xs ≤ n → ((i : ℕ) → i < j → f (getD xs i d) ≡ getD xs i d)
+      → take j (laid d n xs) ++ (map f (drop (suc j) (laid d n xs)) ++ (d ∷ [])) ≡ laid d n (map f (take j xs ++ drop (suc j) xs))
+  unfolding laid
+  laid-without f d e n j [] b h kept = absurd (not-suc-le-zero b)
+  laid-without f d e zero j (x ∷ xs) b h kept = absurd (not-suc-le-zero h)
+  laid-without f d e (suc n) zero (x ∷ xs) b h kept =
+      ap (λ (l : List A). l ++ (d ∷ [])) (map-laid f d e n xs) ∙ laid-end d n (map f xs) (rw (length-map xs f) (le-of-suc-le-suc h))
+  laid-without f d e (suc n) (suc j) (x ∷ xs) b h kept =
+      ap₂ _∷_ (sym (kept 0 (omega arith))) (laid-without f d e n j xs (le-of-suc-le-suc b) (le-of-suc-le-suc h) (λ i l. kept (suc i) (suc-le-suc l)))
+
   -- an array whose places from k on hold d is its first k elements, laid out
   pub laid-take : (d : A) (n : ℕ) (xs : List A) (k : ℕ) → length xs ≡ n
       → ((i : ℕ) → k ≤ i → i < n → getD xs i d ≡ d) → xs ≡ laid d n (take k xs)

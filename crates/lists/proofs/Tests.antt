@@ -2,13 +2,13 @@
 use Prim.Native.Nat.{ℕ, zero, suc, _+_, _-_, _≤_, _<_}
 use mathlib.Core.Path.{_≡_, refl, sym, ap, _∙_}
 use mathlib.Core.Bool.{Bool, true, false, _&&_, not}
-use mathlib.Core.List.{List, [], _∷_, _++_}
+use mathlib.Core.List.{List, [], _∷_, _++_, map}
 use mathlib.Core.Logic.{⊎-elim}
 use native.Mathlib.Nat.{le-of-suc-le-suc, not-suc-le-zero, eq-or-lt-of-le}
 use native.Mathlib.Numerals.{add-one}
 use native.Mathlib.Omega.{arith}
 use borrow.Author.Tests.{not-true}
-use lib.ListN.{length, drop, getD, set, length-drop}
+use lib.ListN.{length, take, drop, getD, set, length-drop}
 use lib.Seq.{getD-drop}
 use Rattle.lists.specs.Tests.{some, every, everyFrom, distinct, allBelow}
 use Rattle.lists.specs.Arrays.{rest}
@@ -112,6 +112,27 @@ module _ {A : Type 0} where
       rw (keep k x (and-left (p k x) (everyFrom p (suc k) xs) h)) (and-right (p k x) (everyFrom p (suc k) xs) h)
   from-set d p f keep k (suc i) (x ∷ xs) h =
       rw (and-left (p k x) (everyFrom p (suc k) xs) h) (from-set d p f keep (suc k) i xs (and-right (p k x) (everyFrom p (suc k) xs) h))
+
+  -- the element with number m taken out, those behind it falling by one, and each taken to another: those before it pass as they did, and those
+  -- behind it that are not c pass with the number before theirs
+  module _ (p : ℕ → A → Bool) (c : A → Bool) (f : A → A) (m : ℕ) (higher : (k : ℕ) (x : A) → m ≤ k → c x ≡ false → p (suc k) x ≡ true → p k (f x) ≡ true) where
+    from-fallen : (k : ℕ) (xs : List A) → m ≤ k → everyFrom p (suc k) xs ≡ true → some c xs ≡ false → everyFrom p k (map f xs) ≡ true
+    unfolding everyFrom some
+    from-fallen k [] b h e = refl
+    from-fallen k (x ∷ xs) b h e =
+        rw (higher k x b (or-left (c x) (some c xs) e) (and-left (p (suc k) x) (everyFrom p (suc (suc k)) xs) h))
+        (from-fallen (suc k) xs (omega arith) (and-right (p (suc k) x) (everyFrom p (suc (suc k)) xs) h) (or-right (c x) (some c xs) e))
+
+    pub from-without : ((k : ℕ) (x : A) → k < m → p k x ≡ true → p k (f x) ≡ true)
+        → (k j : ℕ) (xs : List A) → j + k ≡ m → everyFrom p k xs ≡ true → some c xs ≡ false → everyFrom p k (map f (take j xs ++ drop (suc j) xs)) ≡ true
+    unfolding everyFrom some
+    from-without lower k zero [] at h e = refl
+    from-without lower k (suc j) [] at h e = refl
+    from-without lower k zero (x ∷ xs) at h e =
+        from-fallen k xs (omega arith) (and-right (p k x) (everyFrom p (suc k) xs) h) (or-right (c x) (some c xs) e)
+    from-without lower k (suc j) (x ∷ xs) at h e =
+        rw (lower k x (omega arith) (and-left (p k x) (everyFrom p (suc k) xs) h))
+        (from-without lower (suc k) j xs (omega arith) (and-right (p k x) (everyFrom p (suc k) xs) h) (or-right (c x) (some c xs) e))
 
   -- ---- an element with others before and behind it
   pub every-mid : (p : A → Bool) (xs : List A) (y : A) (ys : List A) → every p (xs ++ (y ∷ ys)) ≡ true → p y ≡ true
