@@ -1,4 +1,5 @@
--- What the limits say of small tables, by computation: one case for each clause of "A planner handed in keeps these limits". Assumes nothing.
+-- What the limits say of small tables, by computation: one case for each clause of "A planner handed in keeps these limits"; and loads that leave.
+-- Assumes nothing.
 use Prim.Native.Nat.{ℕ}
 use mathlib.Core.Path.{_≡_, refl}
 use mathlib.Core.Bool.{true, false}
@@ -11,6 +12,7 @@ use Rattle.tables.specs.declared.tables.StoredTables.{StoredTables}
 use Rattle.tables.specs.Tables.{Transition, Load, Tables, fresh}
 use Rattle.tables.specs.Limits.{ruleIn, sameRule, sortIn, bookIn, loadIn, maxLoads, loadsIn, limits}
 use Rattle.tables.specs.Stored.{storedBook, stored, bookOf, tablesOf, zeroRule, zeroLoad, keepsLimits}
+use Rattle.tables.specs.Changes.{hasChildren, remaining}
 use Rattle.tables.specs.Operations.{putLoads}
 
 rule : ℕ → ℕ → ℕ → Transition
@@ -66,3 +68,24 @@ littered = putLoads (stored lawful) (record { items = set (stored lawful .loads 
 litter-seen : map keepsLimits (stored lawful ∷ littered ∷ []) ≡ true ∷ false ∷ []
 unfolding keepsLimits tablesOf bookOf stored storedBook laid zeroRule zeroLoad limits bookIn sortIn limited every distinct some everyFrom ruleIn sameRule loadIn loadsIn littered lawful tables rule load
 litter-seen = refl
+
+-- ---- loads that leave
+tree : List Load
+tree = load 0 1 1 ∷ load 1 2 2 ∷ load 1 3 3 ∷ load 3 4 4 ∷ load 1 5 5 ∷ load 5 6 6 ∷ []
+
+-- a leaf in the middle, the last load, and the only one
+remain : map (λ k. remaining k tree) (2 ∷ 4 ∷ 6 ∷ [])
+    ≡ (load 0 1 1 ∷ load 1 3 3 ∷ load 2 4 4 ∷ load 1 5 5 ∷ load 4 6 6 ∷ [])
+    ∷ (load 0 1 1 ∷ load 1 2 2 ∷ load 1 3 3 ∷ load 1 5 5 ∷ load 4 6 6 ∷ [])
+    ∷ (load 0 1 1 ∷ load 1 2 2 ∷ load 1 3 3 ∷ load 3 4 4 ∷ load 1 5 5 ∷ [])
+    ∷ []
+unfolding remaining tree load
+remain = refl
+
+alone : remaining 1 (load 0 9 9 ∷ []) ≡ []
+unfolding remaining
+alone = refl
+
+parents : map (λ k. hasChildren k tree) (1 ∷ 2 ∷ 3 ∷ 4 ∷ 5 ∷ 6 ∷ []) ≡ true ∷ false ∷ true ∷ false ∷ true ∷ false ∷ []
+unfolding hasChildren some tree load
+parents = refl

@@ -1,10 +1,11 @@
 -- Every change on paper keeps the limits, under the conditions that its row of "Causes and numbers" leaves. Assumes nothing.
-use Prim.Native.Nat.{ℕ, suc, _+_, _-_, _^_, _≤_, _<_}
+use Prim.Native.Nat.{ℕ, zero, suc, _+_, _-_, _^_, _≤_, _<_}
 use mathlib.Core.Path.{_≡_, refl}
-use mathlib.Core.Bool.{Bool, true, false, _&&_, _||_}
-use mathlib.Core.List.{List, [], _∷_, _++_}
+use mathlib.Core.Bool.{Bool, true, false, _&&_}
+use mathlib.Core.List.{List}
 use native.Mathlib.Omega.{arith}
-use borrow.Author.Tests.{leb-true, lt-ltb, ltb-true}
+use native.Mathlib.Decide.{decLt}
+use borrow.Author.Tests.{leb-true, le-leb, lt-ltb, ltb-true, eqb-false}
 use lib.Bits.{or-lt}
 use lib.Pow.{pow-pos, pow-lt}
 use lib.Dec.{eqb, leb}
@@ -12,7 +13,7 @@ use lib.ListN.{length, length-set}
 use Rattle.lists.specs.Tests.{pick, some, everyFrom}
 use Rattle.lists.proofs.Bools.{and-left, and-right, or-true, eqb-swap}
 use Rattle.lists.proofs.Arrays.{length-snoc}
-use Rattle.lists.proofs.Tests.{from-snoc, from-set}
+use Rattle.lists.proofs.Tests.{from-snoc, from-set, from-without}
 use Rattle.lists.proofs.Places.{limited-none, limited-snoc}
 use Rattle.marks.specs.Bits.{within, setBit, withMark}
 use Rattle.marks.specs.Sets.{marked}
@@ -22,8 +23,10 @@ use Rattle.tables.specs.declared.load.Figure.{Figure}
 use Rattle.tables.specs.declared.load.Figure.the-variants as figure
 use Rattle.tables.specs.Tables.{Sort, Transition, Load, Book, Tables, noLoad, sizeFor, marksFor, rulesFor, emptyBook, fresh}
 use Rattle.tables.specs.Limits.{between, maxStates, bookSize, sizeIn, marksIn, ruleIn, ruleRange, rangeFor, sameRule, maxRules, rulesIn, parentIn, figureIn, budgetIn, loadIn, mostPlaces, Limits}
-use Rattle.tables.specs.Changes.{withBook, withLoads, withMarks, withRules, newBook, mark, addRule, addLoad, withFigure, setFigure, setBudget}
+use Rattle.tables.specs.Changes.{withBook, withLoads, withMarks, withRules, newBook, mark, addRule, addLoad, withFigure, setFigure, isChild, hasChildren, fallen, reparented, remaining, dropLoad, setBudget}
 use Rattle.tables.proofs.Parts.{BookParts, Parts, limits-parts, limits-whole}
+use Rattle.tables.proofs.Lawful.{inside, load-inside}
+use Rattle.tables.proofs.Removed.{stays, falls, same-parent, one-fewer}
 
 -- ---- marks
 set-fits : (n x q : ℕ) → x < 2 ^ n → 1 ≤ q → q ≤ n → withMark maxStates x q < 2 ^ n
@@ -56,6 +59,37 @@ figure-in figure.Power w e k l h =
     rw (and-left (parentIn k (l .parent)) (figureIn figure.Power (l .power)) a, e)
     (and-right (parentIn k (l .parent) && figureIn figure.Power (l .power)) (figureIn figure.Worth (l .worth)) h)
 figure-in figure.Worth v e k l h = rw (and-left (parentIn k (l .parent) && figureIn figure.Power (l .power)) (figureIn figure.Worth (l .worth)) h) e
+
+-- a load that comes after load k has left: before it, or behind it and none of its children
+module _ (k : ℕ) (one : 1 ≤ k) where
+  lower-in : (m : ℕ) (l : Load) → m < k → loadIn m l ≡ true → loadIn m (reparented k l) ≡ true
+  lower-in m l b h = rw (same-parent k l (omega (arith, load-inside m l h .parent))) h
+
+  parent-in : (m p : ℕ) → k ≤ m → (p ≡ k → ⊥) → parentIn (suc m) p ≡ true → parentIn m (fallen k p) ≡ true
+  parent-in zero p b other h = absurd (omega arith)
+  parent-in (suc zero) p b other h = absurd (other (let i = inside 1 1 p h in omega arith))
+  parent-in (suc (suc m)) p b other h = go (decLt k p)
+    where
+      i : (1 ≤ p) × (p ≤ suc (suc m))
+      i = inside 1 (suc (suc m)) p h
+
+      at : (n : ℕ) → 1 ≤ n → n ≤ suc m → between 1 (suc m) n ≡ true
+      at n a b = rw (le-leb 1 n a) (le-leb n (suc m) b)
+
+      go : Dec (k < p) → between 1 (suc m) (fallen k p) ≡ true
+      go (yes l) = rw (falls k p l) (at (p - 1) (omega arith) (omega (arith, i)))
+      go (no l) = rw (stays k p (omega arith)) (at p (i .0) (omega (arith, other)))
+
+  higher-in : (m : ℕ) (l : Load) → k ≤ m → isChild k l ≡ false → loadIn (suc m) l ≡ true → loadIn m (reparented k l) ≡ true
+  unfolding loadIn
+  higher-in m l b other h =
+      let figures = figureIn figure.Power (l .power) in
+      let both = and-left (parentIn (suc m) (l .parent) && figures) (figureIn figure.Worth (l .worth)) h in
+      rw (
+        parent-in m (l .parent) b (eqb-false (l .parent) k other) (and-left (parentIn (suc m) (l .parent)) figures both),
+        and-right (parentIn (suc m) (l .parent)) figures both,
+      )
+      (and-right (parentIn (suc m) (l .parent) && figures) (figureIn figure.Worth (l .worth)) h)
 
 -- ---- a book with no rules and no marks
 empty-parts : (s g : ℕ) → sizeIn s g ≡ true → BookParts (emptyBook s g)
@@ -118,6 +152,15 @@ module _ (t : Tables) (h : Limits t) where
   set-figure-keeps f k x e =
       let set : Load → Load = λ l. withFigure f l x in
       loads-keep _ (rw length-set (p .few)) (from-set noLoad loadIn set (figure-in f x e) 1 (k - 1) (t .loads) (p .loads))
+
+  pub drop-load-keeps : (k : ℕ) → 1 ≤ k → k ≤ length (t .loads) → hasChildren k (t .loads) ≡ false → Limits (dropLoad t k)
+  unfolding remaining hasChildren
+  drop-load-keeps zero one most none = absurd (omega arith)
+  drop-load-keeps (suc j) one most none =
+      let place : suc j - 1 ≡ j = omega arith in
+      let fewer = one-fewer (suc j) (t .loads) one most in
+      loads-keep _ (omega (arith, p .few))
+      (rw place (from-without loadIn (isChild (suc j)) (reparented (suc j)) (suc j) (higher-in (suc j) one) (lower-in (suc j) one) 1 j (t .loads) (omega arith) (p .loads) none))
 
   pub set-budget-keeps : (w : ℕ) → budgetIn w ≡ true → Limits (setBudget t w)
   set-budget-keeps w e = limits-whole (setBudget t w) (record { book = p .book; few = p .few; loads = p .loads; budget = e; places = p .places })

@@ -8,3 +8,4 @@ pub mod Keeps
 pub mod Numbers
 pub mod Changes
 pub mod Examples
+pub mod Removed

@@ -1,8 +1,11 @@
 -- What each accepted line changes in the tables on paper.
--- It stands for the rows of "Lines" of paper 01 that change a table; each quotes its row. Assumes nothing.
+-- It stands for the rows of "Lines" of paper 01 that change a table, and for request Three of paper 02; each quotes its row. Assumes nothing.
 use Prim.Native.Nat.{ℕ, _-_}
-use mathlib.Core.List.{List, [], _∷_, _++_}
-use lib.ListN.{getD, set}
+use mathlib.Core.Bool.{Bool}
+use mathlib.Core.List.{List, [], _∷_, _++_, map}
+use lib.Dec.{eqb, ltb}
+use lib.ListN.{getD, set, take, drop}
+use Rattle.lists.specs.Tests.{pick, some}
 use Rattle.marks.specs.declared.Marks.{Marks}
 use Rattle.marks.specs.Sets.{marked}
 use Rattle.tables.specs.declared.rule.Transition.{Transition}
@@ -53,6 +56,27 @@ onLoad f k ls = set ls (k - 1) (f (getD ls (k - 1) noLoad))
 
 abbrev pub setFigure : Tables → Figure → (number value : ℕ) → Tables
 setFigure t f k x = withLoads t (onLoad (λ l. withFigure f l x) k (t .loads))
+
+-- "`drop,k` removes load k if it has no children": is a load a child of load k, and is one among these?
+abbrev pub isChild : (number : ℕ) → Load → Bool
+isChild k l = eqb (l .parent) k
+
+unfoldable pub hasChildren : (number : ℕ) → List Load → Bool
+hasChildren k ls = some (isChild k) ls
+
+-- "higher numbers fall by one, in parents too": the number of a load after load k has left, and a load with its parent's
+abbrev pub fallen : (k number : ℕ) → ℕ
+fallen k n = pick (ltb k n) (n - 1) n
+
+abbrev pub reparented : (k : ℕ) → Load → Load
+reparented k l = record { parent = fallen k (l .parent); power = l .power; worth = l .worth }
+
+-- the loads without load k
+unfoldable pub remaining : (k : ℕ) → List Load → List Load
+remaining k ls = map (reparented k) (take (k - 1) ls ++ drop k ls)
+
+abbrev pub dropLoad : Tables → (number : ℕ) → Tables
+dropLoad t k = withLoads t (remaining k (t .loads))
 
 -- "budget,b: sets the budget"
 abbrev pub setBudget : Tables → ℕ → Tables

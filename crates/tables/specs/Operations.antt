@@ -2,10 +2,10 @@
 -- after it. It stands for the refusals 6 and 7 of "Causes and numbers" and for "an accepted line changes them as its row below says, a
 -- refused one not at all" of paper 01. On tables that keep the limits these are the changes on paper (proofs/Changes). Assumes nothing.
 use Prim.Native.Nat.{ℕ, zero, suc, _+_, _-_}
-use mathlib.Core.Bool.{Bool, false}
-use mathlib.Core.List.{List}
+use mathlib.Core.Bool.{Bool, false, _&&_}
+use mathlib.Core.List.{List, [], _∷_, _++_, map}
 use lib.Dec.{leb}
-use lib.ListN.{length, getD, set}
+use lib.ListN.{length, getD, set, take, drop}
 use Rattle.lists.specs.Tests.{pick, some}
 use Rattle.marks.specs.Bits.{within}
 use Rattle.marks.specs.declared.Marks.{Marks}
@@ -23,7 +23,7 @@ use Rattle.tables.specs.Refusals as no
 use Rattle.tables.specs.Tables.{Sort, Transition, Load, noLoad, emptyBook}
 use Rattle.tables.specs.Limits.{maxRules, sameRule}
 use Rattle.tables.specs.Stored.{heldMarks, heldRules, rulesOf, loadsOf, placesOf, storedBook}
-use Rattle.tables.specs.Changes.{withFigure}
+use Rattle.tables.specs.Changes.{withFigure, reparented}
 
 -- "64 loads or 32 rules of that sort already": 6; "the same rule already in the book": 7; else 0
 abbrev pub addingNumber : (isFull isThere : Bool) → ℕ
@@ -40,7 +40,7 @@ abbrev pub accepted : {A : Type 0} → ℕ → A → A → A
 accepted zero new old = new
 accepted (suc n) new old = old
 
--- ---- a list in an array: one more at the next place, or another figure of one
+-- ---- a list in an array: one more at the next place, another figure of one, or one fewer
 unfoldable pub appended : TransitionList → Transition → Appended
 appended l r =
     let n = ruleNumber (rulesOf l) r in
@@ -60,6 +60,15 @@ loadReplaced l k x = pick (within (placesOf l) k) (record { items = set (l .item
 
 unfoldable pub figureSet : LoadList → Figure → (number value : ℕ) → LoadList
 figureSet l f k x = loadReplaced l k (withFigure f (loadAt l k) x)
+
+-- load k leaves: each later load comes one place down, with its parent's number now, and the last place is free. A number of no load changes
+-- nothing.
+abbrev pub movedDown : (k : ℕ) → List Load → List Load
+movedDown k items = map (reparented k) (drop k items) ++ (noLoad ∷ [])
+
+unfoldable pub loadRemoved : LoadList → (number : ℕ) → LoadList
+loadRemoved l k =
+    pick (within (placesOf l) k && leb k (l .count)) (record { items = take (k - 1) (l .items) ++ movedDown k (l .items); count = l .count - 1 }) l
 
 -- ---- tables in a planner, with a part anew
 abbrev pub putBook : StoredTables → StoredBook → StoredTables
@@ -92,6 +101,9 @@ loadAdded s x = let a = loadAppended (s .loads) x in record { number = a .number
 
 unfoldable pub figureChanged : StoredTables → Figure → (number value : ℕ) → StoredTables
 figureChanged s f k x = putLoads s (figureSet (s .loads) f k x)
+
+unfoldable pub loadDropped : StoredTables → (number : ℕ) → StoredTables
+loadDropped s k = putLoads s (loadRemoved (s .loads) k)
 
 unfoldable pub budgetChanged : StoredTables → ℕ → StoredTables
 budgetChanged s w = record { book = s .book; loads = s .loads; budget = w }

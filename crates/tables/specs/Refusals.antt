@@ -1,4 +1,4 @@
--- The numbers of the refusals, by name: the table of "Causes and numbers" of paper 01. Assumes nothing.
+-- The numbers of the refusals, by name: the table of "Causes and numbers" of paper 01, and the new numbers of paper 02. Assumes nothing.
 use Prim.Native.Nat.{ℕ}
 
 -- "fewer free output bytes than needed; place past the end; a planner handed in that breaks a limit"
@@ -41,6 +41,10 @@ noneFits = 9
 abbrev pub notAllowed : ℕ
 notAllowed = 10
 
+-- request Three: "11, load k has children"
+abbrev pub hasChildren : ℕ
+hasChildren = 11
+
 -- no refusal has a greater number
 abbrev pub greatest : ℕ
-greatest = notAllowed
+greatest = hasChildren

@@ -1,9 +1,9 @@
 // Loads, and the list of them.
 ghost use mathlib.Core.Path.{_≡_};
 ghost use Rattle.tables.specs.Limits.{loadIn, mostOf};
-ghost use Rattle.tables.specs.Stored.{zeroLoad};
-ghost use Rattle.tables.specs.Changes.{withFigure};
-ghost use Rattle.tables.specs.Operations.{loadAppended, loadAt, loadReplaced, figureSet};
+ghost use Rattle.tables.specs.Stored.{loadsOf, zeroLoad};
+ghost use Rattle.tables.specs.Changes.{withFigure, isChild, hasChildren, reparented};
+ghost use Rattle.tables.specs.Operations.{loadAppended, loadAt, loadReplaced, figureSet, loadRemoved};
 use crate::refusal::FULL;
 
 pub const MAX_LOADS: usize = 64;
@@ -92,6 +92,27 @@ impl Load {
             },
         }
     }
+
+    // Is it a child of the load of this number?
+    pub(crate) fn is_child(self, number: usize) -> bool
+        ensures { λ r. ⌜ r ≡ isChild number self ⌝ }
+    {
+        self.parent as usize == number
+    }
+
+    // The load after the load of this number has left. The number of a parent above it falls by one.
+    pub(crate) fn reparented(self, number: usize) -> Load
+        ensures { λ r. ⌜ r ≡ reparented number self ⌝ }
+    {
+        if self.parent as usize <= number {
+            return self;
+        }
+        Load {
+            parent: self.parent - 1,
+            power: self.power,
+            worth: self.worth,
+        }
+    }
 }
 
 impl LoadList {
@@ -153,5 +174,44 @@ impl LoadList {
     {
         let load = self.load(number);
         self.replace(number, load.with_figure(figure, value))
+    }
+
+    // Is some load a child of the load of this number?
+    pub fn has_children(self, number: usize) -> bool
+        ensures { λ r. ⌜ r ≡ hasChildren number (loadsOf self) ⌝ }
+    {
+        for i in 0..MAX_LOADS {
+            if self.count <= i {
+                return false;
+            }
+            let load = self.items[i];
+            if load.is_child(number) {
+                return true;
+            }
+        }
+        false
+    }
+
+    // The list without the load of this number. Each later load comes one place down, and the last place is free. A number of no load changes
+    // nothing.
+    pub(crate) fn remove(self, number: usize) -> LoadList
+        ensures { λ r. ⌜ r ≡ loadRemoved self number ⌝ }
+    {
+        if number == 0 {
+            return self;
+        }
+        if MAX_LOADS < number {
+            return self;
+        }
+        if self.count < number {
+            return self;
+        }
+        let mut next = self;
+        for i in (number - 1)..MAX_LOADS {
+            let later = self.load(i + 2);
+            next.items[i] = later.reparented(number);
+        }
+        next.count = self.count - 1;
+        next
     }
 }

@@ -18,3 +18,5 @@ pub const TOO_FEW_CELLS: u8 = 8;
 pub const NONE_FITS: u8 = 9;
 
 pub const NOT_ALLOWED: u8 = 10;
+
+pub const HAS_CHILDREN: u8 = 11;

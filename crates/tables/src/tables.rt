@@ -3,7 +3,7 @@ ghost use mathlib.Core.Path.{_≡_};
 ghost use Rattle.tables.specs.Tables.{fresh, emptyBook};
 ghost use Rattle.tables.specs.Limits.{maxLoads};
 ghost use Rattle.tables.specs.Stored.{storedBook, stored, heldSize, heldMarks, heldRules};
-ghost use Rattle.tables.specs.Operations.{putBook, putLoads, putMarks, putRules, bookBegun, markSet, ruleAdded, loadAdded, figureChanged, budgetChanged};
+ghost use Rattle.tables.specs.Operations.{putBook, putLoads, putMarks, putRules, bookBegun, markSet, ruleAdded, loadAdded, figureChanged, loadDropped, budgetChanged};
 use crate::load::Figure;
 use crate::load::Load;
 use crate::load::LoadList;
@@ -187,6 +187,13 @@ impl StoredTables {
         ensures { λ r. ⌜ r ≡ figureChanged self figure number value ⌝ }
     {
         self.with_loads(self.loads.set_figure(figure, number, value))
+    }
+
+    // The tables without the load of this number. A number of no load changes nothing.
+    pub fn drop_load(self, number: usize) -> StoredTables
+        ensures { λ r. ⌜ r ≡ loadDropped self number ⌝ }
+    {
+        self.with_loads(self.loads.remove(number))
     }
 
     pub fn set_budget(self, watts: u16) -> StoredTables
