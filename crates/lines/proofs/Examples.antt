@@ -13,7 +13,7 @@ use Rattle.marks.specs.Bits.{withMark}
 use Rattle.marks.specs.Sets.{joined}
 use Rattle.lines.specs.declared.Command.{Command}
 use Rattle.lines.specs.declared.Command.the-variants.{Change, Plan, Check, Save, Broken}
-use Rattle.lines.specs.declared.Change.the-variants.{Clear, Book, Start, End, Rule, Row, Load, Power, Worth, Budget}
+use Rattle.lines.specs.declared.Change.the-variants.{Clear, Book, Start, End, Rule, Row, Load, Power, Worth, Budget, Drop}
 use Rattle.lines.specs.Text.{bytes, same, decimalTo, decimal, field}
 use Rattle.lines.specs.Length.{tooLong}
 use Rattle.lines.specs.Grammar.{fields, isNumber, valueFrom, isBits, joinedFrom, findForm, parse}
@@ -30,7 +30,8 @@ session : map reads ("book,2,2" ∷ "start,1" ∷ "end,2" ∷ "rule,1,0,2" ∷ "
 unfolding same fields isNumber valueFrom isBits joinedFrom findForm parse every withMark joined
 session = refl
 
-others : map reads ("clear" ∷ "power,64,99999" ∷ "worth,0,1000" ∷ "check,1" ∷ "save" ∷ []) ≡ Change Clear ∷ Change (Power 64 99999) ∷ Change (Worth 0 1000) ∷ Check (record { 0 = 1 }) 1 ∷ Save ∷ []
+others : map reads ("clear" ∷ "power,64,99999" ∷ "worth,0,1000" ∷ "check,1" ∷ "save" ∷ "drop,3" ∷ "drop,00000" ∷ [])
+    ≡ Change Clear ∷ Change (Power 64 99999) ∷ Change (Worth 0 1000) ∷ Check (record { 0 = 1 }) 1 ∷ Save ∷ Change (Drop 3) ∷ Change (Drop 0) ∷ []
 unfolding same fields isNumber valueFrom isBits joinedFrom findForm parse every withMark joined
 others = refl
 
@@ -55,7 +56,7 @@ unsound =
     "" ∷ "," ∷ "Plan" ∷ "plans" ∷ "pla" ∷ "plan," ∷ "clear," ∷ " plan" ∷ "plan " ∷ "plan\n" ∷ "plan\r" ∷ ",plan" ∷ "clear,1" ∷ "Save" ∷ "saves" ∷ "sav" ∷ "save," ∷ "save,1" ∷ "budgets,1"
     ∷ "budget" ∷ "budget," ∷ "budget,100000" ∷ "budget,000000" ∷ "budget,000001" ∷ "budget,-1" ∷ "budget,+1" ∷ "budget,1.0" ∷ "budget,1a" ∷ "budget, 1"
     ∷ "budget,1 " ∷ "budget,501," ∷ "budget,1,2" ∷ "book,1" ∷ "book,1,2,3" ∷ "book,,2" ∷ "load,0,501,x" ∷ "load,0,1" ∷ "load,0,1,1,0"
-    ∷ "check" ∷ "check," ∷ "check,012" ∷ "check,0,1" ∷ "check,01," ∷ "check,,01" ∷ []
+    ∷ "drop" ∷ "drop," ∷ "drop,1,2" ∷ "drop,-1" ∷ "drop,100000" ∷ "Drop,1" ∷ "drops,1" ∷ "dro,1" ∷ "check" ∷ "check," ∷ "check,012" ∷ "check,0,1" ∷ "check,01," ∷ "check,,01" ∷ []
 
 all-broken : map reads unsound ≡ replicate (length unsound) Broken
 unfolding unsound same fields isNumber valueFrom isBits joinedFrom findForm parse every withMark joined

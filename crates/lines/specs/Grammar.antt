@@ -14,7 +14,7 @@ use Rattle.marks.specs.Sets.{noLoads, joined}
 use Rattle.lines.specs.declared.Command.{Command}
 use Rattle.lines.specs.declared.Command.the-variants.{Change, Plan, Check, Save, Broken, TooLong}
 use Rattle.lines.specs.declared.Change as change
-use Rattle.lines.specs.declared.Change.the-variants.{Clear, Book, Start, End, Rule, Row, Load, Power, Worth, Budget}
+use Rattle.lines.specs.declared.Change.the-variants.{Clear, Book, Start, End, Rule, Row, Load, Power, Worth, Budget, Drop}
 use Rattle.lines.specs.Text.{bytes, comma, nought, same}
 use Rattle.lines.specs.Length.{tooLong}
 
@@ -83,6 +83,7 @@ table =
     ∷ numbers (bytes "plan") 0 (λ n. Plan)
     ∷ bits (bytes "check") (λ s n. Check s n)
     ∷ numbers (bytes "save") 0 (λ n. Save)
+    ∷ numbers (bytes "drop") 1 (λ n. Change (Drop (n 1)))
     ∷ []
 
 -- has a line with this word and these fields the form?
@@ -138,3 +139,4 @@ lineOf (Load p w v) = says "load" (p ∷ w ∷ v ∷ []) refl
 lineOf (Power k w) = says "power" (k ∷ w ∷ []) refl
 lineOf (Worth k v) = says "worth" (k ∷ v ∷ []) refl
 lineOf (Budget w) = says "budget" (w ∷ []) refl
+lineOf (Drop k) = says "drop" (k ∷ []) refl

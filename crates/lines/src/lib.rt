@@ -41,6 +41,8 @@ pub enum Change {
     Worth(u32, u32),
     // Watts.
     Budget(u32),
+    // The number of a load.
+    Drop(u32),
 }
 
 // What a line asks for. `Broken` is a line that is no command of the table, or breaks its form; `TooLong` one with more bytes than a line may

@@ -18,7 +18,7 @@ const MOST_DIGITS: u32 = 5;
 
 // The rows of the table with numbers, each as one number: the bytes of its word in base 256 after a 1, and as one byte more the count of
 // its numbers.
-const ROWS: [u64; 12] = [
+const ROWS: [u64; 13] = [
     0x1_636c656172_00, // clear
     0x1_626f6f6b_02, // book
     0x1_7374617274_01, // start
@@ -31,6 +31,7 @@ const ROWS: [u64; 12] = [
     0x1_627564676574_01, // budget
     0x1_706c616e_00, // plan
     0x1_73617665_00, // save
+    0x1_64726f70_01, // drop
 ];
 
 // The word before bits.
@@ -223,6 +224,7 @@ fn command_of(row: usize, v: [u32; MOST_NUMBERS]) -> Command
         9 => Command::Change(Change::Budget(a)),
         10 => Command::Plan,
         11 => Command::Save,
+        12 => Command::Change(Change::Drop(a)),
         _ => Command::Broken,
     }
 }
