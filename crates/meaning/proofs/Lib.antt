@@ -1,4 +1,4 @@
--- The theorems on the definitions of specs/, from the ground up; Claims has what the demands rest on.
+-- The theorems on the definitions of specs/, from the ground up; Claims has what the demands rest on, Leaving what request Three does.
 pub mod Cell
 pub mod Tree
 pub mod Ordered
@@ -15,4 +15,5 @@ pub mod Rows
 pub mod Bound
 pub mod Cells
 pub mod Claims
+pub mod Leaving
 pub mod Cases

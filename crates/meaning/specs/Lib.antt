@@ -1,5 +1,5 @@
 -- What the tables of paper 01 mean: runs, acceptance, the best set, the choice among equals, the check and the judge.
--- In the order of the papers; Claims has what is proved of them.
+-- In the order of the papers; Claims has what is proved of them, Leaving what is of a tree that a load has left.
 pub mod Forest
 pub mod Runs
 pub mod Acceptance
@@ -11,4 +11,5 @@ pub mod Order
 pub mod Judge
 pub mod Cells
 pub mod Claims
+pub mod Leaving
 pub mod Cases
