@@ -19,6 +19,7 @@ pub mod Full
 pub mod Steps
 pub mod Rebuilds
 pub mod Saves
+pub mod Drops
 pub mod Program
 pub mod SaveProgram
 pub mod Padding

@@ -29,8 +29,9 @@ use Rattle.tables.specs.Refusals as no
 use Rattle.tables.specs.Tables as on-paper
 use Rattle.tables.specs.Tables.{Tables, sizeFor, rulesFor}
 use Rattle.tables.specs.Limits.{between, bookSize, sameRule, maxRules, loadIn, figureIn, budgetIn, Limits}
-use Rattle.tables.proofs.Lawful.{lawful}
-use Rattle.tables.proofs.Keeps.{fresh-limits, new-book-keeps, mark-keeps, add-rule-keeps, add-load-keeps, set-figure-keeps, set-budget-keeps}
+use Rattle.tables.specs.Changes.{hasChildren}
+use Rattle.tables.proofs.Lawful.{inside, lawful}
+use Rattle.tables.proofs.Keeps.{fresh-limits, new-book-keeps, mark-keeps, add-rule-keeps, add-load-keeps, set-figure-keeps, drop-load-keeps, set-budget-keeps}
 use Rattle.meaning.specs.Best.{bestPlan, bestCheck}
 use Rattle.tables.specs.declared.entry.Entry.{Entry}
 use Rattle.meaning.specs.Claims.{EachLoad}
@@ -70,6 +71,13 @@ set-sound : (t : Tables) (f : Figure) (k x : ℕ) → Sound t (setting t f k x)
 set-sound t f k x =
     is-sound (lit≤ tt, lit≤ tt) refl (λ h e. set-figure-keeps t h f k x (and-right (isLoad t k) (figureIn f x) (passed-not no.outOfRange (isLoad t k && figureIn f x) [] (lit< tt) e .0)))
 
+-- what a load that may leave has passed
+pub may-leave : (t : Tables) (k : ℕ) → lowest (changing t (to.Drop k) .causes) ≡ 0 → ((1 ≤ k) × (k ≤ length (t .loads))) × (hasChildren k (t .loads) ≡ false)
+unfolding changing
+may-leave t k e =
+    let p = passed-not no.outOfRange (isLoad t k) _ (lit< tt) e in
+    (inside 1 (length (t .loads)) k (p .0), passed no.hasChildren (hasChildren k (t .loads)) [] (lit< tt) (p .1) .0)
+
 sound : (t : Tables) (c : Change) → Sound t (changing t c)
 unfolding changing on-paper.fresh
 sound t to.Clear = is-sound (lit≤ tt) refl (λ h e. fresh-limits (t .places) (lawful t h .places))
@@ -86,6 +94,8 @@ sound t (to.Load p w v) =
 sound t (to.Power k w) = set-sound t figure.Power k w
 sound t (to.Worth k v) = set-sound t figure.Worth k v
 sound t (to.Budget w) = is-sound (lit≤ tt, lit≤ tt) refl (λ h e. set-budget-keeps t h w (passed-not no.outOfRange (budgetIn w) [] (lit< tt) e .0))
+sound t (to.Drop k) =
+    is-sound (lit≤ tt, (lit≤ tt, lit≤ tt)) refl (λ h e. let p = may-leave t k e in drop-load-keeps t h k (p .0 .0) (p .0 .1) (p .1))
 
 -- ---- rows
 -- the entries of a run, one for each load

@@ -131,24 +131,41 @@ fed none b s e (x ∷ xs) y l f = unlike l
 fed (next p q) b s e [] y l f = unlike (sym l)
 fed (next {v = v} {cs = cs} p q) (each.more b bs) s e (x ∷ xs) y l (each.more f fs) = fed-more v cs p b s e x xs y l f (λ s e y l. fed q bs s e xs y l fs)
 
+-- the lines of tables t, fed to any planner within the limits: they are accepted, and it ends with a state that has these tables
+pub record Ends (p : StoredState) (xs : List Exchange) (t : Tables) : Type 0 where
+  pub accepted : Each Accepted xs
+  pub state : State
+  pub within : Within state
+  pub tables : state .tables ≡ t
+  pub last : last p xs ≡ storedState state
+
+pub ends : {n : ℕ} (t : Tables) → Limits t → t .places ≡ n → (p : StoredState) → Kept n p → (xs : List Exchange) → History p xs
+    → linesOf xs ≡ lines (saveText t) → AllFree xs → Ends p xs t
+ends t h m p hp xs y l f =
+    let s = stateOf p in
+    let saves = save-lines t h in
+    let r = history-right s (kept-within p hp) xs (subst (λ (x : StoredState). History x xs) (kept-stored p hp) y) in
+    let g = fed (rebuilds t h (s .tables) (places (p .tables) (hp .tables) ∙ sym m)) (saves .back) s refl xs (r .2) (l ∙ saves .cut) f in
+    record {
+      accepted = g .0;
+      state = paperFrom s xs;
+      within = r .1;
+      tables = g .1;
+      last = ap (λ (x : StoredState). last x xs) (kept-stored p hp) ∙ r .0;
+    }
+
 -- ---- "Fed to a planner in any lawful state, with the free bytes they need, the lines give equal tables, and a further save gives equal bytes."
 pub restores : {n : ℕ} (q p : StoredState) → Kept n q → Kept n p → (c : Call) → SaveCall c → (xs : List Exchange) → History p xs
     → linesOf xs ≡ lines (writtenBy c (called q c .reply)) → AllFree xs → Restored q p xs (writtenBy c (called q c .reply))
 restores q p hq hp c k xs y l f =
     let t = stateOf q .tables in
-    let s = stateOf p in
-    let h : Limits t = kept-within q hq .tables in
-    let saves = save-lines t h in
     let wrote : writtenBy c (called q c .reply) ≡ saveText t =
     ap (λ (x : StoredState). writtenBy c (called x c .reply)) (kept-stored q hq) ∙ save-writes (stateOf q) c k (kept-within q hq) in
-    let r = history-right s (kept-within p hp) xs (subst (λ (x : StoredState). History x xs) (kept-stored p hp) y) in
-    let ends : last p xs ≡ storedState (paperFrom s xs) = ap (λ (x : StoredState). last x xs) (kept-stored p hp) ∙ r .0 in
-    let as-many : s .tables .places ≡ t .places = places (p .tables) (hp .tables) ∙ sym (places (q .tables) (hq .tables)) in
-    let g = fed (rebuilds t h (s .tables) as-many) (saves .back) s refl xs (r .2) (l ∙ ap lines wrote ∙ saves .cut) f in
+    let e = ends t (kept-within q hq .tables) (places (q .tables) (hq .tables)) p hp xs y (l ∙ ap lines wrote) f in
     record {
-      accepted = g .0;
-      tables = ap (λ (x : StoredState). x .tables) ends ∙ ap stored (g .1) ∙ sym (is-stored (q .tables) (hq .tables));
-      again = λ d e.
-          ap (λ (x : StoredState). writtenBy d (called x d .reply)) ends
-          ∙ save-writes (paperFrom s xs) d e (r .1) ∙ ap (λ (u : Tables). saveText u) (g .1) ∙ sym wrote;
+      accepted = e .accepted;
+      tables = ap (λ (x : StoredState). x .tables) (e .last) ∙ ap stored (e .tables) ∙ sym (is-stored (q .tables) (hq .tables));
+      again = λ d k.
+          ap (λ (x : StoredState). writtenBy d (called x d .reply)) (e .last)
+          ∙ save-writes (e .state) d k (e .within) ∙ ap (λ (u : Tables). saveText u) (e .tables) ∙ sym wrote;
     }

@@ -1,6 +1,6 @@
 -- What every call answers: the state, the rows of the table, the causes of a refusal, the effect of a line, what is printed, a call, and lists of calls.
--- In the order of paper 01; Demand1, Demand2 and Demand3 have what is proved of them, Program what the line program prints, Padding and Saves what
--- requests One and Two of paper 02 promise.
+-- In the order of paper 01; Demand1, Demand2 and Demand3 have what is proved of them, Program what the line program prints, Padding, Saves and
+-- Drops what requests One, Two and Three of paper 02 promise.
 pub mod State
 pub mod Rows
 pub mod Causes
@@ -14,4 +14,5 @@ pub mod Full
 pub mod Padding
 pub mod Program
 pub mod Saves
+pub mod Drops
 pub mod Session

@@ -1,6 +1,7 @@
 -- What each line of the table asks for: a row a line, with the bytes that it needs, its causes in the order of their numbers, and what it does
 -- where none applies. What a call returns and leaves is read off its row.
--- It stands for the table of "Lines" and rows 2 to 10 of "Causes and numbers" of paper 01, and for the command `save` of request Two of paper 02.
+-- It stands for the table of "Lines" and rows 2 to 10 of "Causes and numbers" of paper 01, and for the commands `save` and `drop` of requests Two
+-- and Three of paper 02.
 -- Assumes nothing.
 use Prim.Native.Nat.{ℕ, suc}
 use mathlib.Core.Bool.{Bool, true, _&&_, not}
@@ -28,7 +29,7 @@ use Rattle.tables.specs.Refusals as no
 use Rattle.tables.specs.Tables as on-paper
 use Rattle.tables.specs.Tables.{Tables, sizeFor, rulesFor}
 use Rattle.tables.specs.Limits.{between, bookSize, ruleIn, rangeFor, sameRule, maxRules, loadIn, figureIn, budgetIn}
-use Rattle.tables.specs.Changes.{newBook, mark, addRule, addLoad, setFigure, setBudget}
+use Rattle.tables.specs.Changes.{newBook, mark, addRule, addLoad, setFigure, hasChildren, dropLoad, setBudget}
 use Rattle.meaning.specs.Sets.{power, worth, numberOn}
 use Rattle.meaning.specs.Best.{bestPlan, bestCheck}
 use Rattle.tables.specs.declared.entry.Entry.{Entry}
@@ -142,6 +143,8 @@ changing t (to.Power k w) = setting t figure.Power k w
 changing t (to.Worth k v) = setting t figure.Worth k v
 -- "budget,b: sets the budget"
 changing t (to.Budget b) = unless ((no.outOfRange if not (budgetIn b)) ∷ []) (setBudget t b)
+-- "`drop,k` removes load k if it has no children"; "11, load k has children, tested after 5"
+changing t (to.Drop k) = unless ((no.outOfRange if not (isLoad t k)) ∷ (no.hasChildren if hasChildren k (t .loads)) ∷ []) (dropLoad t k)
 
 -- a line that has this number whatever the state
 abbrev pub refuses : ℕ → Row

@@ -1,0 +1,208 @@
+-- What an accepted drop gives: the tables without that load, and the answers of a planner into which they were entered without it.
+-- Assumes nothing.
+use Prim.Native.Nat.{ℕ, zero, suc, _-_, _≤_, _<_}
+use mathlib.Core.Path.{_≡_, refl, sym, ap, ap₂, _∙_}
+use mathlib.Core.Bool.{Bool, true, false}
+use mathlib.Core.List.{List, [], _∷_, _++_, map, append-assoc, map-append}
+use native.Mathlib.Nat.{le-of-suc-le-suc}
+use native.Mathlib.Omega.{arith}
+use lib.Dec.{eqb}
+use lib.ListN.{length, take, drop}
+use Rattle.lists.specs.Tests.{pick}
+use Rattle.lists.specs.Each as each
+use Rattle.lists.specs.Each.{Each}
+use Rattle.lists.proofs.Each.{each-append}
+use Rattle.marks.specs.Bits.{hasMark}
+use Rattle.marks.specs.declared.Marks.{Marks}
+use Rattle.lines.specs.declared.Change.{Change}
+use Rattle.lines.specs.declared.Change.the-variants as to
+use Rattle.lines.specs.declared.Command.the-variants as line
+use Rattle.lines.specs.Grammar.{lineCommand}
+use Rattle.lines.specs.Input.{lines}
+use Rattle.lines.specs.Saved.{markChanges, ruleChange, loadChange, sizeChange, bookChanges, saved, changesText}
+use Rattle.tables.specs.declared.rule.Sort.{Sort}
+use Rattle.tables.specs.declared.rule.Sort.the-variants as sort
+use Rattle.tables.specs.declared.rule.Transition.{Transition}
+use Rattle.tables.specs.declared.load.Load.{Load}
+use Rattle.tables.specs.Tables.{Book, Tables}
+use Rattle.tables.specs.Limits.{Limits}
+use Rattle.tables.specs.Stored.{stored, tablesOf}
+use Rattle.tables.specs.Changes.{hasChildren, fallen, reparented, remaining, dropLoad}
+use Rattle.tables.proofs.Stored.{tables-stored}
+use Rattle.tables.proofs.Removed.{one-fewer}
+use Rattle.tables.proofs.Keeps.{drop-load-keeps}
+use Rattle.meaning.proofs.Leaving.{left}
+use Rattle.calls.specs.State.{State, StoredState, storedState, stateOf, Within, Kept}
+use Rattle.calls.specs.Rows.{Row, changes, changing, row, lineRow}
+use Rattle.calls.specs.Causes.{lowest}
+use Rattle.calls.specs.Effects.{stateBy}
+use Rattle.calls.specs.Calls.{Call, Done, rowFor, numberFor, after, answer, called}
+use Rattle.calls.specs.Demand3.{Exchange, History, last}
+use Rattle.calls.specs.Saves.{linesOf, AllFree}
+use Rattle.calls.specs.Drops.{ifLoad, withoutLine, withParent, enteredWithout, DropCall, SameAnswers, Dropped}
+use Rattle.calls.proofs.State.{places, kept-within, kept-stored}
+use Rattle.calls.proofs.Rows.{may-leave}
+use Rattle.calls.proofs.Refusals.{after-number}
+use Rattle.calls.proofs.Answers.{called-stored}
+use Rattle.calls.proofs.Keeps.{none-of-row}
+use Rattle.calls.proofs.Saves.{ends}
+
+-- ---- lines that enter no load
+abbrev other : Change → Bool
+other c = ifLoad (λ p w v. false) true c
+
+abbrev Others : List Change → Type 0
+Others cs = Each (λ c. other c ≡ true) cs
+
+gives-other : {A : Type 0} (f : ℕ → ℕ → ℕ → A) (a : A) (c : Change) → other c ≡ true → ifLoad f a c ≡ a
+gives-other f a to.Clear h = refl
+gives-other f a (to.Book s g) h = refl
+gives-other f a (to.Start q) h = refl
+gives-other f a (to.End g) h = refl
+gives-other f a (to.Rule q m g) h = refl
+gives-other f a (to.Row g q m) h = refl
+gives-other f a (to.Load p w v) h = absurd (let z : _≡_ {A = ℕ} 0 1 = cc in omega arith)
+gives-other f a (to.Power k w) h = refl
+gives-other f a (to.Worth k v) h = refl
+gives-other f a (to.Budget w) h = refl
+gives-other f a (to.Drop k) h = refl
+
+without-others : (n : ℕ) {cs : List Change} → Others cs → (ds : List Change) → withoutLine n (cs ++ ds) ≡ cs ++ withoutLine n ds
+unfolding withoutLine
+without-others zero each.none ds = refl
+without-others zero (each.more {x = c} h hs) ds = gives-other _ _ c h ∙ ap (λ (l : List Change). c ∷ l) (without-others zero hs ds)
+without-others (suc n) each.none ds = refl
+without-others (suc n) (each.more {x = c} h hs) ds = ap (λ (l : List Change). c ∷ l) (gives-other _ _ c h ∙ without-others (suc n) hs ds)
+
+same-others : (k : ℕ) {cs : List Change} → Others cs → map (withParent k) cs ≡ cs
+same-others k each.none = refl
+same-others k (each.more {x = c} {xs = cs} h hs) = λ i. gives-other (λ p w v. to.Load (fallen k p) w v) c c h i ∷ same-others k hs i
+
+-- ---- a book is entered by such lines
+others-if : (b : Bool) {cs : List Change} → Others cs → Others (pick b cs [])
+others-if true h = h
+others-if false h = each.none
+
+others-size : (s g : ℕ) → Others (sizeChange s g)
+unfolding sizeChange
+others-size s g = go (eqb s 0)
+  where
+    go : (b : Bool) → Others (pick b [] (to.Book s g ∷ []))
+    go true = each.none
+    go false = each.more refl each.none
+
+others-marks : (k : Sort) (m : Marks) (n : ℕ) → Others (markChanges k m n)
+unfolding markChanges
+others-marks k m zero = each.none
+others-marks sort.Load m (suc n) = each-append (others-marks sort.Load m n) (others-if (hasMark (m .0) (suc n)) (each.more refl each.none))
+others-marks sort.Row m (suc n) = each-append (others-marks sort.Row m n) (others-if (hasMark (m .0) (suc n)) (each.more refl each.none))
+
+others-rules : (k : Sort) (rs : List Transition) → Others (map (ruleChange k) rs)
+others-rules k [] = each.none
+others-rules sort.Load (r ∷ rs) = each.more refl (others-rules sort.Load rs)
+others-rules sort.Row (r ∷ rs) = each.more refl (others-rules sort.Row rs)
+
+others-book : (b : Book) → Others (bookChanges b)
+unfolding bookChanges
+others-book b =
+    let starts = each-append (others-size (b .states) (b .stages)) (others-marks sort.Load (b .starts) (b .states)) in
+    let ends = each-append starts (others-marks sort.Row (b .ends) (b .stages)) in
+    each-append (each-append ends (others-rules sort.Load (b .loadRules))) (others-rules sort.Row (b .rowRules))
+
+-- ---- the lines of the loads
+without-load : (j : ℕ) (ls : List Load) (ds : List Change) → j < length ls → withoutLine j (map loadChange ls ++ ds) ≡ map loadChange (take j ls ++ drop (suc j) ls) ++ ds
+unfolding withoutLine
+without-load j [] ds b = absurd (omega arith)
+without-load zero (l ∷ ls) ds b = refl
+without-load (suc j) (l ∷ ls) ds b = ap (λ (cs : List Change). loadChange l ∷ cs) (without-load j ls ds (le-of-suc-le-suc b))
+
+parents : (k : ℕ) (ls : List Load) → map (withParent k) (map loadChange ls) ≡ map loadChange (map (reparented k) ls)
+parents k [] = refl
+parents k (l ∷ ls) = ap (λ (cs : List Change). loadChange (reparented k l) ∷ cs) (parents k ls)
+
+-- ---- a save after load k has left is the save before, without its line and with the parents renumbered
+pub saves-without : (t : Tables) (k : ℕ) → 1 ≤ k → k ≤ length (t .loads) → saved (dropLoad t k) ≡ enteredWithout k (saved t)
+unfolding saved remaining
+saves-without t zero one most = absurd (omega arith)
+saves-without t (suc j) one most =
+    let k = suc j in
+    let front = to.Clear ∷ bookChanges (t .book) in
+    let others : Others front = each.more refl (others-book (t .book)) in
+    let end = to.Budget (t .budget) ∷ [] in
+    let place : suc j - 1 ≡ j = omega arith in
+    let ls = take j (t .loads) ++ drop k (t .loads) in
+    sym (
+    rw place (ap (λ (cs : List Change). map (withParent k) (withoutLine j cs)) (append-assoc front (map loadChange (t .loads)) end)
+    ∙ ap (map (withParent k)) (without-others j others (map loadChange (t .loads) ++ end) ∙ ap (λ (cs : List Change). front ++ cs) (without-load j (t .loads) end most))
+    ∙ map-append (withParent k) front (map loadChange ls ++ end)
+    ∙ ap₂ _++_ (same-others k others) (map-append (withParent k) (map loadChange ls) end ∙ ap (λ (cs : List Change). cs ++ end) (parents k ls))
+    ∙ sym (append-assoc front (map loadChange (map (reparented k) ls)) end))
+    )
+
+-- ---- a call on `drop,k` that was accepted
+module _ (s : State) (h : Within s) (c : Call) (k : ℕ) (on : lineCommand (c .line) ≡ line.Change (to.Drop k)) (accepted : numberFor s c ≡ 0) where
+  drop-row : rowFor s c ≡ changes (changing (s .tables) (to.Drop k))
+  unfolding lineRow row
+  drop-row = ap (row s) on
+
+  passes : lowest (changing (s .tables) (to.Drop k) .causes) ≡ 0
+  passes = rw drop-row at (none-of-row (length (c .work)) (length (c .output)) (c .place) (rowFor s c) accepted)
+
+  leaves : ((1 ≤ k) × (k ≤ length (s .tables .loads))) × (hasChildren k (s .tables .loads) ≡ false)
+  leaves = may-leave (s .tables) k passes
+
+  after-drop : after s c .tables ≡ dropLoad (s .tables) k
+  unfolding changing
+  after-drop = ap (λ (y : State). y .tables) (after-number s c ∙ ap₂ (λ (n : ℕ) (r : Row). stateBy s n r) accepted drop-row)
+
+-- on every planner that keeps the limits
+pub drops : {n : ℕ} (p : StoredState) → Kept n p → (c : Call) (k : ℕ) → DropCall c k (called p c) → Dropped n (stateOf p .tables) k (called p c .state)
+unfolding answer
+drops {n} p h c k d = record {
+  tables = held;
+  kept = record { tables = (u, keeps, held, full) };
+  fewer = omega (arith, one-fewer k (t .loads) (leave .0 .0) (leave .0 .1));
+  saves = ap saved (ap tablesOf held ∙ tables-stored u keeps) ∙ lines-left;
+  entered = enters;
+  left = left t (w .tables) k (leave .0 .0) (leave .0 .1) (leave .1);
+}
+  where
+    s : State
+    s = stateOf p
+
+    t : Tables
+    t = s .tables
+
+    u : Tables
+    u = dropLoad t k
+
+    w : Within s
+    w = kept-within p h
+
+    done : called p c ≡ record { state = storedState (after s c); reply = answer s c }
+    done = ap (λ (x : StoredState). called x c) (kept-stored p h) ∙ called-stored s w c
+
+    none : numberFor s c ≡ 0
+    none = sym (ap (λ (x : Done). x .reply .number) done) ∙ d .accepted
+
+    leave : ((1 ≤ k) × (k ≤ length (t .loads))) × (hasChildren k (t .loads) ≡ false)
+    leave = leaves s w c k (d .line) none
+
+    keeps : Limits u
+    keeps = drop-load-keeps t (w .tables) k (leave .0 .0) (leave .0 .1) (leave .1)
+
+    full : u .places ≡ n
+    full = places (p .tables) (h .tables)
+
+    held : called p c .state .tables ≡ stored u
+    held = ap (λ (x : Done). x .state .tables) done ∙ ap stored (after-drop s w c k (d .line) none)
+
+    lines-left : saved u ≡ enteredWithout k (saved t)
+    lines-left = saves-without t k (leave .0 .0) (leave .0 .1)
+
+    enters : (r : StoredState) → Kept n r → (xs : List Exchange) → History r xs
+        → linesOf xs ≡ lines (changesText (enteredWithout k (saved t))) → AllFree xs → SameAnswers (called p c .state) r xs
+    enters r hr xs y l f =
+        let e = ends u keeps full r hr xs y (l ∙ ap (λ (cs : List Change). lines (changesText cs)) (sym lines-left)) f in
+        let same : last r xs .tables ≡ called p c .state .tables = ap (λ (x : StoredState). x .tables) (e .last) ∙ ap stored (e .tables) ∙ sym held in
+        record { accepted = e .accepted; tables = same; answers = λ x. λ i. called (record { tables = same i }) x .reply }
