@@ -8,6 +8,7 @@ use lib.Dec.{leb}
 use lib.ListN.{length}
 use Rattle.lists.specs.Tests.{some}
 use Rattle.lists.proofs.Bools.{and-left}
+use Rattle.lines.specs.declared.Change.the-variants as to
 use Rattle.tables.specs.declared.tables.StoredTables.{StoredTables}
 use Rattle.tables.specs.declared.tables.Added as operation
 use Rattle.tables.specs.declared.rule.RuleRange.{RuleRange}
@@ -19,12 +20,14 @@ use Rattle.tables.specs.declared.load.Load.{Load}
 use Rattle.tables.specs.Refusals as no
 use Rattle.tables.specs.Tables.{Tables, sizeFor, rulesFor}
 use Rattle.tables.specs.Limits.{between, ruleIn, rangeFor, sameRule, maxRules, loadIn, figureIn, maxLoads}
-use Rattle.tables.specs.Stored.{heldSize, stored, bookOf, tablesOf, Holds}
-use Rattle.tables.specs.Operations.{accepted, addingNumber, ruleNumber, loadNumber, ruleAdded, figureChanged}
+use Rattle.tables.specs.Stored.{heldSize, stored, loadsOf, bookOf, tablesOf, Holds}
+use Rattle.tables.specs.Changes.{hasChildren}
+use Rattle.tables.specs.Operations.{accepted, addingNumber, ruleNumber, loadNumber, ruleAdded, figureChanged, loadDropped}
 use Rattle.tables.proofs.Lawful.{inside}
 use Rattle.tables.proofs.Stored.{held-loads}
 use Rattle.tables.proofs.Changes.{rule-added, figure-changed}
-use Rattle.calls.specs.Rows.{Cause, _if_, isLoad, Row, changes, effectOf, unless, adding, setting}
+use Rattle.tables.proofs.Removed.{load-dropped}
+use Rattle.calls.specs.Rows.{Cause, _if_, isLoad, Row, changes, effectOf, unless, adding, setting, changing}
 use Rattle.calls.specs.Causes.{lowest}
 use Rattle.calls.specs.Effects.{acted}
 use Rattle.calls.proofs.State.{is-stored, kept-within}
@@ -33,7 +36,7 @@ use Rattle.planner.specs.declared.changes.Changed.{Changed}
 use Rattle.planner.specs.declared.changes.NamedRule.{NamedRule}
 use Rattle.planner.specs.declared.changes.NamedLoad.{NamedLoad}
 use Rattle.planner.specs.Planner.{held, stateIn, Lawful}
-use Rattle.planner.specs.Changes.{namedRule, namedLoad, settled, madeBy}
+use Rattle.planner.specs.Changes.{namedRule, namedLoad, settled, madeBy, changedBy}
 
 -- ---- numbers: "value out of its range" comes first, then what the list of rules or loads says
 out : (b : Bool) (cs : List Cause) → b ≡ false → lowest ((no.outOfRange if not b) ∷ cs) ≡ no.outOfRange
@@ -115,6 +118,36 @@ module _ (p : Planner) (h : Lawful p) (f : Figure) (k x : ℕ) {there fits : Boo
       let is-there = inside 1 (length (stateIn p .tables .loads)) k (and-left (isLoad (stateIn p .tables) k) (figureIn f x) passed) in
       accepts p h (isLoad (stateIn p .tables) k && figureIn f x) _ passed u
       (given ∙ ap (λ (y : StoredTables). figureChanged y f k x) (is-stored (p .tables) (h .tables)) ∙ figure-changed (stateIn p .tables) (kept-within (held p) h .tables) f k x (is-there .0) (is-there .1))
+
+-- load k leaves, where there is such a load and it has no children
+module _ (p : Planner) (h : Lawful p) (k : ℕ) {there : Bool} (looked : there ≡ between 1 (p .tables .loads .count) k) where
+  number-tested : there ≡ isLoad (stateIn p .tables) k
+  number-tested = looked ∙ ap (λ (n : ℕ). between 1 n k) (load-count p h)
+
+  pub no-load : {d : Changed} → not there ≡ true → d ≡ settled p no.outOfRange (p .tables) → d ≡ changedBy (stateIn p) (to.Drop k)
+  unfolding changing
+  no-load e = out-of-range p h (isLoad (stateIn p .tables) k) _ _ (sym number-tested ∙ not-true _ e)
+
+  module _ (e : not there ≡ false) where
+    passed : isLoad (stateIn p .tables) k ≡ true
+    passed = sym number-tested ∙ not-false _ e
+
+    is-there : (1 ≤ k) × (k ≤ length (stateIn p .tables .loads))
+    is-there = inside 1 (length (stateIn p .tables .loads)) k passed
+
+    module _ {parent : Bool} (asked : parent ≡ hasChildren k (loadsOf (p .tables .loads))) where
+      pub load-stays : {d : Changed} → parent ≡ true → d ≡ settled p no.hasChildren (p .tables) → d ≡ changedBy (stateIn p) (to.Drop k)
+      unfolding changing tablesOf lowest
+      load-stays some =
+          operated p h (isLoad (stateIn p .tables) k) _ _ passed (record { number = no.hasChildren; tables = p .tables })
+          (rw (← asked, some) (λ i. record { number = no.hasChildren; tables = is-stored (p .tables) (h .tables) i }))
+
+      pub load-leaves : {d : Changed} → parent ≡ false → (u : StoredTables) → u ≡ loadDropped (p .tables) k → d ≡ settled p 0 u → d ≡ changedBy (stateIn p) (to.Drop k)
+      unfolding changing tablesOf lowest
+      load-leaves none u given =
+          let left = given ∙ ap (λ (y : StoredTables). loadDropped y k) (is-stored (p .tables) (h .tables)) ∙ load-dropped (stateIn p .tables) (kept-within (held p) h .tables) k (is-there .0) (is-there .1) in
+          operated p h (isLoad (stateIn p .tables) k) _ _ passed (record { number = 0; tables = u })
+          (rw (← asked, none) (λ i. record { number = 0; tables = left i }))
 
 -- ---- the rule or the load that a line names
 named-fits : (m : RuleRange) (r : Transition) {x : NamedRule} → x ≡ namedRule m r → x .fits ≡ ruleIn m r

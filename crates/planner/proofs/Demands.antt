@@ -13,6 +13,7 @@ use Rattle.calls.specs.Demand2.{CheckCall, CheckRight, PlanCall, PlanRight}
 use Rattle.calls.specs.Demand3.{Exchange, History, Demand3}
 use Rattle.calls.specs.Padding.{SameCalls, SameTreatment}
 use Rattle.calls.specs.Saves.{SaveCall, SaveRight, linesOf, AllFree, Restored}
+use Rattle.calls.specs.Drops.{DropCall, Dropped}
 use Rattle.calls.proofs.State.{kept-within}
 use Rattle.calls.proofs.Demand1 as paper1
 use Rattle.calls.proofs.Demand2.{check-right}
@@ -20,6 +21,7 @@ use Rattle.calls.proofs.Plans.{plan-right}
 use Rattle.calls.proofs.Demand3 as paper3
 use Rattle.calls.proofs.Padding.{same-treatment}
 use Rattle.calls.proofs.Saves.{save-right, restores}
+use Rattle.calls.proofs.Drops.{drops}
 use Rattle.planner.specs.declared.Planner.{Planner}
 use Rattle.planner.specs.Planner.{held, stateIn, fresh, Lawful}
 use Rattle.planner.proofs.Calling.{handles}
@@ -59,3 +61,9 @@ pub fed-back : (q p : Planner) → Lawful q → Lawful p → (c : Call) → Save
 fed-back q p g h c k d is xs y l f =
     let e = ap (λ (d : Done). writtenBy c (d .reply)) is in
     subst (Restored (held q) (held p) xs) (sym e) (restores (held q) (held p) g h c k xs y (l ∙ ap lines e) f)
+
+-- request Three: on every planner within the limits, an accepted drop leaves the tables without that load, with the tree and the answers of a
+-- planner into which they were entered without it
+pub dropped : (p : Planner) → Lawful p → (c : Call) (k : ℕ) (d : Done) → d ≡ called (held p) c → DropCall c k d → Dropped maxLoads (stateIn p .tables) k (d .state)
+dropped p h c k d is x =
+    subst (λ (y : Done). Dropped maxLoads (stateIn p .tables) k (y .state)) (sym is) (drops (held p) h c k (subst (DropCall c k) is x))

@@ -8,6 +8,7 @@ use tables::load::Figure;
 use tables::load::Load;
 use tables::load::MAX_POWER;
 use tables::load::MAX_WORTH;
+use tables::refusal::HAS_CHILDREN;
 use tables::refusal::OUT_OF_RANGE;
 use tables::rule::RuleRange;
 use tables::rule::Sort;
@@ -183,6 +184,21 @@ impl Planner {
         self.settled(0, self.tables.set_budget(watts as u16))
     }
 
+    // A load without children leaves.
+    fn drop_load(self, number: u32) -> Changed
+        requires { ⌜ Lawful self ⌝ }
+        ensures { λ r. ⌜ r ≡ changedBy (stateIn self) (to.Drop number) ⌝ }
+    {
+        let k = number as usize;
+        if !between(1, self.tables.loads.count, k) {
+            return self.settled(OUT_OF_RANGE, self.tables);
+        }
+        if self.tables.loads.has_children(k) {
+            return self.settled(HAS_CHILDREN, self.tables);
+        }
+        self.settled(0, self.tables.drop_load(k))
+    }
+
     // What a change answers, and the next planner.
     pub(crate) fn change(self, c: Change) -> Changed
         requires { ⌜ Lawful self ⌝ }
@@ -199,6 +215,7 @@ impl Planner {
             Change::Power(number, watts) => self.set_figure(Figure::Power, number, watts),
             Change::Worth(number, worth) => self.set_figure(Figure::Worth, number, worth),
             Change::Budget(watts) => self.budget(watts),
+            Change::Drop(number) => self.drop_load(number),
         }
     }
 }

@@ -40,10 +40,15 @@ returns-9 c = rw (c .before .before .c8 .given .1) (c .set-figure2 .ensures)
 returns-10 : tie.Need-returns-10
 returns-10 c = rw (c .before .before .c9 .given .1) (c .budget .ensures)
 
+returns-11 : tie.Need-returns-11
+returns-11 c = rw (c .before .before .c10 .given .1) (c .drop-load .ensures)
+
 pub change-spec : {M : Type 1} → statement M
 change-spec =
     tie.close
     (tie.spec
+    (λ c. search needs)
+    (λ c κs. search needs)
     (λ c. search needs)
     (λ c κs. search needs)
     (λ c. search needs)
@@ -73,4 +78,5 @@ change-spec =
     returns-7
     returns-8
     returns-9
-    returns-10)
+    returns-10
+    returns-11)
