@@ -35,8 +35,10 @@ extern "C" {
  * 1.1: a number may have zeros in front.
  * 1.2: `save` is a command. It needs HULMEIDE_SAVE_BYTES free bytes, and a caller that lends fewer has it turned away; its other lines go as
  *      before.
+ * 1.3: `drop` is a command, and HULMEIDE_HAS_CHILDREN its refusal. It renumbers the loads behind: what a caller keeps by a load's number has
+ *      to move with it.
  */
-#define HULMEIDE_VERSION 10200
+#define HULMEIDE_VERSION 10300
 
 /* ---- Sizes ----
  *
@@ -105,6 +107,8 @@ enum hulmeide_number {
     HULMEIDE_NONE_FITS = 9,
     /* The checked set is not allowed. */
     HULMEIDE_NOT_ALLOWED = 10,
+    /* `drop` of a load that has children. */
+    HULMEIDE_HAS_CHILDREN = 11,
     /* The judge: no, the numbers are not a run. This is no refusal, and lies above the numbers of all of them. */
     HULMEIDE_NOT_A_RUN = 255
 };
@@ -136,7 +140,8 @@ struct hulmeide_load {
     uint16_t worth;
 };
 
-/* Loads in order of entry: load k is items[k - 1]. The first `count` are in use, and the others hold 0. */
+/* Loads in order of entry: load k is items[k - 1]. The first `count` are in use, and the others hold 0. A `drop` moves each load behind the one
+ * that leaves one place to the front, so the place of the last one holds 0 then. */
 struct hulmeide_loads {
     struct hulmeide_load items[HULMEIDE_MAX_LOADS];
     size_t count;
@@ -205,6 +210,8 @@ void hulmeide_fresh(struct hulmeide_planner *planner);
  * leaves 0 in them, after HULMEIDE_NONE_FITS too; all other cells, and all cells after any other line, keep their values.
  * `save` changes nothing and writes lines, each with its line feed, that rebuild the tables: any planner that breaks no limit accepts them one
  * by one, and has these tables then.
+ * `drop` takes out a load that has no children. The numbers above its own fall by one, in parents too; the order of the loads stays, and the
+ * place that is free then can be filled again, however often.
  */
 struct hulmeide_reply hulmeide_call(struct hulmeide_planner *planner, const uint8_t *line, size_t line_length, uint8_t *out,
                                     size_t out_length, size_t place, uint32_t *work, size_t work_length);
