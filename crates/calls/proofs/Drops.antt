@@ -28,12 +28,13 @@ use Rattle.tables.specs.Tables.{Book, Tables}
 use Rattle.tables.specs.Limits.{Limits}
 use Rattle.tables.specs.Stored.{stored, tablesOf}
 use Rattle.tables.specs.Changes.{hasChildren, fallen, reparented, remaining, dropLoad}
+use Rattle.tables.proofs.Lawful.{lawful}
 use Rattle.tables.proofs.Stored.{tables-stored}
 use Rattle.tables.proofs.Removed.{one-fewer}
 use Rattle.tables.proofs.Keeps.{drop-load-keeps}
 use Rattle.meaning.proofs.Leaving.{left}
 use Rattle.calls.specs.State.{State, StoredState, storedState, stateOf, Within, Kept}
-use Rattle.calls.specs.Rows.{Row, changes, changing, row, lineRow}
+use Rattle.calls.specs.Rows.{Row, load, changes, changing, row, lineRow}
 use Rattle.calls.specs.Causes.{lowest}
 use Rattle.calls.specs.Effects.{stateBy}
 use Rattle.calls.specs.Calls.{Call, Done, rowFor, numberFor, after, answer, called}
@@ -45,6 +46,7 @@ use Rattle.calls.proofs.Rows.{may-leave}
 use Rattle.calls.proofs.Refusals.{after-number}
 use Rattle.calls.proofs.Answers.{called-stored}
 use Rattle.calls.proofs.Keeps.{none-of-row}
+use Rattle.calls.proofs.Rebuilds.{load-accepted}
 use Rattle.calls.proofs.Saves.{ends}
 
 -- ---- lines that enter no load
@@ -155,13 +157,19 @@ module _ (s : State) (h : Within s) (c : Call) (k : ℕ) (on : lineCommand (c .l
   unfolding changing
   after-drop = ap (λ (y : State). y .tables) (after-number s c ∙ ap₂ (λ (n : ℕ) (r : Row). stateBy s n r) accepted drop-row)
 
+no-more : (ls : List Load) → length ls ≡ 0 → ls ≡ []
+no-more [] e = refl
+no-more (l ∷ ls) e = absurd (omega arith)
+
 -- on every planner that keeps the limits
 pub drops : {n : ℕ} (p : StoredState) → Kept n p → (c : Call) (k : ℕ) → DropCall c k (called p c) → Dropped n (stateOf p .tables) k (called p c .state)
-unfolding answer
+unfolding answer changing
 drops {n} p h c k d = record {
   tables = held;
   kept = record { tables = (u, keeps, held, full) };
-  fewer = omega (arith, one-fewer k (t .loads) (leave .0 .0) (leave .0 .1));
+  fewer = fewer;
+  emptied = λ e. no-more (u .loads) (omega (arith, fewer));
+  filled = λ a b v e. record { accepted = load-accepted (t .places) (u .loads) (load a b v) (rw fewer e) (omega (arith, fewer, lawful t (w .tables) .loads)); after = refl };
   saves = ap saved (ap tablesOf held ∙ tables-stored u keeps) ∙ lines-left;
   entered = enters;
   left = left t (w .tables) k (leave .0 .0) (leave .0 .1) (leave .1);
@@ -191,6 +199,9 @@ drops {n} p h c k d = record {
     keeps : Limits u
     keeps = drop-load-keeps t (w .tables) k (leave .0 .0) (leave .0 .1) (leave .1)
 
+    fewer : suc (length (u .loads)) ≡ length (t .loads)
+    fewer = omega (arith, one-fewer k (t .loads) (leave .0 .0) (leave .0 .1))
+
     full : u .places ≡ n
     full = places (p .tables) (h .tables)
 
@@ -205,4 +216,4 @@ drops {n} p h c k d = record {
     enters r hr xs y l f =
         let e = ends u keeps full r hr xs y (l ∙ ap (λ (cs : List Change). lines (changesText cs)) (sym lines-left)) f in
         let same : last r xs .tables ≡ called p c .state .tables = ap (λ (x : StoredState). x .tables) (e .last) ∙ ap stored (e .tables) ∙ sym held in
-        record { accepted = e .accepted; tables = same; answers = λ x. λ i. called (record { tables = same i }) x .reply }
+        record { accepted = e .accepted; tables = same; answers = λ x. λ i. called (record { tables = same i }) x }

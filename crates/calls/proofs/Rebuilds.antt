@@ -1,5 +1,5 @@
 -- The changes of a save rebuild its tables, from any tables with as many places for loads. Assumes nothing.
-use Prim.Native.Nat.{ℕ, suc, _+_, _^_, _≤_}
+use Prim.Native.Nat.{ℕ, suc, _+_, _^_, _≤_, _<_}
 use mathlib.Core.Path.{_≡_, refl, subst}
 use mathlib.Core.Bool.{Bool, true, false, _&&_, _||_, not}
 use mathlib.Core.List.{List, [], _∷_, _++_, map}
@@ -49,12 +49,16 @@ rule-passes m rs r ss h =
       distinct-mid sameRule same-swap rs r ss (p .once),
     )
 
-load-passes : (n : ℕ) (ls : List Load) (l : Load) (ms : List Load) → length (ls ++ (l ∷ ms)) ≤ n → everyFrom loadIn 1 (ls ++ (l ∷ ms)) ≡ true
+pub load-accepted : (n : ℕ) (ls : List Load) (l : Load) → loadIn (suc (length ls)) l ≡ true → length ls < n
     → lowest ((no.outOfRange if not (loadIn (suc (length ls)) l)) ∷ (no.full if leb n (length ls)) ∷ []) ≡ 0
 unfolding lowest
+load-accepted n ls l fits few = rw (fits, lt-leb n (length ls) few)
+
+load-passes : (n : ℕ) (ls : List Load) (l : Load) (ms : List Load) → length (ls ++ (l ∷ ms)) ≤ n → everyFrom loadIn 1 (ls ++ (l ∷ ms)) ≡ true
+    → lowest ((no.outOfRange if not (loadIn (suc (length ls)) l)) ∷ (no.full if leb n (length ls)) ∷ []) ≡ 0
 load-passes n ls l ms few h =
     let e : suc (length ls) ≡ length ls + 1 = omega arith in
-    rw (e, from-mid loadIn 1 ls l ms h, lt-leb n (length ls) (omega (arith, few, length-append ls (l ∷ ms))))
+    load-accepted n ls l (rw e (from-mid loadIn 1 ls l ms h)) (omega (arith, few, length-append ls (l ∷ ms)))
 
 -- a mark and a rule of either sort
 module _ (t : Tables) where

@@ -3,6 +3,7 @@
 -- Assumes nothing.
 use Prim.Native.Nat.{ℕ, zero, suc, _-_}
 use mathlib.Core.Path.{_≡_}
+use mathlib.Core.Bool.{true}
 use mathlib.Core.List.{List, [], _∷_, map}
 use lib.ListN.{length}
 use Rattle.lists.specs.Each.{Each}
@@ -14,12 +15,14 @@ use Rattle.lines.specs.Grammar.{lineCommand}
 use Rattle.lines.specs.Saved.{saved, changesText}
 use Rattle.tables.specs.Tables.{Tables}
 use Rattle.tables.specs.Stored.{stored}
-use Rattle.tables.specs.Changes.{fallen, dropLoad}
+use Rattle.tables.specs.Limits.{loadIn}
+use Rattle.tables.specs.Changes.{addLoad, fallen, dropLoad}
 use Rattle.meaning.specs.Leaving.{Left}
 use Rattle.calls.specs.State.{StoredState, stateOf, Kept}
+use Rattle.calls.specs.Rows.{load}
 use Rattle.calls.specs.Calls.{Call, Done, called}
 use Rattle.calls.specs.Demand3.{Exchange, History, last}
-use Rattle.calls.specs.Saves.{linesOf, AllFree, Accepted}
+use Rattle.calls.specs.Saves.{Step, linesOf, AllFree, Accepted}
 
 -- ---- the commands of a tree entered without load k
 -- what the line of a load gives, and every other line
@@ -56,17 +59,22 @@ pub record DropCall (c : Call) (k : ℕ) (d : Done) : Type 0 where
   pub line : lineCommand (c .line) ≡ line.Change (to.Drop k)
   pub accepted : d .reply .number ≡ 0
 
--- the calls xs entered into planner p what planner q holds: it answers every further call, a plan too, as q does
+-- the calls xs entered into planner p what planner q holds: every further call, a plan too, gives what it gives on q, and leaves the same planner
 pub record SameAnswers (q p : StoredState) (xs : List Exchange) : Type 0 where
   pub accepted : Each Accepted xs
   pub tables : last p xs .tables ≡ q .tables
-  pub answers : (c : Call) → called (last p xs) c .reply ≡ called q c .reply
+  pub answers : (c : Call) → called (last p xs) c ≡ called q c
 
--- planner q after load k has left tables t, with n places for loads: it keeps the limits, with one load fewer
+-- planner q after load k has left tables t, with n places for loads
 pub record Dropped (n : ℕ) (t : Tables) (k : ℕ) (q : StoredState) : Type 0 where
+  -- it keeps the limits, with one load fewer
   pub tables : q .tables ≡ stored (dropLoad t k)
   pub kept : Kept n q
   pub fewer : suc (length (dropLoad t k .loads)) ≡ length (t .loads)
+  -- "Dropping the only load leaves an empty tree."
+  pub emptied : length (t .loads) ≡ 1 → dropLoad t k .loads ≡ []
+  -- "The place freed can be filled again": a load whose figures are in range is taken
+  pub filled : (p w v : ℕ) → loadIn (length (t .loads)) (load p w v) ≡ true → Step (dropLoad t k) (to.Load p w v) (addLoad (dropLoad t k) (load p w v))
   -- its save is the save before, without that load; and a planner into which those lines were entered, from any lawful state, answers as it does
   pub saves : saved (stateOf q .tables) ≡ enteredWithout k (saved t)
   pub entered : (p : StoredState) → Kept n p → (xs : List Exchange) → History p xs
