@@ -1,7 +1,7 @@
 -- Tests of lists: a turn of a loop that tests, one element more at the end, one place, one element among others. Assumes nothing.
 use Prim.Native.Nat.{ℕ, zero, suc, _+_, _-_, _≤_, _<_}
 use mathlib.Core.Path.{_≡_, refl, sym, ap, _∙_}
-use mathlib.Core.Bool.{Bool, true, false, _&&_, not}
+use mathlib.Core.Bool.{Bool, true, false, _&&_, _||_, not}
 use mathlib.Core.List.{List, [], _∷_, _++_, map}
 use mathlib.Core.Logic.{⊎-elim}
 use native.Mathlib.Nat.{le-of-suc-le-suc, not-suc-le-zero, eq-or-lt-of-le}
@@ -13,18 +13,30 @@ use lib.Seq.{getD-drop}
 use Rattle.lists.specs.Tests.{some, every, everyFrom, distinct, allBelow}
 use Rattle.lists.specs.Arrays.{rest}
 use Rattle.lists.proofs.Bools.{and-left, and-right, and-false, or-left, or-right}
-use Rattle.lists.proofs.Arrays.{rest-cons}
+use Rattle.lists.proofs.Arrays.{rest-end, rest-past, rest-cons}
 
 module _ {A : Type 0} where
-  -- ---- one turn of a loop that looks among the first n elements: what is left to look at
-  pub some-hit : (p : A → Bool) (d : A) (xs : List A) (n i : ℕ) → i < n → i < length xs → p (getD xs i d) ≡ true → some p (rest xs n i) ≡ true
-  unfolding some rest
-  some-hit p d xs n i h l e = ap (some p) (rest-cons d xs n i h l) ∙ rw e
+  -- ---- a loop that looks for an element that passes a test, among the first n of an array of m places: what is left from place i on decides.
+  -- It is at the end of those, past the array, or at an element, which passes or does not.
+  module _ (p : A → Bool) (d : A) (xs : List A) (n m i : ℕ) (len : length xs ≡ m) {found : Bool} (left : found ≡ some p (rest xs n i)) where
+    pub look-end : n ≤ i → false ≡ found
+    unfolding some
+    look-end h = sym (left ∙ ap (some p) (rest-end xs n i h))
 
-  pub some-miss : (p : A → Bool) (d : A) (xs : List A) (n i : ℕ) → i < n → i < length xs → p (getD xs i d) ≡ false
-      → some p (rest xs n i) ≡ some p (rest xs n (i + 1))
-  unfolding some rest
-  some-miss p d xs n i h l e = ap (some p) (rest-cons d xs n i h l) ∙ rw e
+    pub look-past : m ≤ i → false ≡ found
+    unfolding some
+    look-past h = sym (left ∙ ap (some p) (rest-past xs n i (omega arith)))
+
+    module _ (h : i < n) (b : i < m) {passes : Bool} (tested : passes ≡ p (getD xs i d)) where
+      here : found ≡ p (getD xs i d) || some p (rest xs n (i + 1))
+      unfolding some
+      here = left ∙ ap (some p) (rest-cons d xs n i h (omega arith))
+
+      pub look-hit : passes ≡ true → true ≡ found
+      look-hit e = sym (here ∙ rw (← tested, e))
+
+      pub look-miss : passes ≡ false → found ≡ some p (rest xs n (i + 1))
+      look-miss e = here ∙ rw (← tested, e)
 
   -- ---- one element more at the end
   pub some-snoc : (p : A → Bool) (l : List A) (x : A) → some p l ≡ false → p x ≡ false → some p (l ++ (x ∷ [])) ≡ false

@@ -1,13 +1,12 @@
 -- `LoadList::has_children` meets its contract. The loop's invariant: what is left to look at decides. Assumes nothing.
 use Prim.Native.Nat.{_-_}
-use mathlib.Core.Path.{_≡_, refl, sym, ap, _∙_}
-use native.Mathlib.Omega.{arith}
+use mathlib.Core.Path.{_≡_, refl}
 use borrow.Author.Needs.{needs}
 use lib.ListN.{length}
 use Rattle.lists.specs.Tests.{some}
 use Rattle.lists.specs.Arrays.{rest}
-use Rattle.lists.proofs.Arrays.{of-map, rest-end, rest-past}
-use Rattle.lists.proofs.Tests.{some-hit, some-miss}
+use Rattle.lists.proofs.Arrays.{of-map}
+use Rattle.lists.proofs.Tests.{look-end, look-past, look-hit, look-miss}
 use Rattle.tables.specs.Tables.{noLoad}
 use Rattle.tables.specs.Limits.{maxLoads}
 use Rattle.tables.specs.Stored.{loadsOf}
@@ -29,26 +28,22 @@ unfolding hasChildren rest
 loop-holds c = refl
 
 returns : tie.Need-returns Inv-loop μ-loop
-unfolding some
-returns c = sym (c .before .before .loop .inv ∙ ap (some (isChild _)) (rest-end _ _ _ (c .if1 .taken)))
+returns c = let k = c .before .before in look-end (isChild _) noLoad _ _ maxLoads _ (len (k .before)) (k .loop .inv) (c .if1 .taken)
 
 returns-2 : tie.Need-returns-2 Inv-loop μ-loop
 returns-2 c =
-    let k = c .before .before .before in
-    let found = sym (c .before .is-child .ensures) ∙ c .if2 .taken in
-    sym (k .before .before .loop .inv ∙ some-hit (isChild _) noLoad _ _ _ (k .if1 .left) (omega (arith, len (k .before .before .before))) found)
+    let m = c .before .before .before in
+    let k = m .before .before in
+    look-hit (isChild _) noLoad _ _ maxLoads _ (len (k .before)) (k .loop .inv) (m .if1 .left) (search needs) (c .before .is-child .ensures) (c .if2 .taken)
 
 loop-again : tie.Need-loop-again Inv-loop μ-loop
 loop-again c =
-    let k = c .before .before .before in
-    let other = sym (c .before .is-child .ensures) ∙ c .if2 .left in
-    k .before .before .loop .inv ∙ some-miss (isChild _) noLoad _ _ _ (k .if1 .left) (omega (arith, len (k .before .before .before))) other
+    let m = c .before .before .before in
+    let k = m .before .before in
+    look-miss (isChild _) noLoad _ _ maxLoads _ (len (k .before)) (k .loop .inv) (m .if1 .left) (search needs) (c .before .is-child .ensures) (c .if2 .left)
 
 returns-3 : tie.Need-returns-3 Inv-loop μ-loop
-unfolding some
-returns-3 c =
-    let p = c .before in
-    sym (p .loop .inv ∙ ap (some (isChild _)) (rest-past (p .before .args .t1 .items) _ _ (omega (arith, len (p .before)))))
+returns-3 c = let k = c .before in look-past (isChild _) noLoad _ _ maxLoads _ (len (k .before)) (k .loop .inv) (search needs)
 
 pub has-children-spec : {M : Type 1} → statement M
 has-children-spec =

@@ -1,13 +1,12 @@
 -- `TransitionList::found_from` meets its contract. The loop's invariant: what is left to look at decides. Assumes nothing.
 use Prim.Native.Nat.{_-_}
-use mathlib.Core.Path.{_≡_, refl, sym, ap, _∙_}
-use native.Mathlib.Omega.{arith}
+use mathlib.Core.Path.{_≡_, refl}
 use borrow.Author.Needs.{needs}
 use lib.ListN.{length}
 use Rattle.lists.specs.Tests.{some}
 use Rattle.lists.specs.Arrays.{rest}
-use Rattle.lists.proofs.Arrays.{of-map, rest-end, rest-past}
-use Rattle.lists.proofs.Tests.{some-hit, some-miss}
+use Rattle.lists.proofs.Arrays.{of-map}
+use Rattle.lists.proofs.Tests.{look-end, look-past, look-hit, look-miss}
 use Rattle.tables.specs.Tables.{noRule}
 use Rattle.tables.specs.Limits.{sameRule, maxRules}
 use Rattle.tables.proofs.rule.TransitionList.found_from.Statement.{statement}
@@ -26,26 +25,22 @@ loop-holds : tie.Need-loop-holds Inv-loop μ-loop
 loop-holds c = refl
 
 returns : tie.Need-returns Inv-loop μ-loop
-unfolding some
-returns c = sym (c .before .before .loop .inv ∙ ap (some (sameRule _)) (rest-end _ _ _ (c .if1 .taken)))
+returns c = let k = c .before .before in look-end (sameRule _) noRule _ _ maxRules _ (len (k .before)) (k .loop .inv) (c .if1 .taken)
 
 returns-2 : tie.Need-returns-2 Inv-loop μ-loop
 returns-2 c =
-    let k = c .before .before .before in
-    let found = sym (c .before .same .ensures) ∙ c .if2 .taken in
-    sym (k .before .before .loop .inv ∙ some-hit (sameRule _) noRule _ _ _ (k .if1 .left) (omega (arith, len (k .before .before .before))) found)
+    let m = c .before .before .before in
+    let k = m .before .before in
+    look-hit (sameRule _) noRule _ _ maxRules _ (len (k .before)) (k .loop .inv) (m .if1 .left) (search needs) (c .before .same .ensures) (c .if2 .taken)
 
 loop-again : tie.Need-loop-again Inv-loop μ-loop
 loop-again c =
-    let k = c .before .before .before in
-    let other = sym (c .before .same .ensures) ∙ c .if2 .left in
-    k .before .before .loop .inv ∙ some-miss (sameRule _) noRule _ _ _ (k .if1 .left) (omega (arith, len (k .before .before .before))) other
+    let m = c .before .before .before in
+    let k = m .before .before in
+    look-miss (sameRule _) noRule _ _ maxRules _ (len (k .before)) (k .loop .inv) (m .if1 .left) (search needs) (c .before .same .ensures) (c .if2 .left)
 
 returns-3 : tie.Need-returns-3 Inv-loop μ-loop
-unfolding some
-returns-3 c =
-    let p = c .before in
-    sym (p .loop .inv ∙ ap (some (sameRule _)) (rest-past (p .before .args .t1 .items) _ _ (omega (arith, len (p .before)))))
+returns-3 c = let k = c .before in look-past (sameRule _) noRule _ _ maxRules _ (len (k .before)) (k .loop .inv) (search needs)
 
 pub found-from-spec : {M : Type 1} → statement M
 found-from-spec =
