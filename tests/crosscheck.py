@@ -5,8 +5,9 @@
 
 Each case is a session on a fresh book and tree. Every printed line is compared. Each session is run again with other zeros in front of its
 numbers, and must print the same. The save that each ends with is fed to another process, after other lines, which must take it line by line
-and save the same bytes; so must those of a fresh planner and of the fullest cabinet. Then the lines are given to oracles that are wrong on
-purpose, and each must be told apart from the program: a comparison that cannot fail would show nothing.
+and save the same bytes; so must those of a fresh planner and of the fullest cabinet. The sessions of edges.py have answers written by hand,
+which the program and the oracle must both give. Then the lines are given to oracles that are wrong on purpose (wrong_oracles.py), and each
+must be told apart from the program: a comparison that cannot fail would show nothing.
 The last line is 'N passed, M failed'.
 """
 import argparse
@@ -14,150 +15,14 @@ import random
 import subprocess
 import sys
 
-from limits import CELLS, LINE_BYTES, MAX_BUDGET, MAX_DIGITS, MAX_LOADS, MAX_POWER, MAX_RULES, MAX_STAGES, MAX_STATES, MAX_WORTH
+from edges import DROP_EDGES, NEAR_DROPS
+from limits import LINE_BYTES, MAX_BUDGET, MAX_DIGITS, MAX_LOADS, MAX_POWER, MAX_RULES, MAX_STAGES, MAX_STATES, MAX_WORTH
 from oracle import WORDS, Oracle
+from wrong_oracles import WRONG, with_fields
 
-
-class StageRestarts(Oracle):
-    """A row starts its stage anew at each child."""
-
-    def next_stage(self, row):
-        return row[0]
-
-
-class LeafAlwaysEnds(Oracle):
-    """The last stage reached need not be an end stage."""
-
-    def ends_here(self, stage):
-        return True
-
-
-class HighestFirst(Oracle):
-    """Of equals the highest rule and the largest allowance are taken."""
-
-    def order(self, numbers):
-        return reversed(numbers)
-
-
-class PowerKept(Oracle):
-    """A row keeps the power of the load above it as allowance."""
-
-    def left_for_row(self, allowance, power):
-        return allowance
-
-
-class FirstBudget(Oracle):
-    """The plan of the first budget is repeated."""
-
-    def act(self, word, f):
-        if word == 'budget' and self.budget:
-            return
-        super().act(word, f)
-
-
-class StoresNothing(Oracle):
-    """A second rule is answered `ok` and not stored."""
-
-    def act(self, word, f):
-        if word == 'rule' and len(self.rules) > 1:
-            return
-        super().act(word, f)
-
-
-class ZerosBarred(Oracle):
-    """A number may have no zero in front."""
-
-    def answer(self, line, cells=CELLS):
-        return super().answer(line if without_zeros(line) == line else b'', cells)
-
-
-class ZerosNotCounted(Oracle):
-    """Zeros in front of a number count as no digits."""
-
-    def answer(self, line, cells=CELLS):
-        return super().answer(without_zeros(line), cells)
-
-
-def in_order(lines, *words):
-    """The lines of a save in another order of their words."""
-    return sorted(lines, key=lambda line: words.index(line.split(',')[0]))
-
-
-class EndsFirst(Oracle):
-    """A save has the end stages before the start states."""
-
-    def save(self):
-        return in_order(super().save(), 'clear', 'book', 'end', 'start', 'rule', 'row', 'load', 'budget')
-
-
-class RowsFirst(Oracle):
-    """A save has the row rules before the load rules."""
-
-    def save(self):
-        return in_order(super().save(), 'clear', 'book', 'start', 'end', 'row', 'rule', 'load', 'budget')
-
-
-class MarksDescend(Oracle):
-    """A save has the greatest mark first."""
-
-    def mark_lines(self, word, marks):
-        return super().mark_lines(word, marks)[::-1]
-
-
-class BookOfNone(Oracle):
-    """A save has a book though there are no states."""
-
-    def book_lines(self):
-        return ['book,%d,%d' % (self.states, self.stages)]
-
-
-class NoBudgetOfNone(Oracle):
-    """A save leaves out a budget of 0."""
-
-    def save(self):
-        return super().save() if self.budget else super().save()[:-1]
-
-
-class PaddedSave(Oracle):
-    """A save writes its budget with two digits at least."""
-
-    def save(self):
-        return super().save()[:-1] + ['budget,%02d' % self.budget]
-
-
-class NoSaveOfNoLoads(Oracle):
-    """A save with no loads is refused."""
-
-    def refusal(self, command, cells):
-        return 4 if command == ('save', []) and not self.loads else super().refusal(command, cells)
-
-
-class SaveTakesFields(Oracle):
-    """A save may have fields."""
-
-    def answer(self, line, cells=CELLS):
-        return super().answer(b'save' if line.startswith(b'save,') else line, cells)
-
-
-WRONG = [
-    StageRestarts, LeafAlwaysEnds, HighestFirst, PowerKept, FirstBudget, StoresNothing, ZerosBarred, ZerosNotCounted,
-    EndsFirst, RowsFirst, MarksDescend, BookOfNone, NoBudgetOfNone, PaddedSave, NoSaveOfNoLoads, SaveTakesFields,
-]
 MOST_RUNS = 1500  # a tree with more runs is left out: plain enumeration would be slow
 BATCH = 100  # sessions that are given to one run of the program
 TRIED, ENOUGH = 500, 20  # sessions that a wrong oracle is given at most, and those that tell it apart till no more are
-
-
-def with_fields(line, change):
-    """The line with each number field changed. The field of `check` is no number."""
-    word, *fields = line.split(b',')
-    if word == b'check':
-        return line
-    return b','.join([word] + [change(field) if field.isdigit() else field for field in fields])
-
-
-def without_zeros(line):
-    return with_fields(line, lambda field: field.lstrip(b'0') or b'0')
 
 
 def padded(rng, line):
@@ -189,9 +54,13 @@ def book_lines(rng):
     return lines
 
 
+def load_line(rng, count):
+    """The line of a load that comes after so many others."""
+    return 'load,%d,%d,%d' % (rng.randint(1, count) if count else 0, rng.choice((0, 1, 2, 3, 5, 8)), rng.choice((0, 1, 1, 2, 3)))
+
+
 def tree_lines(rng):
-    return ['load,%d,%d,%d' % (rng.randint(1, k) if k else 0, rng.choice((0, 1, 2, 3, 5, 8)), rng.choice((0, 1, 1, 2, 3)))
-            for k in range(rng.randint(1, 5))]
+    return [load_line(rng, count) for count in range(rng.randint(1, 5))]
 
 
 def figures(rng):
@@ -203,8 +72,10 @@ def figures(rng):
 
 def damaged(rng):
     """A line that may break its form, its range or its length in any way."""
-    kind = rng.randrange(7)
+    kind = rng.randrange(8)
     word = rng.choice((*WORDS, 'check', 'Plan', 'plans', 'Save', 'saves', ''))
+    if kind == 7:
+        return rng.choice(NEAR_DROPS)
     if kind < 4 and word != 'clear':
         return ','.join([word] + [figures(rng) for _ in range(rng.randint(0, 4))]).encode()
     if kind == 4:
@@ -214,13 +85,22 @@ def damaged(rng):
     return rng.choice((b'budget,', b'save,', b'save')) + b'0' * rng.randint(LINE_BYTES - 20, LINE_BYTES + 10)
 
 
-def question(rng, loads):
+def drop_line(rng, oracle):
+    """A drop: of a load without children most often, or of any number up to the one after the last, of 0 too."""
+    numbers = range(len(oracle.loads) + 2)
+    leaves = [k for k in numbers[1:-1] if not oracle.children(k)]
+    return b'drop,%d' % rng.choice(leaves if leaves and rng.random() < 0.6 else numbers)
+
+
+def question(rng, oracle):
     """A line of a session whose book and tree stand: mostly plans and what changes them."""
+    loads = len(oracle.loads)
     return rng.choice((
-        lambda: b'budget,%d' % rng.randint(0, 20), lambda: b'plan', lambda: b'plan', lambda: b'plan', lambda: b'save',
+        lambda: b'budget,%d' % rng.randint(0, 20), *4 * [lambda: b'plan'], lambda: b'save',
         lambda: b'check,' + bytes(rng.choice(b'01') for _ in range(loads)),
         lambda: b'power,%d,%d' % (rng.randint(1, loads + 1), rng.randint(0, 8)),
         lambda: b'worth,%d,%d' % (rng.randint(1, loads + 1), rng.randint(0, 4)),
+        *2 * [lambda: drop_line(rng, oracle), lambda: load_line(rng, loads).encode()],
         lambda: damaged(rng)))()
 
 
@@ -238,8 +118,8 @@ def session(rng):
             return None
         if rng.random() < 0.05:
             say(b'save')
-    for _ in range(rng.randint(3, 10)):
-        line = question(rng, len(oracle.loads))
+    for _ in range(rng.randint(4, 14)):
+        line = question(rng, oracle)
         if line.startswith((b'load,', b'book', b'rule', b'row', b'start')) and rng.random() < 0.5:
             continue  # half of what would change the book or the tree is left out, so that more plans are of the cabinet built
         if not say(line):
@@ -354,6 +234,47 @@ def rebuilt(program, case):
     return not difference(*case, out) and not difference(*fed, printed(program, fed[0]))
 
 
+def edge_right(case, out):
+    """Are the answers that were written by hand those of the program and of the oracle?"""
+    lines, answers = case
+    return not difference(lines, answers, out) and answered_by(Oracle(), lines) == answers
+
+
+# ---- what is printed of each comparison, and how many failed
+
+
+def sessions_differ(wrong, cases):
+    for lines, first in wrong[:3]:
+        print('DIFFERS at %r: expected %r, printed %r, in the session %r' % (*first, lines))
+    firsts = [answer[0] for _, answers in cases for answer in answers]
+    plans = sum(first.startswith('plan') for first in firsts)
+    print('%d sessions with %d plans shown, %d refusals 9, %d sets allowed, %d not'
+          % (len(cases), plans, firsts.count('no,9'), firsts.count('yes'), firsts.count('no,10')))
+    return len(wrong)
+
+
+def saves_differ(program):
+    right = {name: rebuilt(program, case) for name, case in NAMED.items()}
+    for name, case in NAMED.items():
+        print('%s: a save of %d lines, %s' % (name, len(case[1][-1]), 'rebuilt' if right[name] else 'DIFFERS'))
+    return list(right.values()).count(False)
+
+
+def edges_differ(outs):
+    wrong = [name for (name, case), out in zip(DROP_EDGES.items(), outs) if not edge_right(case, out)]
+    for name in wrong:
+        print('DIFFERS: ' + name)
+    print('%d sessions by name, with %d lines' % (len(outs), sum(len(lines) for lines, _ in DROP_EDGES.values())))
+    return len(wrong)
+
+
+def not_told_apart(cases, outs):
+    counts = {oracle: told_apart(oracle, cases, outs) for oracle in WRONG}
+    for oracle, (told, given) in counts.items():
+        print('%s: told apart in %d of %d sessions' % (oracle.__name__, told, given))
+    return sum(told == 0 for told, _ in counts.values())
+
+
 def main():
     options = argparse.ArgumentParser()
     options.add_argument('program')
@@ -361,26 +282,13 @@ def main():
     options.add_argument('--seed', type=int, default=1)
     args = options.parse_args()
     rng = random.Random(args.seed)
-    cases = sessions(rng, args.cases)
-    outs = all_printed(args.program, cases)
+    cases, edges = sessions(rng, args.cases), list(DROP_EDGES.values())
+    outs, edge_outs = all_printed(args.program, cases), [printed(args.program, lines) for lines, _ in edges]
     others = again(rng, cases) + [fed_back(*three) for three in zip(cases, outs, cases[1:] + cases[:1])]
     wrong = differing(cases, outs) + differing(others, all_printed(args.program, others))
-    for lines, first in wrong[:3]:
-        print('DIFFERS at %r: expected %r, printed %r, in the session %r' % (*first, lines))
-    firsts = [answer[0] for _, answers in cases for answer in answers]
-    plans = sum(first.startswith('plan') for first in firsts)
-    print('%d sessions with %d plans shown, %d refusals 9, %d sets allowed, %d not'
-          % (len(cases), plans, firsts.count('no,9'), firsts.count('yes'), firsts.count('no,10')))
-    failed = len(wrong)
-    for name, case in NAMED.items():
-        right = rebuilt(args.program, case)
-        print('%s: a save of %d lines, %s' % (name, len(case[1][-1]), 'rebuilt' if right else 'DIFFERS'))
-        failed += not right
-    for oracle in WRONG:
-        told, given = told_apart(oracle, cases, outs)
-        print('%s: told apart in %d of %d sessions' % (oracle.__name__, told, given))
-        failed += told == 0
-    print('%d passed, %d failed' % (len(cases) + len(others) + len(NAMED) + len(WRONG) - failed, failed))
+    failed = sessions_differ(wrong, cases) + saves_differ(args.program) + edges_differ(edge_outs)
+    failed += not_told_apart(edges + cases, edge_outs + outs)
+    print('%d passed, %d failed' % (len(cases) + len(others) + len(NAMED) + len(edges) + len(WRONG) - failed, failed))
     return 1 if failed else 0
 
 

@@ -12,10 +12,11 @@ import argparse
 import random
 import sys
 
-from crosscheck import LeafAlwaysEnds, StageRestarts, book_lines, few_runs, tree_lines
+from crosscheck import book_lines, few_runs, tree_lines
 from library import Library, Planner
 from limits import MAX_RULES, MAX_STATES, NOT_A_RUN
 from oracle import Oracle
+from wrong_oracles import LeafAlwaysEnds, StageRestarts
 
 
 class AnyRoot(Oracle):

@@ -1,4 +1,4 @@
-"""Paper 01 and requests One and Two of paper 02 by plain enumeration: every run of every set, straight from the text. It shares no code with
+"""Paper 01 and requests One to Three of paper 02 by plain enumeration: every run of every set, straight from the text. It shares no code with
 the product, and with the header of the product only the limits.
 
 It is slow on purpose. Trees of up to five or six loads and small books are what it is for.
@@ -8,7 +8,10 @@ import re
 from limits import CELLS, FREE_BYTES, LINE_BYTES, SAVE_BYTES
 from limits import MAX_BUDGET, MAX_DIGITS, MAX_LOADS, MAX_POWER, MAX_RULES, MAX_STAGES, MAX_STATES, MAX_WORTH
 
-WORDS = {'clear': 0, 'book': 2, 'start': 1, 'end': 1, 'rule': 3, 'row': 3, 'load': 3, 'power': 2, 'worth': 2, 'budget': 1, 'plan': 0, 'save': 0}
+WORDS = {
+    'clear': 0, 'book': 2, 'start': 1, 'end': 1, 'rule': 3, 'row': 3, 'load': 3, 'power': 2, 'worth': 2, 'budget': 1, 'plan': 0, 'save': 0,
+    'drop': 1,
+}
 NUMBER = re.compile(rb'[0-9]{1,%d}\Z' % MAX_DIGITS)
 BITS = re.compile(rb'[01]+\Z')
 
@@ -66,6 +69,10 @@ class Oracle:
 
     def order(self, numbers):
         return numbers
+
+    def fallen(self, number, k):
+        """The number of a load after load k has left."""
+        return number - 1 if number > k else number
 
     # ---- runs, by enumeration
 
@@ -220,6 +227,8 @@ class Oracle:
             return 1 <= f[0] <= n and f[1] <= MAX_WORTH
         if word == 'budget':
             return f[0] <= MAX_BUDGET
+        if word == 'drop':
+            return 1 <= f[0] <= n
         return word != 'check' or len(f) == n
 
     def refusal(self, command, cells):
@@ -238,10 +247,17 @@ class Oracle:
             return 7
         if word == 'plan' and cells < self.cells():
             return 8
+        if word == 'drop' and self.children(f[0]):
+            return 11
         return 0
 
     def cells(self):
         return len(self.loads) * (self.states + self.stages) * (self.budget + 1)
+
+    def drop(self, k):
+        """Load k leaves, and the numbers above it fall, in parents too."""
+        staying = self.loads[:k - 1] + self.loads[k:]
+        self.loads = [(self.fallen(parent, k), power, worth) for parent, power, worth in staying]
 
     def act(self, word, f):
         if word == 'clear':
@@ -266,6 +282,8 @@ class Oracle:
             self.loads[f[0] - 1] = (p, w, f[1])
         elif word == 'budget':
             self.budget = f[0]
+        elif word == 'drop':
+            self.drop(f[0])
 
     def lines_of(self, run):
         return ['%d,%d,%d,%d,%d' % (k, *run[k]) for k in sorted(run)]
