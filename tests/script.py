@@ -28,7 +28,7 @@ from oracle import Oracle, bytes_needed
 
 NONE = (0, 0, 0)  # what an unused place holds
 WORKED_RUN = [1, 2, 0, 1, 2, 1, 1, 2, 1, 1, 1, 1]
-HANDED_IN = (b'plan', b'', b'clear', b'check,1110', b'save', b'x' * 99)
+HANDED_IN = (b'plan', b'', b'clear', b'check,1110', b'save', b'drop,4', b'x' * 99)
 
 
 class Planner:
