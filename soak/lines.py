@@ -10,9 +10,15 @@ SEASONS = (
     {b'start': 2, b'end': 2, b'rule': 20, b'row': 20, b'load': 3, b'plan': 2, b'check': 2, b'save': 1},
     {b'start': 1, b'end': 1, b'rule': 5, b'row': 5, b'load': 2, b'power': 5, b'worth': 5, b'budget': 5, b'plan': 8, b'check': 5, b'save': 1},
     {b'book': 1, b'start': 6, b'end': 6, b'rule': 8, b'row': 8, b'load': 1, b'budget': 2, b'plan': 2, b'check': 2, b'save': 1},
+    {b'load': 20, b'drop': 20, b'power': 1, b'worth': 1, b'budget': 2, b'plan': 3, b'check': 3, b'save': 2},
+    {b'load': 10, b'drop': 20, b'rule': 3, b'row': 3, b'budget': 2, b'plan': 2, b'check': 2, b'save': 1},
     {word: 1 for word in (*RANGES, b'check')},
 )
-OTHER_WORDS = (b'', b'Plan', b'plans', b'pla', b'save', b'saves', b'drop', b'last', b'need', b'rules', b'check1', b'cler', b'0', b'no', b'ok')
+OTHER_WORDS = (
+    b'', b'Plan', b'plans', b'pla', b'save', b'saves', b'drop', b'Drop', b'drops', b'dro', b' drop', b'last', b'need', b'rules', b'check1',
+    b'cler', b'0', b'no', b'ok',
+)
+ASKED = (b'save', b'plan', b'check')  # after a drop; they change nothing
 STRAY = bytes((0, 1, 9, 11, 13, 32, 34, 43, 44, 45, 46, 47, 48, 49, 57, 58, 65, 97, 127, 128, 255))
 LONG = (*range(Model.most_bytes - 1, Model.most_bytes + 3), Model.most_bytes + 20, 1024, 1025, 4095, 4096, 4097, 9000)
 
@@ -46,13 +52,21 @@ def bits(rng, model):
     return bytes(rng.choices(b'01', k=max(1, count)))
 
 
+def leaf(rng, model):
+    """The number of a load without children."""
+    return rng.choice(sorted({*range(1, len(model.loads) + 1)} - {parent for parent, _, _ in model.loads}))
+
+
 def values(rng, model, word):
-    """Values for the fields of a word: in their ranges, now and then at an edge, now and then those of a rule that is there."""
+    """Values for the fields of a word: in their ranges, now and then at an edge, now and then those of a rule that is there. A load that is to
+    leave has mostly no children."""
     there = {b'rule': model.rules, b'row': model.rows}.get(word)
     if there and rng.random() < 0.1:
         return rng.choice(there)
     if word == b'budget' and rng.random() < 0.6:
         return [budget(rng, model)]
+    if word == b'drop' and model.loads and rng.random() < 0.6:
+        return [leaf(rng, model)]
     ranges = RANGES[word](model)
     found = [rng.randint(low, max(low, high)) for low, high in ranges]
     if ranges and rng.random() < 0.2:
@@ -157,8 +171,15 @@ def first_lines(rng, model):
     return lines
 
 
+def dropped(taken):
+    """The load that a line takes out, or None, by what the model says of it."""
+    number, word, values = taken
+    return values[0] if number == 0 and word == b'drop' else None
+
+
 def season(rng, model):
-    """The lines of a season. The model takes each, so that the next one is written for the tables in force."""
+    """The lines of a season. The model takes each, so that the next one is written for the tables in force. After a drop the words of ASKED
+    follow."""
     weights = rng.choice(SEASONS)
     words, shares = list(weights), list(weights.values())
     lines = first_lines(rng, model)
@@ -168,8 +189,9 @@ def season(rng, model):
         line = line_of(rng, model, rng.choices(words, shares)[0])
         if rng.random() < 0.2:
             line = rng.choice(DAMAGE)(rng, line)
-        model.take(line)
         lines.append(line)
+        if dropped(model.take(line)):
+            lines += [line_of(rng, model, word) for word in ASKED]
     return lines
 
 

@@ -74,7 +74,7 @@ class Model:
         values = [self.number(field) for field in fields]
         return None if None in values else (word, values)
 
-    # ---- "Causes and numbers", from 4 to 8
+    # ---- "Causes and numbers", from 4 to 8, and 11
 
     def in_range(self, word, values):
         if word == b'check':
@@ -96,8 +96,11 @@ class Model:
     def cells(self):
         return len(self.loads) * (self.states + self.stages) * (self.budget + 1)
 
+    def has_children(self, k):
+        return any(load[0] == k for load in self.loads)
+
     def cause(self, word, values):
-        """The lowest number from 4 to 8 that applies, or 0."""
+        """The lowest number that applies and that the tables settle, or 0."""
         if word in (b'plan', b'check') and not self.loads:
             return 4
         if not self.in_range(word, values):
@@ -108,6 +111,8 @@ class Model:
             return 7
         if word == b'plan' and self.cells() > self.cells_lent:
             return 8
+        if word == b'drop' and self.has_children(values[0]):
+            return 11
         return 0
 
     # ---- "Lines": the effect of an accepted line
@@ -135,6 +140,18 @@ class Model:
 
     def set_budget(self, watts):
         self.budget = watts
+
+    # ---- "`drop,k` removes load k ..; higher numbers fall by one, in parents too"
+
+    def falls(self, number, k):
+        """Does the number of a parent fall when load k leaves?"""
+        return number > k
+
+    def drop(self, k):
+        del self.loads[k - 1]
+        for load in self.loads:
+            if self.falls(load[0], k):
+                load[0] -= 1
 
     # ---- "lines that rebuild the state: `clear`, then `book` if there are states, .. `budget` last"
 
@@ -189,10 +206,11 @@ RANGES = {
     b'budget': lambda t: ((0, t.most_budget),),
     b'plan': lambda t: (),
     b'save': lambda t: (),
+    b'drop': lambda t: ((1, len(t.loads)),),
 }
 
 # The method that makes each change; `plan`, `check` and `save` change nothing.
 EFFECTS = {
     b'clear': 'clear', b'book': 'book', b'start': 'start', b'end': 'end', b'rule': 'rule', b'row': 'row',
-    b'load': 'load', b'power': 'power', b'worth': 'worth', b'budget': 'set_budget',
+    b'load': 'load', b'power': 'power', b'worth': 'worth', b'budget': 'set_budget', b'drop': 'drop',
 }

@@ -32,6 +32,11 @@ def reached(model, entry, stage):
     return model.rows[row - 1][2] if model.rows[row - 1][:2] == [stage, state] else None
 
 
+def is_tree(model):
+    """Does each parent come before its children? A model that is wrong on purpose may leave a load whose parent does not."""
+    return all(0 < parent < k if k > 1 else parent == 0 for k, (parent, _, _) in enumerate(model.loads, 1))
+
+
 def is_run(model, entries):
     """Is this a run? A parent comes before its children, and children come in order, so one pass in load order follows every row."""
     stages = []
@@ -62,7 +67,7 @@ def wrong(model, word, values, lines):
     entries = [entry(line, k) for k, line in enumerate(lines[1:], 1)]
     if len(entries) != len(model.loads) or None in entries:
         return 'a line for each load'
-    if not is_run(model, entries):
+    if not is_tree(model) or not is_run(model, entries):
         return 'a run'
     if word == b'check':
         return None if lines[0] == b'yes' and [e[0] for e in entries] == values else 'yes and the set checked'

@@ -3,8 +3,9 @@
 
   soak.py PROGRAM [--lines N] [--seed S] [--wrong NAME]
 
-Every answer to a change, every refusal from 2 to 8 and every save is compared. Of a plan or a check that the tables do not refuse, the answer
-must be 9 or 10, or a run of the set it shows, line for line (shown.py). Every number that a word can be answered with must come up.
+Every answer to a change, every refusal from 2 to 8, every 11 and every save is compared. Of a plan or a check that the tables do not refuse,
+the answer must be 9 or 10, or a run of the set it shows, line for line (shown.py). Every number that a word can be answered with must come up.
+After a drop a save, a plan and a check are asked for. Another process, fed the tree without that load, must answer the same.
 Then the same lines are given to models that are wrong on purpose (wrong.py), and each must be told apart from the program.
 With --wrong NAME the wrong model takes the right one's place, and the run is to fail.
 The last line is 'N passed, M failed': sessions, kinds of answers, wrong models.
@@ -19,15 +20,18 @@ from collections import Counter
 import lines
 import shown
 from model import EFFECTS, Model
+from texts import entered_without  # of tests/, which model.py put on the path
 from wrong import WRONG
 
 SESSION = 1000  # lines given to one process
+FED = 50  # drops of a session, at most, whose trees another process is fed
 KEPT = 20  # sessions that the wrong models are given
 
 # The numbers that each word can be answered with, 0 for accepted. A line with no word that counts is answered with 2 or 3.
 KINDS = {
     b'clear': (0,), b'book': (0, 5), b'start': (0, 5), b'end': (0, 5), b'rule': (0, 5, 6, 7), b'row': (0, 5, 6, 7), b'load': (0, 5, 6),
-    b'power': (0, 5), b'worth': (0, 5), b'budget': (0, 5), b'plan': (0, 4, 8, 9), b'check': (0, 4, 5, 10), b'save': (0,), None: (2, 3),
+    b'power': (0, 5), b'worth': (0, 5), b'budget': (0, 5), b'plan': (0, 4, 8, 9), b'check': (0, 4, 5, 10), b'save': (0,), b'drop': (0, 5, 11),
+    None: (2, 3),
 }
 
 
@@ -49,8 +53,8 @@ def expected(model, line):
 
 
 def compare(model, session, printed, seen):
-    """Counts the answers by word and number, and tells the first difference, or None."""
-    at = 0
+    """Counts the answers by word and number; the lines printed for each line, and the first difference, or None."""
+    at, parts = 0, []
     for line in session:
         number, word, values, answer = expected(model, line)
         if answer is None:
@@ -59,28 +63,60 @@ def compare(model, session, printed, seen):
         else:
             count = len(answer)
             fault = None if printed[at:at + count] == answer else repr(answer)
+        parts.append(printed[at:at + count])
         if fault:
-            return '%r: expected %s, printed %r' % (line, fault, printed[at:at + count])
+            return parts, '%r: expected %s, printed %r' % (line, fault, parts[-1])
         seen[word, number] += 1
         at += count
-    return None if printed[at:] == [b''] else 'past the last answer: %r' % printed[at:]
+    return parts, None if printed[at:] == [b''] else 'past the last answer: %r' % printed[at:]
+
+
+# ---- "A plan after a drop is the plan of a tree entered without that load"
+
+def without(saved, load):
+    """The lines of a save for the tree without a load."""
+    return [line.encode() for line in entered_without([line.decode() for line in saved], load)]
+
+
+def drops_in(session):
+    """The place of each drop that is accepted and asked about, with the lines that enter the tree without that load."""
+    model = Model()
+    for at, line in enumerate(session):
+        saved = model.saved() if line.startswith(b'drop,') else None
+        load = lines.dropped(model.take(line))
+        if load and at + len(lines.ASKED) < len(session):
+            yield at, without(saved, load)
+
+
+def fed(program, session, parts):
+    """Feeds the trees without the loads that left to another process: how many, and whether it prints what was printed after the drops."""
+    found, given, wanted = list(drops_in(session))[:FED], [], []
+    for at, entering in found:
+        asked = slice(at + 1, at + 1 + len(lines.ASKED))
+        given += entering + session[asked]
+        wanted += [b'ok'] * len(entering) + [line for part in parts[asked] for line in part]
+    return len(found), printed_by(program, given, ended=bool(given))[:-1] == wanted
 
 
 def run_sessions(args, kind):
-    """Runs the sessions: how many agree and differ, the answers counted, and the first sessions with what was printed."""
+    """Runs the sessions: how many agree and differ, the answers counted, the trees fed, and the first sessions with what was printed."""
     rng = random.Random(args.seed)
-    agree, differ, seen, kept = 0, 0, Counter(), []
+    agree, differ, seen, trees, kept = 0, 0, Counter(), 0, []
     for done in range(0, args.lines, SESSION):
         session = lines.session(rng, Model(), min(SESSION, args.lines - done))
         printed = printed_by(args.program, session, ended=rng.random() < 0.5 or session[-1] == b'')
-        difference = compare(kind(), session, printed, seen)
+        parts, difference = compare(kind(), session, printed, seen)
+        if difference is None:
+            count, same = fed(args.program, session, parts)
+            trees += count
+            difference = None if same else 'a tree that was entered without a load that left'
         agree += difference is None
         differ += difference is not None
         if difference and differ <= 5:
             print('session %d differs at %s' % (done // SESSION + 1, difference))
         if len(kept) < KEPT:
             kept.append((session, printed))
-    return agree, differ, seen, kept
+    return agree, differ, seen, trees, kept
 
 
 def answers(seen):
@@ -96,7 +132,7 @@ def told_apart(kept):
     """How many wrong models differ from the program in a kept session, and how many do not."""
     told = 0
     for name, kind in WRONG.items():
-        if any(compare(kind(), session, printed, Counter()) for session, printed in kept):
+        if any(compare(kind(), session, printed, Counter())[1] for session, printed in kept):
             told += 1
         else:
             print('%s: not told apart' % name)
@@ -111,9 +147,10 @@ def main():
     options.add_argument('--wrong', choices=WRONG)
     args = options.parse_args()
     began = time.monotonic()
-    agree, differ, seen, kept = run_sessions(args, WRONG[args.wrong] if args.wrong else Model)
+    agree, differ, seen, trees, kept = run_sessions(args, WRONG[args.wrong] if args.wrong else Model)
     seconds = time.monotonic() - began
-    print('%d lines in %d sessions, seed %d: %d sessions differ; %.1f s' % (args.lines, agree + differ, args.seed, differ, seconds))
+    print('%d lines in %d sessions, seed %d, %d drops compared: %d sessions differ; %.1f s'
+          % (args.lines, agree + differ, args.seed, trees, differ, seconds))
     present, missing = answers(seen)
     told, untold = told_apart(kept)
     print('%d kinds of answers seen, %d missing; %d wrong models told apart, %d not' % (present, missing, told, untold))

@@ -320,4 +320,115 @@ class SaveClears(Model):
         return lines
 
 
+class ParentsStay(Model):
+    """A drop leaves every parent's number as it was."""
+
+    def falls(self, number, k):
+        return False
+
+
+class OwnNumberFalls(Model):
+    """Of the parents' numbers only that of the load that leaves falls."""
+
+    def falls(self, number, k):
+        return number == k
+
+
+class NextNumberFalls(Model):
+    """Of the parents' numbers only the one after that of the load that leaves falls."""
+
+    def falls(self, number, k):
+        return number == k + 1
+
+
+class LowerNumberFalls(Model):
+    """The number before that of the load that leaves falls too."""
+
+    def falls(self, number, k):
+        return number > 1 and number >= k - 1
+
+
+class LastIntoGap(Model):
+    """The last load takes the place of the one that leaves."""
+
+    def drop(self, k):
+        self.loads[k - 1] = self.loads[-1]
+        self.loads.pop()
+
+
+class ParentDropped(Model):
+    """A load with children may leave."""
+
+    def has_children(self, k):
+        return False
+
+
+class RootDropped(Model):
+    """Load 1 may leave though there are others."""
+
+    def has_children(self, k):
+        return k > 1 and super().has_children(k)
+
+
+class ChildrenOfTheNext(Model):
+    """The children of the next load are taken for those of the load that is to leave."""
+
+    def has_children(self, k):
+        return super().has_children(k + 1)
+
+
+class RefusedDropTaken(Model):
+    """A load with children leaves though the drop is refused."""
+
+    def cause(self, word, values):
+        number = super().cause(word, values)
+        if number == 11:
+            self.drop(values[0])
+        return number
+
+
+class ElevenBeforeFive(Model):
+    """That load k has children is told before that there is no load k: load 1 counts as a child of load 0."""
+
+    def cause(self, word, values):
+        return 11 if word == b'drop' and self.has_children(values[0]) else super().cause(word, values)
+
+
+class FiveForEleven(Model):
+    """A load with children is told as a number out of its range."""
+
+    def cause(self, word, values):
+        number = super().cause(word, values)
+        return 5 if number == 11 else number
+
+
+class NoDropOfNoLoads(Model):
+    """A drop with no loads is refused as a plan is."""
+
+    def cause(self, word, values):
+        return 4 if word == b'drop' and not self.loads else super().cause(word, values)
+
+
+class DropNotMade(Model):
+    """`drop` is answered `ok` and the load stays."""
+
+    def drop(self, k):
+        pass
+
+
+class PlaceLost(Model):
+    """The place that a drop frees is not filled again: so many loads enter in all, and no more."""
+
+    def clear(self):
+        super().clear()
+        self.entered = 0
+
+    def load(self, *figures):
+        super().load(*figures)
+        self.entered += 1
+
+    def full(self, word):
+        return super().full(word) or word == b'load' and self.entered >= self.most_loads
+
+
 WRONG = {kind.__name__: kind for kind in Model.__subclasses__()}
