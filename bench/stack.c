@@ -83,6 +83,13 @@ static void print_line(const char *name, const char *given, uint32_t number) {
     expect(answer.reply.number, number);
 }
 
+// A line of the last load: a word, its number, and further fields.
+static void print_last(const char *name, const char *word, const char *fields) {
+    char given[HULMEIDE_LINE_BYTES];
+    snprintf(given, sizeof given, "%s,%d%s", word, HULMEIDE_MAX_LOADS, fields);
+    print_line(name, given, HULMEIDE_ACCEPTED);
+}
+
 // The check of the set that was planned, and the judge on its run.
 static void print_check_and_judge(void) {
     Run planned = shown(&answer).run;
@@ -103,11 +110,11 @@ static void print_calls(Shape shape) {
     printf("%s:", shape_names[shape]);
     print_line("plan", "plan", HULMEIDE_ACCEPTED);
     print_check_and_judge();
-    char change[HULMEIDE_LINE_BYTES];
-    snprintf(change, sizeof change, "power,%d,1", HULMEIDE_MAX_LOADS);
-    print_line("change", change, HULMEIDE_ACCEPTED);
+    print_last("change", "power", ",1");
     print_line("save", "save", HULMEIDE_ACCEPTED);
     print_line("refused", "load,1,1,1", HULMEIDE_FULL);
+    print_last("drop", "drop", "");
+    tables = tables_of(largest(shape));
     printf(" plan in plain C %zu, in plain Rust %zu\n", depth(plain_c), depth(plain_rust));
 }
 

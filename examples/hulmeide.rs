@@ -6,7 +6,7 @@ use std::mem::{size_of, MaybeUninit};
 // ---- Version, sizes and numbers, as include/hulmeide.h has them: tests/limits.py compares the two.
 
 /// The version of the header that this wrapper is for: major * 10000 + minor * 100 + patch.
-pub const VERSION: u32 = 10200;
+pub const VERSION: u32 = 10300;
 
 /// A line has at most this many bytes, its line feed not counted.
 pub const LINE_BYTES: usize = 80;
@@ -48,6 +48,7 @@ pub enum Refusal {
     FewCells = 8,
     NoneFits = 9,
     NotAllowed = 10,
+    HasChildren = 11,
 }
 
 // ---- The planner, laid out as the header has it.
@@ -126,7 +127,7 @@ extern "C" {
 }
 
 impl Refusal {
-    const ALL: [Refusal; 10] = [
+    const ALL: [Refusal; 11] = [
         Refusal::TurnedAway,
         Refusal::LongLine,
         Refusal::BadForm,
@@ -137,9 +138,10 @@ impl Refusal {
         Refusal::FewCells,
         Refusal::NoneFits,
         Refusal::NotAllowed,
+        Refusal::HasChildren,
     ];
 
-    /// Its number, 1 to 10, as the line `no,N` prints it.
+    /// Its number, 1 to 11, as the line `no,N` prints it.
     pub fn number(self) -> u32 {
         self as u32
     }
@@ -157,6 +159,7 @@ impl Refusal {
             Refusal::FewCells => "too few cells of work",
             Refusal::NoneFits => "no allowed set fits the budget",
             Refusal::NotAllowed => "the set is not allowed",
+            Refusal::HasChildren => "the load has children",
         }
     }
 
@@ -222,6 +225,13 @@ impl Planner {
     pub fn save<'a>(&mut self, out: &'a mut [u8; SAVE_BYTES]) -> &'a [u8] {
         let answer = self.call(b"save", out, 0, &mut []);
         &out[..answer.count]
+    }
+
+    /// Takes out a load, as `drop` does. It is refused where there is no such load, or where it has children. The numbers above its own fall
+    /// by one: what is kept by the number of a load has to follow.
+    pub fn drop_load(&mut self, load: u8) -> Result<(), Refusal> {
+        let answer = self.call(format!("drop,{load}").as_bytes(), &mut [0; FREE_BYTES], 0, &mut []);
+        answer.refusal.map_or(Ok(()), Err)
     }
 
     /// Are these numbers, three for each load, a run?

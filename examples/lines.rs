@@ -55,6 +55,16 @@ fn rebuilds(text: &str) -> bool {
     taken && other.save(&mut out) == text.as_bytes()
 }
 
+/// Does `drop_load` drop as a line did, on the planner as it was before? A line that is no drop passes.
+fn drops_alike(mut before: Planner, line: &[u8], refusal: Option<Refusal>) -> bool {
+    let Some(number) = line.strip_prefix(b"drop,") else { return true };
+    if matches!(refusal, Some(Refusal::BadForm | Refusal::LongLine)) {
+        return true;
+    }
+    let load: u32 = std::str::from_utf8(number).expect("digits").parse().expect("a number");
+    u8::try_from(load).map_or(Some(Refusal::OutOfRange), |load| before.drop_load(load).err()) == refusal
+}
+
 /// The refusal that an answer prints, if it prints one.
 fn printed_refusal(text: &str) -> Option<u32> {
     text.strip_prefix("no,").map(|number| number.trim_end().parse().expect("a number"))
@@ -68,6 +78,7 @@ fn main() -> io::Result<()> {
     let mut output = io::stdout().lock();
     let mut line = Vec::with_capacity(KEPT_BYTES);
     while next_line(&mut input, &mut line)? {
+        let before = planner.clone();
         let answer = planner.call(&line, &mut out, 0, &mut work);
         let text = std::str::from_utf8(&out[..answer.count]).expect("answers are plain text");
         assert_eq!(answer.refusal.map(Refusal::number), printed_refusal(text));
@@ -75,6 +86,7 @@ fn main() -> io::Result<()> {
         assert_eq!(answer.refusal == Some(Refusal::FewCells), few_cells);
         assert!(judged(&planner, text), "the planner showed what is no run");
         assert!(rebuilds(text), "the planner showed a save that does not rebuild it");
+        assert!(drops_alike(before, &line, answer.refusal), "the wrapper drops otherwise than the line");
         // These two try again by themselves what was interrupted.
         output.write_all(text.as_bytes())?;
         output.flush()?;

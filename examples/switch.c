@@ -1,12 +1,12 @@
 /*
- * The planner in a switch's main loop: bytes come in from a line port, each line is answered as soon as it is complete, and a plan switches
- * the power of the cabinet's ports.
+ * The planner in a switch's main loop: bytes come in from a line port, each line is answered as soon as it is complete, a plan switches
+ * the power of the cabinet's ports, and the port of a load that leaves goes off.
  *
  * Here the line port is standard input and output, so that the program can be compared with the line program, and the cabinet's ports are
  * an array. A switch has its own functions in the place of receive, transmit and set_port. Nothing is allocated: the planner and the
  * buffers that it is lent are static.
  *
- * With SWITCH_LOG in the environment each plan leaves a line on standard error that names the ports that are on.
+ * With SWITCH_LOG in the environment each plan and each drop leaves a line on standard error that names the ports that are on.
  *
  * Every run that the planner shows is handed to the judge before it is sent. That is not needed, since the planner is proved; it shows how
  * the judge is called.
@@ -88,6 +88,9 @@ static void set_port(size_t load, bool on)
 
 static void log_ports(void)
 {
+    if (getenv("SWITCH_LOG") == NULL) {
+        return;
+    }
     fputs("ports on:", stderr);
     for (size_t load = 1; load <= HULMEIDE_MAX_LOADS; load++) {
         if (port_on[load - 1]) {
@@ -111,9 +114,19 @@ static void switch_ports(uint64_t set)
             set_port(load, true);
         }
     }
-    if (getenv("SWITCH_LOG") != NULL) {
-        log_ports();
+    log_ports();
+}
+
+/* A load has left, for good. Its port goes off, and every port behind it is from now on that of the load with one number less. A switch that
+ * keeps more by the number of a load, as the port that it is plugged into, closes the gap there too. */
+static void forget_port(size_t load)
+{
+    set_port(load, false);
+    for (size_t next = load + 1; next <= HULMEIDE_MAX_LOADS; next++) {
+        port_on[next - 2] = port_on[next - 1];
     }
+    port_on[HULMEIDE_MAX_LOADS - 1] = false;
+    log_ports();
 }
 
 /* ---- Answers ---- */
@@ -163,12 +176,21 @@ static void judge_shown(const struct shown *shown)
     }
 }
 
+/* The load that an accepted "drop,k" took out. */
+static size_t dropped_load(void)
+{
+    size_t at = sizeof "drop," - 1;
+    return next_number(line, held, &at);
+}
+
 /* Judges the run that an accepted line shows, if it shows one, and switches the ports by a plan. The first lines of such answers are
- * "plan,worth,power,n" and "yes". A refused `plan` leaves the ports as they are. */
+ * "plan,worth,power,n" and "yes". A refused `plan` leaves the ports as they are. Of the commands only `drop` begins with a d. */
 static void follow(size_t count)
 {
     struct shown shown;
-    if (out[0] == 'p' || out[0] == 'y') {
+    if (line[0] == 'd') {
+        forget_port(dropped_load());
+    } else if (out[0] == 'p' || out[0] == 'y') {
         read_shown(out, count, &shown);
         judge_shown(&shown);
         if (out[0] == 'p') {
@@ -181,10 +203,10 @@ static void follow(size_t count)
 static void answer(void)
 {
     struct hulmeide_reply reply = hulmeide_call(&planner, line, held, out, sizeof out, 0, work, HULMEIDE_LINE_PROGRAM_CELLS);
-    held = 0;
     if (reply.number == HULMEIDE_ACCEPTED) {
         follow(reply.count);
     }
+    held = 0;
     transmit(out, reply.count);
 }
 

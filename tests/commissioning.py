@@ -17,7 +17,7 @@ from pathlib import Path
 from oracle import Oracle
 
 WORKED = Path('crates/load_planner/stdin').read_bytes().split(b'\n')[:15]
-FURTHER = b'worth,2,45'
+FURTHER = [b'worth,2,45', b'drop,3']
 SECONDS = 10
 
 
@@ -75,7 +75,7 @@ def held(program, page):
     with tempfile.TemporaryDirectory() as folder:
         same = over_a_port(program, port, folder)
         kept = [Path(folder, name).read_bytes() for name in ('cabinet.save', 'again.save')]
-        Path(folder, 'other.lines').write_bytes(FURTHER + b'\n')
+        Path(folder, 'other.lines').write_bytes(b''.join(line + b'\n' for line in FURTHER))
         shown = typed(laptop, folder, PATH='%s:%s' % (os.path.dirname(program), os.environ['PATH']))
         changed = Path(folder, 'changed.save').read_bytes()
     save = save_after(*WORKED)
@@ -84,7 +84,7 @@ def held(program, page):
         same == b'the same\n',
         kept == [save, save],
         shown == answered(*lines, b'plan') + answered(*lines, b'budget,22', b'plan'),
-        changed == save_after(*WORKED, FURTHER),
+        changed == save_after(*WORKED, *FURTHER),
     ]
 
 

@@ -6,7 +6,8 @@
 The input holds sessions of valid and damaged lines, lines of every length around the most that a line may have, lines far longer than any
 buffer, bytes of every value, large cabinets, and a last line with and without its line feed. Each program must also answer a line as soon as
 it is complete, while its input stays open, and print the same where every other read and write is interrupted (a library that is loaded
-before it: interrupted.c). A program that switches ports must have switched them as its plans say. The last line is 'N passed, M failed'.
+before it: interrupted.c). A program that switches ports must have switched them as its plans and its drops say.
+The last line is 'N passed, M failed'.
 """
 import argparse
 import os
@@ -18,6 +19,7 @@ from pathlib import Path
 
 from crosscheck import session
 from limits import CELLS, LINE_BYTES, MAX_BUDGET, MAX_LOADS, MAX_WORTH
+from texts import grouped
 
 WORKED = Path('crates/load_planner/stdin')
 ANSWERS = Path('crates/load_planner/stdout')
@@ -30,7 +32,7 @@ def joined(lines):
 def long_lines(rng):
     """Lines around the most bytes, and far beyond it."""
     lengths = [0, 1, *range(LINE_BYTES - 1, LINE_BYTES + 3), 2 * LINE_BYTES, 255, 256, 257, 4095, 4096, 4097, 20000]
-    lines = [word + b'1' * length for length in lengths for word in (b'check,', b'save')]
+    lines = [word + b'1' * length for length in lengths for word in (b'check,', b'save', b'drop,')]
     lines += [bytes(rng.choice(b'01,plan\r\x00\xff') for _ in range(length)) for length in lengths]
     return joined(lines + [b'plan'])
 
@@ -38,19 +40,34 @@ def long_lines(rng):
 def every_byte():
     """Each byte alone, before and after a command, but for the line feed that ends a line."""
     bytes_but_feed = [bytes([b]) for b in range(256) if b != 10]
-    return joined([line for b in bytes_but_feed for line in (b, b + b'plan', b'plan' + b, b'save' + b, b'budget,1' + b)])
+    commands = (b'plan', b'save', b'budget,1', b'drop,1', b'drop')
+    return joined([line for b in bytes_but_feed for line in (b, b + b'plan', *(command + b for command in commands))])
+
+
+def any_load(rng, count):
+    """The line of a load that comes after so many others."""
+    return b'load,%d,%d,%d' % (rng.randint(1, count) if count else 0, rng.randint(0, 9), rng.randint(0, MAX_WORTH))
+
+
+def come_and_go(rng):
+    """On the fullest cabinet: drops of any loads, of which those without children leave, more loads, and plans between them."""
+    lines = []
+    for _ in range(3):
+        lines += [b'drop,%d' % rng.randint(0, MAX_LOADS + 1) for _ in range(20)] + [b'plan']
+        lines += [any_load(rng, MAX_LOADS - 20) for _ in range(20)] + [b'plan', b'drop,%d' % (MAX_LOADS - 20), b'save']
+    return lines
 
 
 def large_cabinet(rng):
-    """The most loads under a book with two states and two stages, plans with as many cells as the line program lends, and a save."""
+    """The most loads under a book with two states and two stages, plans with as many cells as the line program lends, drops, and a save."""
     lines = [b'clear', b'book,2,2', b'start,1', b'start,2', b'end,1', b'end,2']
     lines += [b'rule,1,1,1', b'rule,1,0,2', b'rule,2,0,2', b'row,1,1,1', b'row,2,2,2', b'row,1,2,1']
-    for k in range(MAX_LOADS + 1):
-        lines.append(b'load,%d,%d,%d' % (rng.randint(1, k) if k else 0, rng.randint(0, 9), rng.randint(0, MAX_WORTH)))
+    lines += [any_load(rng, count) for count in range(MAX_LOADS + 1)]
     last = CELLS // (4 * MAX_LOADS) - 1
     for budget in (0, 1, 20, last - 1, last, last + 1, MAX_BUDGET):
         lines += [b'budget,%d' % budget, b'plan', b'check,' + bytes(rng.choice(b'01') for _ in range(MAX_LOADS))]
-    return joined(lines + [b'check,' + b'0' * MAX_LOADS, b'check,' + b'1' * MAX_LOADS, b'save'])
+    lines += [b'check,' + b'0' * MAX_LOADS, b'check,' + b'1' * MAX_LOADS, b'save', b'budget,%d' % last]
+    return joined(lines + come_and_go(rng))
 
 
 def inputs(rng, sessions):
@@ -90,24 +107,32 @@ def endures(program, library):
     return ended.returncode == 0 and ended.stdout == ANSWERS.read_bytes()
 
 
-def planned_ports(output):
-    """For each plan in what was printed, the loads that it has on."""
-    plans, shown = [], []
-    for fields in (line.split(b',') for line in output.splitlines()):
-        if not fields[0].isdigit():
-            shown = []
-        elif fields[1] == b'1':
-            shown.append(int(fields[0]))
-        if fields[0] == b'plan':
-            plans.append(shown)
-    return plans
+def ports_after(line, answer, on):
+    """The ports that are on after a plan or a drop, those before being these; None after any other line."""
+    if answer[0].startswith('plan,'):
+        return [number for number, row in enumerate(answer[1:], 1) if row.split(',')[1] == '1']
+    if line.startswith(b'drop,') and answer == ['ok']:
+        load = int(line[len(b'drop,'):])
+        return [port - 1 if port > load else port for port in on if port != load]
+    return None
+
+
+def ports_switched(data, output):
+    """The ports that are on after each plan and each drop of an input, by what was printed for it."""
+    on, found = [], []
+    for line, answer in zip(data.split(b'\n'), grouped(output.decode().split('\n')[:-1])):
+        after = ports_after(line, answer, on)
+        if after is not None:
+            on = after
+            found.append(on)
+    return found
 
 
 def switches_ports(program, data):
-    """Are the ports that a program logs after each plan those of the plan?"""
+    """Are the ports that a program logs those of its plans and drops?"""
     ended = subprocess.run([program], input=data, capture_output=True, env={**os.environ, 'SWITCH_LOG': '1'})
     logged = [[int(port) for port in line.split(b':')[1].split()] for line in ended.stderr.splitlines()]
-    return ended.returncode == 0 and logged == planned_ports(ended.stdout)
+    return ended.returncode == 0 and logged == ports_switched(data, ended.stdout)
 
 
 def compared(programs, expected, data, name):

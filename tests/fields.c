@@ -1,7 +1,7 @@
 /*
  * The header against the archive: their versions; the layout, for which the planner's fields are read by their names after the lines of
- * paper 01's session, and the memory after the planner must be as it was; what the header's helpers answer; and the session's save, with the
- * free bytes that the header names. It is C99, C11 and C++11.
+ * paper 01's session, and the memory after the planner must be as it was; what the header's helpers answer; the session's save, with the
+ * free bytes that the header names; and the places of the loads when one leaves and another comes. It is C99, C11 and C++11.
  * The last line printed is 'N passed, M failed'.
  */
 #include "hulmeide.h"
@@ -60,12 +60,18 @@ static void expect_reply(const char *what, struct hulmeide_reply reply, size_t n
     expect(what, reply.count, count);
 }
 
+/* A line, with no cells lent. */
+static void expect_line(const char *line, size_t number, size_t count)
+{
+    expect_reply(line, hulmeide_call_text(&kept.planner, line, out, sizeof out, 0, NULL, 0), number, count);
+}
+
 static void make_planner(void)
 {
     memset(&kept, GUARD_BYTE, sizeof kept);
     hulmeide_fresh(&kept.planner);
     for (size_t i = 0; i < sizeof lines / sizeof *lines; i++) {
-        expect_reply(lines[i], hulmeide_call_text(&kept.planner, lines[i], out, sizeof out, 0, NULL, 0), HULMEIDE_ACCEPTED, 3);
+        expect_line(lines[i], HULMEIDE_ACCEPTED, 3);
     }
 }
 
@@ -90,10 +96,27 @@ static void expect_save(void)
     for (size_t i = 0; i < sizeof lines / sizeof *lines; i++) {
         strcat(strcat(saved, lines[i]), "\n");
     }
-    expect_reply("save", hulmeide_call_text(planner, "save", out, sizeof out, 0, NULL, 0), HULMEIDE_ACCEPTED, strlen(saved));
+    expect_line("save", HULMEIDE_ACCEPTED, strlen(saved));
     expect("the save is another text", memcmp(out, saved, strlen(saved)) != 0, 0);
     expect_reply("one byte less", hulmeide_call_text(planner, "save", out, sizeof out - 1, 0, NULL, 0), HULMEIDE_TURNED_AWAY, 0);
     expect_reply("no save", hulmeide_call_text(planner, "save,", out, HULMEIDE_FREE_BYTES, 0, NULL, 0), HULMEIDE_BAD_FORM, 5);
+}
+
+/* Load 3 leaves: load 4 has its place and number then, the last place is free, and the next load takes it. */
+static void expect_drop(void)
+{
+    const struct hulmeide_loads *loads = &kept.planner.loads;
+    expect_line("drop,2", HULMEIDE_HAS_CHILDREN, 6);
+    expect_line("drop,5", HULMEIDE_OUT_OF_RANGE, 5);
+    expect("loads after refused drops", loads->count, 4);
+    expect_line("drop,3", HULMEIDE_ACCEPTED, 3);
+    expect("loads after a drop", loads->count, 3);
+    expect_load("load 2 after a drop", loads->items[1], 1, 15, 40);
+    expect_load("load 3 after a drop", loads->items[2], 2, 7, 50);
+    expect_load("the place that is free", loads->items[3], 0, 0, 0);
+    expect_line("load,3,5,30", HULMEIDE_ACCEPTED, 3);
+    expect("loads after another came", loads->count, 4);
+    expect_load("load 4 after another came", loads->items[3], 3, 5, 30);
 }
 
 static void expect_guard(void)
@@ -127,6 +150,7 @@ int main(void)
     expect("budget", kept.planner.budget, 30);
     expect_helpers();
     expect_save();
+    expect_drop();
     expect_guard();
     printf("%d passed, %d failed\n", passed, failed);
     return failed != 0;

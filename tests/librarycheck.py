@@ -6,14 +6,16 @@
 Each line of a random session is handed to the library with an output full of rubbish, of any length and with any place in it, and with a work
 full of rubbish, of any length. Compared are the number, the count, every byte of the output, every cell of the work and every field of the
 planner. The lines of the save that each session ends with, each with the free bytes that it needs, must make the planner that an
-earlier session left hold the same. The last line is 'N passed, M failed'.
+earlier session left hold the same. The sessions of edges.py, with what the line program lends, must have the answers that stand there, and a
+planner that is wrong on purpose must be told apart in one of them. The last line is 'N passed, M failed'.
 """
 import argparse
 import random
 import sys
 
 from crosscheck import sessions
-from library import Library, Planner, held
+from edges import DROP_EDGES
+from library import Lent, Library, Planner, held, tables_with
 from limits import FREE_BYTES, LINE_BYTES, PLANNER_BYTES, SAVE_BYTES
 from oracle import Oracle, bytes_needed, parse
 from script import stored
@@ -55,6 +57,11 @@ def rebuilds(planner, other):
     return set(replies) == {(0, len('ok\n'))} and held(other.state.content()).same(held(planner.state.content()))
 
 
+def left_fault(planner, oracle, line):
+    """None, or that a call on a line left another planner than the oracle has, in any place."""
+    return None if held(planner.state.content()).same(stored(oracle)) else '%r leaves another planner' % line
+
+
 def session_fault(rng, library, other, lines):
     """None, or the first call of a session that differs, or what its save makes of another planner."""
     planner, oracle = Planner(library, rubbish(rng, PLANNER_BYTES)).fresh(), Oracle()
@@ -64,9 +71,43 @@ def session_fault(rng, library, other, lines):
         got = planner.call(line, output, place, work)
         if got != want:
             return '%r at %d in %d bytes with %d cells: %r for %r' % (line, place, len(output), len(work) // 4, got[:2], want[:2])
-        if not held(planner.state.content()).same(stored(oracle)):
-            return '%r leaves another planner' % line
+        if left_fault(planner, oracle, line):
+            return left_fault(planner, oracle, line)
     return None if rebuilds(planner, other) else 'the save after %r does not rebuild the planner' % lines
+
+
+# ---- the sessions by name
+
+
+class PlaceKept(Planner):
+    """A planner that is wrong on purpose: the place that a drop frees keeps what it held."""
+
+    def call(self, line, output, place, work):
+        before = held(self.state.content())
+        reply = super().call(line, output, place, work)
+        after = held(self.state.content())
+        if line.startswith(b'drop,') and after.load_count < before.load_count:
+            after.loads[after.load_count] = before.loads[after.load_count]
+            self.state = Lent(tables_with(after))
+        return reply
+
+
+def edge_fault(planner, case):
+    """None, or the first line of a session by name that is not answered as it stands there, or leaves another planner."""
+    oracle = Oracle()
+    for line, answer in zip(*case):
+        got = planner.answer(line)
+        oracle.answer(line)
+        if got != answer:
+            return '%r: %r for %r' % (line, got, answer)
+        if left_fault(planner, oracle, line):
+            return left_fault(planner, oracle, line)
+    return None
+
+
+def edge_faults(kind, library):
+    """What is wrong in each session by name, with a planner of this kind."""
+    return [edge_fault(kind(library).fresh(), case) for case in DROP_EDGES.values()]
 
 
 def main():
@@ -78,11 +119,12 @@ def main():
     rng, library = random.Random(args.seed), Library(args.library)
     cases = [lines for lines, _ in sessions(rng, args.sessions)]
     other = Planner(library).fresh()
-    faults = [session_fault(rng, library, other, lines) for lines in cases]
+    faults = [session_fault(rng, library, other, lines) for lines in cases] + edge_faults(Planner, library)
+    faults.append(None if any(edge_faults(PlaceKept, library)) else 'PlaceKept: not told apart')
     for fault in [f for f in faults if f][:5]:
         print('DIFFERS: ' + fault)
     failed = sum(fault is not None for fault in faults)
-    print('%d calls in %d sessions' % (sum(map(len, cases)), len(cases)))
+    print('%d calls in %d sessions, and %d sessions by name' % (sum(map(len, cases)), len(cases), len(DROP_EDGES)))
     print('%d passed, %d failed' % (len(faults) - failed, failed))
     return 1 if failed else 0
 
