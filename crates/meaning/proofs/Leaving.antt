@@ -27,7 +27,7 @@ use Rattle.meaning.specs.Best.{branchCell, rowCell, best, startFor, best
 use Rattle.meaning.specs.Order.{numbers, treeNumbers}
 use Rattle.meaning.proofs.Ordered.{loads-ordered}
 use Rattle.meaning.proofs.Tree.{tree-total}
-use Rattle.meaning.specs.Leaving.{without, renumbered, before, treeLeft, checkedLeft, Left}
+use Rattle.meaning.specs.Leaving.{without, renumbered, before, risen, treeLeft, checkedLeft, Left}
 
 -- ---- the numbers after load k has left
 module _ (k : ℕ) where
@@ -38,6 +38,14 @@ module _ (k : ℕ) where
       go : (t : Bool) → ltb k n ≡ t → pick t (n - 1) n + min 1 (n - k) ≡ n
       go true e = omega (arith, ltb-true k n e)
       go false e = omega (arith, ltb-false k n e)
+
+  -- every number but load k's comes back
+  fallen-back : (n : ℕ) → (n ≡ k → ⊥) → risen k (fallen k n) ≡ n
+  fallen-back n other = go (ltb (fallen k n) k) refl
+    where
+      go : (t : Bool) → ltb (fallen k n) k ≡ t → pick t (fallen k n) (suc (fallen k n)) ≡ n
+      go true e = omega (arith, fallen-value n, ltb-true (fallen k n) k e)
+      go false e = omega (arith, fallen-value n, ltb-false (fallen k n) k e, other)
 
   -- the next number is one more, but the load after load k gets load k's own
   fallen-here : (n : ℕ) → eqb n k ≡ true → fallen k (suc n) ≡ fallen k n
@@ -237,6 +245,7 @@ module _ (t : Tables) (k : ℕ) (w : Lawful t) (w′ : Lawful (dropLoad t k)) (o
   unfolding bestPlan bestCheck
   left-holds = record {
     shape = shape;
+    back = fallen-back k;
     accepted = λ σ. rw (shape, renumbered-accepts k (t .book) σ (treeLeft t k)) Iff·rfl;
     runs = λ σ ρ. rw (shape, renumbered-tree-run k (t .book) σ ρ (treeLeft t k)) Iff·rfl;
     powers = λ σ. figures (λ j i. draw i (σ j));

@@ -1,11 +1,12 @@
 -- A tree that a load has left, and what is proved of it for tables that keep the limits.
 -- It stands for request Three of paper 02: "`drop,k` removes load k if it has no children; higher numbers fall by one, in parents too" and "A plan
 -- after a drop is the plan of a tree entered without that load". Assumes nothing.
-use Prim.Native.Nat.{ℕ}
+use Prim.Native.Nat.{ℕ, suc}
 use mathlib.Core.Path.{_≡_}
 use mathlib.Core.Bool.{cond}
 use mathlib.Core.Logic.{_↔_}
-use lib.Dec.{eqb}
+use lib.Dec.{eqb, ltb}
+use Rattle.lists.specs.Tests.{pick}
 use Rattle.tables.specs.Tables.{Tables}
 use Rattle.tables.specs.Changes.{fallen, dropLoad}
 use Rattle.meaning.specs.Forest.{Forest, nil, node, checked, tree}
@@ -30,6 +31,10 @@ renumbered k (node j i below later) = node (fallen k j) i (renumbered k below) (
 abbrev pub before : {A : Type 0} → ℕ → (ℕ → A) → ℕ → A
 before k f j = f (fallen k j)
 
+-- and the number before of each number after
+abbrev pub risen : (k number : ℕ) → ℕ
+risen k n = pick (ltb n k) n (suc n)
+
 -- the tree of the tables without load k, as a plan and as a check of a set looks at it; by the numbers before
 abbrev pub treeLeft : Tables → ℕ → Forest
 treeLeft t k = without k (treeOf t)
@@ -41,6 +46,8 @@ checkedLeft t k σ = without k (tree (checked (before k σ)) (t .loads))
 -- the best of a plan and of a check are those of the tree that is left
 pub record Left (t : Tables) (k : ℕ) : Type 0 where
   pub shape : treeOf (dropLoad t k) ≡ renumbered k (treeLeft t k)
+  -- every number but k comes back, so each set and assignment of the tree that is left is one of the tables after
+  pub back : (j : ℕ) → (j ≡ k → ⊥) → risen k (fallen k j) ≡ j
   pub accepted : (σ : ℕ → ℕ) → Accepted (dropLoad t k) σ ↔ Accepts (t .book) (before k σ) (treeLeft t k)
   pub runs : (σ : ℕ → ℕ) (ρ : ℕ → Assigned) → TreeRun (t .book) σ ρ (treeOf (dropLoad t k)) ↔ TreeRun (t .book) (before k σ) (before k ρ) (treeLeft t k)
   pub powers : (σ : ℕ → ℕ) → power (dropLoad t k) σ ≡ drawn (before k σ) (treeLeft t k)

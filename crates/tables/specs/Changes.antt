@@ -71,7 +71,7 @@ fallen k n = pick (ltb k n) (n - 1) n
 abbrev pub reparented : (k : ℕ) → Load → Load
 reparented k l = record { parent = fallen k (l .parent); power = l .power; worth = l .worth }
 
--- the loads without load k
+-- the loads without load k, in their order
 unfoldable pub remaining : (k : ℕ) → List Load → List Load
 remaining k ls = map (reparented k) (take (k - 1) ls ++ drop k ls)
 

@@ -61,7 +61,7 @@ loadReplaced l k x = pick (within (placesOf l) k) (record { items = set (l .item
 unfoldable pub figureSet : LoadList → Figure → (number value : ℕ) → LoadList
 figureSet l f k x = loadReplaced l k (withFigure f (loadAt l k) x)
 
--- load k leaves: each later load comes one place down, with its parent's number now, and the last place is free. A number of no load changes
+-- load k leaves: each later load comes one place down, with its parent's new number, and the last place is free. A number of no load changes
 -- nothing.
 abbrev pub movedDown : (k : ℕ) → List Load → List Load
 movedDown k items = map (reparented k) (drop k items) ++ (noLoad ∷ [])
