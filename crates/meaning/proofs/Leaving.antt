@@ -1,6 +1,6 @@
 -- The record of specs/Leaving holds of tables that keep the limits: the tree after a drop is the tree that is left with new numbers, and new numbers
 -- only rename. Assumes nothing.
-use Prim.Native.Nat.{ℕ, zero, suc, min, _+_, _-_, _≤_, _<_}
+use Prim.Native.Nat.{ℕ, zero, suc, _+_, _-_, _≤_, _<_}
 use mathlib.Core.Path.{_≡_, refl, sym, ap, _∙_}
 use mathlib.Core.Bool.{Bool, true, false, cond}
 use mathlib.Core.List.{List, [], _∷_, _++_, map}
@@ -17,6 +17,7 @@ use Rattle.tables.specs.Changes.{isChild, hasChildren, fallen, reparented, rema
 use Rattle.tables.specs.Limits.{Limits}
 use Rattle.tables.specs.Lawful.{LoadFits, Lawful}
 use Rattle.tables.proofs.Lawful.{lawful}
+use Rattle.tables.proofs.Removed.{fallen-value}
 use Rattle.tables.proofs.Keeps.{drop-load-keeps}
 use Rattle.meaning.specs.Forest.{Item, Forest, nil, node, planned, checked, row, tree, Ordered, total, sum}
 use Rattle.meaning.specs.Runs.{Assigned, Starts, BranchRun, RowRun, Run, TreeRun}
@@ -31,34 +32,26 @@ use Rattle.meaning.specs.Leaving.{without, renumbered, before, risen, tr
 
 -- ---- the numbers after load k has left
 module _ (k : ℕ) where
-  -- the number by a sum, so that omega reads it
-  fallen-value : (n : ℕ) → fallen k n + min 1 (n - k) ≡ n
-  fallen-value n = go (ltb k n) refl
-    where
-      go : (t : Bool) → ltb k n ≡ t → pick t (n - 1) n + min 1 (n - k) ≡ n
-      go true e = omega (arith, ltb-true k n e)
-      go false e = omega (arith, ltb-false k n e)
-
   -- every number but load k's comes back
   fallen-back : (n : ℕ) → (n ≡ k → ⊥) → risen k (fallen k n) ≡ n
   fallen-back n other = go (ltb (fallen k n) k) refl
     where
       go : (t : Bool) → ltb (fallen k n) k ≡ t → pick t (fallen k n) (suc (fallen k n)) ≡ n
-      go true e = omega (arith, fallen-value n, ltb-true (fallen k n) k e)
-      go false e = omega (arith, fallen-value n, ltb-false (fallen k n) k e, other)
+      go true e = omega (arith, fallen-value k n, ltb-true (fallen k n) k e)
+      go false e = omega (arith, fallen-value k n, ltb-false (fallen k n) k e, other)
 
   -- the next number is one more, but the load after load k gets load k's own
   fallen-here : (n : ℕ) → eqb n k ≡ true → fallen k (suc n) ≡ fallen k n
-  fallen-here n e = omega (arith, fallen-value n, fallen-value (suc n), eqb-true n k e)
+  fallen-here n e = omega (arith, fallen-value k n, fallen-value k (suc n), eqb-true n k e)
 
   fallen-suc : (n : ℕ) → eqb n k ≡ false → fallen k (suc n) ≡ suc (fallen k n)
-  fallen-suc n e = omega (arith, fallen-value n, fallen-value (suc n), eqb-false n k e)
+  fallen-suc n e = omega (arith, fallen-value k n, fallen-value k (suc n), eqb-false n k e)
 
   -- two numbers that are not load k's are equal after the drop exactly if they were before
   fallen-eqb : (m n : ℕ) → eqb m k ≡ false → eqb n k ≡ false → eqb (fallen k m) (fallen k n) ≡ eqb m n
   fallen-eqb m n a b =
       same-test (eqb (fallen k m) (fallen k n)) (eqb m n)
-      (λ e. eq-eqb m n (omega (arith, eqb-true (fallen k m) (fallen k n) e, fallen-value m, fallen-value n, eqb-false m k a, eqb-false n k b)))
+      (λ e. eq-eqb m n (omega (arith, eqb-true (fallen k m) (fallen k n) e, fallen-value k m, fallen-value k n, eqb-false m k a, eqb-false n k b)))
       (λ e. eq-eqb (fallen k m) (fallen k n) (ap (fallen k) (eqb-true m n e)))
 
   -- the loads numbered from j, without load k: by number, where `remaining` goes by place

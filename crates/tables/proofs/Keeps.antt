@@ -4,7 +4,6 @@ use mathlib.Core.Path.{_≡_, refl}
 use mathlib.Core.Bool.{Bool, true, false, _&&_}
 use mathlib.Core.List.{List}
 use native.Mathlib.Omega.{arith}
-use native.Mathlib.Decide.{decLt}
 use borrow.Author.Tests.{leb-true, le-leb, lt-ltb, ltb-true, eqb-false}
 use lib.Bits.{or-lt}
 use lib.Pow.{pow-pos, pow-lt}
@@ -26,7 +25,7 @@ use Rattle.tables.specs.Limits.{between, maxStates, bookSize, sizeIn, ma
 use Rattle.tables.specs.Changes.{withBook, withLoads, withMarks, withRules, newBook, mark, addRule, addLoad, withFigure, setFigure, isChild, hasChildren, fallen, reparented, remaining, dropLoad, setBudget}
 use Rattle.tables.proofs.Parts.{BookParts, Parts, limits-parts, limits-whole}
 use Rattle.tables.proofs.Lawful.{inside, load-inside}
-use Rattle.tables.proofs.Removed.{stays, falls, same-parent, one-fewer}
+use Rattle.tables.proofs.Removed.{fallen-value, same-parent, one-fewer}
 
 -- ---- marks
 set-fits : (n x q : ℕ) → x < 2 ^ n → 1 ≤ q → q ≤ n → withMark maxStates x q < 2 ^ n
@@ -68,17 +67,10 @@ module _ (k : ℕ) (one : 1 ≤ k) where
   parent-in : (m p : ℕ) → k ≤ m → (p ≡ k → ⊥) → parentIn (suc m) p ≡ true → parentIn m (fallen k p) ≡ true
   parent-in zero p b other h = absurd (omega arith)
   parent-in (suc zero) p b other h = absurd (other (let i = inside 1 1 p h in omega arith))
-  parent-in (suc (suc m)) p b other h = go (decLt k p)
-    where
-      i : (1 ≤ p) × (p ≤ suc (suc m))
-      i = inside 1 (suc (suc m)) p h
-
-      at : (n : ℕ) → 1 ≤ n → n ≤ suc m → between 1 (suc m) n ≡ true
-      at n a b = rw (le-leb 1 n a) (le-leb n (suc m) b)
-
-      go : Dec (k < p) → between 1 (suc m) (fallen k p) ≡ true
-      go (yes l) = rw (falls k p l) (at (p - 1) (omega arith) (omega (arith, i)))
-      go (no l) = rw (stays k p (omega arith)) (at p (i .0) (omega (arith, other)))
+  parent-in (suc (suc m)) p b other h =
+      let i = inside 1 (suc (suc m)) p h in
+      let v = fallen-value k p in
+      rw (le-leb 1 (fallen k p) (omega arith)) (le-leb (fallen k p) (suc m) (omega (arith, other)))
 
   higher-in : (m : ℕ) (l : Load) → k ≤ m → isChild k l ≡ false → loadIn (suc m) l ≡ true → loadIn m (reparented k l) ≡ true
   unfolding loadIn

@@ -1,13 +1,15 @@
 -- A load that leaves: in an array it is the change on paper, and the tables after it keep the limits. Assumes nothing.
-use Prim.Native.Nat.{ℕ, zero, suc, _+_, _-_, _≤_, _<_}
-use mathlib.Core.Path.{_≡_, sym, ap, ap₂, _∙_}
-use mathlib.Core.Bool.{false}
+use Prim.Native.Nat.{ℕ, zero, suc, min, _+_, _-_, _≤_, _<_}
+use mathlib.Core.Path.{_≡_, refl, sym, ap, ap₂, _∙_}
+use mathlib.Core.Bool.{Bool, true, false}
 use mathlib.Core.List.{List, [], _∷_, _++_, map, append-nil}
 use native.Mathlib.Decide.{decLt}
 use native.Mathlib.Omega.{arith}
-use borrow.Author.Tests.{lt-ltb, le-ltb, le-leb, lt-leb}
+use borrow.Author.Tests.{ltb-true, ltb-false, le-leb, lt-leb}
+use lib.Dec.{ltb}
 use lib.ListN.{length, getD, set, take, drop, length-map, length-append, length-take, length-drop, drop-of-length-le, List·getD-eq-default, List·getD-map}
 use lib.Seq.{getD-drop, take-all, paste, paste-zero, paste-suc}
+use Rattle.lists.specs.Tests.{pick}
 use Rattle.lists.proofs.Bools.{and-false}
 use Rattle.lists.proofs.Arrays.{getD-end, length-laid, laid-without}
 use Rattle.marks.specs.Bits.{within}
@@ -21,16 +23,17 @@ use Rattle.tables.specs.Operations.{loadAt, movedDown, putLoads, loadRem
 use Rattle.tables.proofs.Lawful.{lawful}
 use Rattle.tables.proofs.Changes.{load-in, load-out}
 
--- ---- numbers: those up to k stay, those above fall
-pub stays : (k n : ℕ) → n ≤ k → fallen k n ≡ n
-stays k n h = rw (le-ltb k n h)
-
-pub falls : (k n : ℕ) → k < n → fallen k n ≡ n - 1
-falls k n h = rw (lt-ltb k n h)
+-- ---- numbers: those up to k stay, those above fall by one; as a sum, so that omega reads it
+pub fallen-value : (k n : ℕ) → fallen k n + min 1 (n - k) ≡ n
+fallen-value k n = go (ltb k n) refl
+  where
+    go : (t : Bool) → ltb k n ≡ t → pick t (n - 1) n + min 1 (n - k) ≡ n
+    go true e = omega (arith, ltb-true k n e)
+    go false e = omega (arith, ltb-false k n e)
 
 -- a load whose parent is not above k stays as it is, and so does what an unused place holds
 pub same-parent : (k : ℕ) (l : Load) → l .parent ≤ k → reparented k l ≡ l
-same-parent k l h = ap (λ (p : ℕ). record { parent = p; power = l .power; worth = l .worth }) (stays k (l .parent) h)
+same-parent k l h = ap (λ (p : ℕ). record { parent = p; power = l .power; worth = l .worth }) (omega (arith, fallen-value k (l .parent)))
 
 pub still-none : (k : ℕ) → reparented k noLoad ≡ noLoad
 still-none k = same-parent k noLoad (omega arith)
