@@ -195,6 +195,28 @@ def season(rng, model):
     return lines
 
 
+def one_rule_more():
+    """The largest book, with one rule of each sort more than there may be, and then one that is there already."""
+    states, stages = Model.most_states, Model.most_stages
+    rules = [b'rule,%d,0,%d' % (q, g) for q in range(1, states + 1) for g in range(1, stages + 1)]
+    rows = [b'row,1,%d,%d' % (q, h) for q in range(1, states + 1) for h in range(1, stages + 1)]
+    return [b'book,%d,%d' % (states, stages)] + [line for sort in (rules, rows) for line in (*sort[:Model.most_rules + 1], sort[0])]
+
+
+def all_cells():
+    """Plans that need every cell that is lent, and more."""
+    loads = Model.most_loads // 2
+    budget = Model.cells_lent // (2 * loads) - 1
+    lines = [b'book,1,1', b'load,0,0,0'] + [b'load,1,0,0'] * (loads - 1)
+    return lines + [b'budget,%d' % budget, b'plan', b'budget,%d' % (budget + 1), b'plan']
+
+
+def seldom():
+    """What random lines seldom have, in a session of its own."""
+    sizes = [b'book,%d,1' % (Model.most_states + 1), b'book,1,%d' % (Model.most_stages + 1)]
+    return sizes + one_rule_more() + all_cells() + [b'\0plan', b'\0budget,1', b'check,', b'save']
+
+
 def session(rng, model, count):
     """Lines for a program that starts fresh."""
     lines = []

@@ -98,12 +98,18 @@ def fed(program, session, parts):
     return len(found), printed_by(program, given, ended=bool(given))[:-1] == wanted
 
 
+def sessions(args, rng):
+    """The lines of each session: a short one of lines that are seldom, and random ones."""
+    yield lines.seldom()
+    for done in range(0, args.lines, SESSION):
+        yield lines.session(rng, Model(), min(SESSION, args.lines - done))
+
+
 def run_sessions(args, kind):
     """Runs the sessions: how many agree and differ, the answers counted, the trees fed, and the first sessions with what was printed."""
     rng = random.Random(args.seed)
     agree, differ, seen, trees, kept = 0, 0, Counter(), 0, []
-    for done in range(0, args.lines, SESSION):
-        session = lines.session(rng, Model(), min(SESSION, args.lines - done))
+    for place, session in enumerate(sessions(args, rng)):
         printed = printed_by(args.program, session, ended=rng.random() < 0.5 or session[-1] == b'')
         parts, difference = compare(kind(), session, printed, seen)
         if difference is None:
@@ -113,7 +119,7 @@ def run_sessions(args, kind):
         agree += difference is None
         differ += difference is not None
         if difference and differ <= 5:
-            print('session %d differs at %s' % (done // SESSION + 1, difference))
+            print('session %d differs at %s' % (place, difference))
         if len(kept) < KEPT:
             kept.append((session, printed))
     return agree, differ, seen, trees, kept
