@@ -1,30 +1,26 @@
 -- What an accepted drop gives: the tables without that load, and the answers of a planner into which they were entered without it.
 -- Assumes nothing.
 use Prim.Native.Nat.{ℕ, zero, suc, _-_, _≤_, _<_}
-use mathlib.Core.Path.{_≡_, refl, sym, ap, ap₂, _∙_}
+use mathlib.Core.Path.{_≡_, refl, sym, ap, ap₂, subst, _∙_}
 use mathlib.Core.Bool.{Bool, true, false}
 use mathlib.Core.List.{List, [], _∷_, _++_, map, append-assoc, map-append}
 use native.Mathlib.Nat.{le-of-suc-le-suc}
 use native.Mathlib.Omega.{arith}
-use lib.Dec.{eqb}
-use lib.ListN.{length, take, drop}
-use Rattle.lists.specs.Tests.{pick}
+use lib.ListN.{length, getD, take, drop}
 use Rattle.lists.specs.Each as each
 use Rattle.lists.specs.Each.{Each}
-use Rattle.lists.proofs.Each.{each-append}
-use Rattle.marks.specs.Bits.{hasMark}
-use Rattle.marks.specs.declared.Marks.{Marks}
 use Rattle.lines.specs.declared.Change.{Change}
 use Rattle.lines.specs.declared.Change.the-variants as to
 use Rattle.lines.specs.declared.Command.the-variants as line
 use Rattle.lines.specs.Grammar.{lineCommand}
 use Rattle.lines.specs.Input.{lines}
-use Rattle.lines.specs.Saved.{markChanges, ruleChange, loadChange, sizeChange, bookChanges, saved, changesText}
+use Rattle.lines.specs.Saved.{markChange, ruleChange, loadChange, bookChanges, saved, changesText}
+use Rattle.lines.proofs.SaveText.{each-book}
 use Rattle.tables.specs.declared.rule.Sort.{Sort}
 use Rattle.tables.specs.declared.rule.Sort.the-variants as sort
 use Rattle.tables.specs.declared.rule.Transition.{Transition}
 use Rattle.tables.specs.declared.load.Load.{Load}
-use Rattle.tables.specs.Tables.{Book, Tables}
+use Rattle.tables.specs.Tables.{Book, Tables, noRule, rulesFor}
 use Rattle.tables.specs.Limits.{Limits}
 use Rattle.tables.specs.Stored.{stored, tablesOf}
 use Rattle.tables.specs.Changes.{hasChildren, fallen, reparented, remaining, dropLoad}
@@ -34,19 +30,17 @@ use Rattle.tables.proofs.Removed.{one-fewer}
 use Rattle.tables.proofs.Keeps.{drop-load-keeps}
 use Rattle.meaning.proofs.Leaving.{left}
 use Rattle.calls.specs.State.{State, StoredState, storedState, stateOf, Within, Kept}
-use Rattle.calls.specs.Rows.{Row, load, changes, changing, row, lineRow}
-use Rattle.calls.specs.Causes.{lowest}
-use Rattle.calls.specs.Effects.{stateBy}
+use Rattle.calls.specs.Rows.{load, changing}
 use Rattle.calls.specs.Calls.{Call, Done, rowFor, numberFor, after, answer, called}
 use Rattle.calls.specs.Demand3.{Exchange, History, last}
-use Rattle.calls.specs.Saves.{linesOf, AllFree}
+use Rattle.calls.specs.Saves.{Takes, linesOf, AllFree}
 use Rattle.calls.specs.Drops.{ifLoad, withoutLine, withParent, enteredWithout, DropCall, SameAnswers, Dropped}
 use Rattle.calls.proofs.State.{places, kept-within, kept-stored}
 use Rattle.calls.proofs.Rows.{may-leave}
-use Rattle.calls.proofs.Refusals.{after-number}
+use Rattle.calls.proofs.Refusals.{change-row, change-after}
 use Rattle.calls.proofs.Answers.{called-stored}
 use Rattle.calls.proofs.Keeps.{none-of-row}
-use Rattle.calls.proofs.Rebuilds.{load-accepted}
+use Rattle.calls.proofs.Rebuilds.{load-accepted, rebuilds}
 use Rattle.calls.proofs.Saves.{ends}
 
 -- ---- lines that enter no load
@@ -81,35 +75,16 @@ same-others k each.none = refl
 same-others k (each.more {x = c} {xs = cs} h hs) = λ i. gives-other (λ p w v. to.Load (fallen k p) w v) c c h i ∷ same-others k hs i
 
 -- ---- a book is entered by such lines
-others-if : (b : Bool) {cs : List Change} → Others cs → Others (pick b cs [])
-others-if true h = h
-others-if false h = each.none
+other-mark : (k : Sort) (q : ℕ) → other (markChange k q) ≡ true
+other-mark sort.Load q = refl
+other-mark sort.Row q = refl
 
-others-size : (s g : ℕ) → Others (sizeChange s g)
-unfolding sizeChange
-others-size s g = go (eqb s 0)
-  where
-    go : (b : Bool) → Others (pick b [] (to.Book s g ∷ []))
-    go true = each.none
-    go false = each.more refl each.none
-
-others-marks : (k : Sort) (m : Marks) (n : ℕ) → Others (markChanges k m n)
-unfolding markChanges
-others-marks k m zero = each.none
-others-marks sort.Load m (suc n) = each-append (others-marks sort.Load m n) (others-if (hasMark (m .0) (suc n)) (each.more refl each.none))
-others-marks sort.Row m (suc n) = each-append (others-marks sort.Row m n) (others-if (hasMark (m .0) (suc n)) (each.more refl each.none))
-
-others-rules : (k : Sort) (rs : List Transition) → Others (map (ruleChange k) rs)
-others-rules k [] = each.none
-others-rules sort.Load (r ∷ rs) = each.more refl (others-rules sort.Load rs)
-others-rules sort.Row (r ∷ rs) = each.more refl (others-rules sort.Row rs)
+other-rule : (k : Sort) (r : Transition) → other (ruleChange k r) ≡ true
+other-rule sort.Load r = refl
+other-rule sort.Row r = refl
 
 others-book : (b : Book) → Others (bookChanges b)
-unfolding bookChanges
-others-book b =
-    let starts = each-append (others-size (b .states) (b .stages)) (others-marks sort.Load (b .starts) (b .states)) in
-    let ends = each-append starts (others-marks sort.Row (b .ends) (b .stages)) in
-    each-append (each-append ends (others-rules sort.Load (b .loadRules))) (others-rules sort.Row (b .rowRules))
+others-book b = each-book (λ c. other c ≡ true) b refl (λ k q l. other-mark k q) (λ k j l. other-rule k (getD (rulesFor b k) j noRule))
 
 -- ---- the lines of the loads
 without-load : (j : ℕ) (ls : List Load) (ds : List Change) → j < length ls → withoutLine j (map loadChange ls ++ ds) ≡ map loadChange (take j ls ++ drop (suc j) ls) ++ ds
@@ -142,20 +117,10 @@ saves-without t (suc j) one most =
     )
 
 -- ---- a call on `drop,k` that was accepted
-module _ (s : State) (h : Within s) (c : Call) (k : ℕ) (on : lineCommand (c .line) ≡ line.Change (to.Drop k)) (accepted : numberFor s c ≡ 0) where
-  drop-row : rowFor s c ≡ changes (changing (s .tables) (to.Drop k))
-  unfolding lineRow row
-  drop-row = ap (row s) on
-
-  passes : lowest (changing (s .tables) (to.Drop k) .causes) ≡ 0
-  passes = rw drop-row at (none-of-row (length (c .work)) (length (c .output)) (c .place) (rowFor s c) accepted)
-
-  leaves : ((1 ≤ k) × (k ≤ length (s .tables .loads))) × (hasChildren k (s .tables .loads) ≡ false)
-  leaves = may-leave (s .tables) k passes
-
-  after-drop : after s c .tables ≡ dropLoad (s .tables) k
-  unfolding changing
-  after-drop = ap (λ (y : State). y .tables) (after-number s c ∙ ap₂ (λ (n : ℕ) (r : Row). stateBy s n r) accepted drop-row)
+leaves : (s : State) (c : Call) (k : ℕ) → lineCommand (c .line) ≡ line.Change (to.Drop k) → numberFor s c ≡ 0
+    → ((1 ≤ k) × (k ≤ length (s .tables .loads))) × (hasChildren k (s .tables .loads) ≡ false)
+leaves s c k on accepted =
+    may-leave (s .tables) k (rw (change-row s c (to.Drop k) on) at (none-of-row (length (c .work)) (length (c .output)) (c .place) (rowFor s c) accepted))
 
 no-more : (ls : List Load) → length ls ≡ 0 → ls ≡ []
 no-more [] e = refl
@@ -170,6 +135,7 @@ drops {n} p h c k d = record {
   fewer = fewer;
   emptied = λ e. no-more (u .loads) (omega (arith, fewer));
   filled = λ a b v e. record { accepted = load-accepted (t .places) (u .loads) (load a b v) (rw fewer e) (omega (arith, fewer, lawful t (w .tables) .loads)); after = refl };
+  rebuilt = λ v e. subst (λ (cs : List Change). Takes v cs u) lines-left (rebuilds u keeps v e);
   saves = ap saved (ap tablesOf held ∙ tables-stored u keeps) ∙ lines-left;
   entered = enters;
   left = left t (w .tables) k (leave .0 .0) (leave .0 .1) (leave .1);
@@ -194,7 +160,7 @@ drops {n} p h c k d = record {
     none = sym (ap (λ (x : Done). x .reply .number) done) ∙ d .accepted
 
     leave : ((1 ≤ k) × (k ≤ length (t .loads))) × (hasChildren k (t .loads) ≡ false)
-    leave = leaves s w c k (d .line) none
+    leave = leaves s c k (d .line) none
 
     keeps : Limits u
     keeps = drop-load-keeps t (w .tables) k (leave .0 .0) (leave .0 .1) (leave .1)
@@ -206,7 +172,7 @@ drops {n} p h c k d = record {
     full = places (p .tables) (h .tables)
 
     held : called p c .state .tables ≡ stored u
-    held = ap (λ (x : Done). x .state .tables) done ∙ ap stored (after-drop s w c k (d .line) none)
+    held = ap (λ (x : Done). x .state .tables) done ∙ ap stored (change-after s c (to.Drop k) (d .line) none)
 
     lines-left : saved u ≡ enteredWithout k (saved t)
     lines-left = saves-without t k (leave .0 .0) (leave .0 .1)

@@ -1,6 +1,6 @@
 -- The number of a row, and that it acts exactly if its number is 0. Assumes nothing.
 use Prim.Native.Nat.{ℕ, zero, suc, _≤_, _<_}
-use mathlib.Core.Path.{_≡_, refl, sym, _∙_}
+use mathlib.Core.Path.{_≡_, refl, sym, ap, ap₂, _∙_}
 use mathlib.Core.Bool.{Bool}
 use mathlib.Core.List.{_∷_}
 use mathlib.Core.Logic.{_⊎_, inl, inr}
@@ -8,10 +8,13 @@ use native.Mathlib.Nat.{eq-zero-or-pos}
 use native.Mathlib.Omega.{arith}
 use lib.Dec.{lit≤}
 use lib.ListN.{length}
+use Rattle.lines.specs.declared.Change.{Change}
+use Rattle.lines.specs.declared.Command.the-variants as line
+use Rattle.lines.specs.Grammar.{lineCommand}
 use Rattle.tables.specs.Refusals as no
 use Rattle.tables.specs.Tables.{Tables}
 use Rattle.calls.specs.State.{State}
-use Rattle.calls.specs.Rows.{_if_, Row, changes, shows, works, causesOf}
+use Rattle.calls.specs.Rows.{_if_, Row, changes, shows, works, changing, row, lineRow, causesOf}
 use Rattle.calls.specs.Causes.{lowest, allCauses, refusal, Lowest}
 use Rattle.calls.specs.Effects.{acted, changed, stateBy}
 use Rattle.calls.specs.Calls.{Call, rowFor, after, numberFor}
@@ -54,6 +57,15 @@ acts-alike t m n room place (works b k before after x) = still (refusal m room p
 pub after-number : (s : State) (c : Call) → after s c ≡ stateBy s (numberFor s c) (rowFor s c)
 unfolding changed
 after-number s c = λ i. record { tables = acts-alike (s .tables) 0 (length (c .work)) (length (c .output)) (c .place) (rowFor s c) i }
+
+-- the line of a change: its row, and the tables that it leaves where it is accepted
+module _ (s : State) (x : Call) (c : Change) (on : lineCommand (x .line) ≡ line.Change c) where
+  pub change-row : rowFor s x ≡ changes (changing (s .tables) c)
+  unfolding lineRow row
+  change-row = ap (row s) on
+
+  pub change-after : numberFor s x ≡ 0 → after s x .tables ≡ changing (s .tables) c .after
+  change-after e = ap (λ (y : State). y .tables) (after-number s x ∙ ap₂ (λ (n : ℕ) (r : Row). stateBy s n r) e change-row)
 
 -- "a refused one not at all"
 pub refused-keeps : (s : State) (c : Call) → 0 < numberFor s c → after s c ≡ s

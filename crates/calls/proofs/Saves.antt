@@ -10,7 +10,7 @@ use Rattle.lists.specs.Each.{Each}
 use Rattle.lines.specs.declared.Change.{Change}
 use Rattle.lines.specs.declared.Command.the-variants as line
 use Rattle.lines.specs.Length.{mostBytes, tooLong}
-use Rattle.lines.specs.Grammar.{parse}
+use Rattle.lines.specs.Grammar.{parse, lineCommand}
 use Rattle.lines.specs.Written.{written}
 use Rattle.lines.specs.Saved.{saveText}
 use Rattle.lines.specs.Answers.{freeBytes, ok}
@@ -23,7 +23,7 @@ use Rattle.tables.specs.Tables.{Tables}
 use Rattle.tables.specs.Limits.{Limits}
 use Rattle.tables.specs.Stored.{stored}
 use Rattle.calls.specs.State.{State, StoredState, storedState, stateOf, Within, Kept}
-use Rattle.calls.specs.Rows.{Row, changing, row}
+use Rattle.calls.specs.Rows.{Row, changes, changing, row}
 use Rattle.calls.specs.Causes.{lowest, refusal}
 use Rattle.calls.specs.Effects.{stateBy}
 use Rattle.calls.specs.Printing.{text, zeroed, workAfter}
@@ -32,8 +32,8 @@ use Rattle.calls.specs.Demand1.{bytesNeeded}
 use Rattle.calls.specs.Demand3.{Exchange, History, last, paperFrom, Right}
 use Rattle.calls.specs.Saves.{SaveCall, SaveRight, Step, Takes, none, next, linesOf, AllFree, Accepted, Restored}
 use Rattle.calls.proofs.State.{places, is-stored, state-stored, kept-within, kept-stored}
-use Rattle.calls.proofs.Answers.{roomy, row-is, called-stored, answer-at}
-use Rattle.calls.proofs.Refusals.{after-number}
+use Rattle.calls.proofs.Answers.{roomy, command-is, row-is, called-stored, answer-at}
+use Rattle.calls.proofs.Refusals.{after-number, change-row, change-after}
 use Rattle.calls.proofs.Printed.{written-is}
 use Rattle.calls.proofs.ByCommand.{needed-range}
 use Rattle.calls.proofs.Demand3.{history-right}
@@ -82,23 +82,21 @@ module _ (s : State) (x : Call) (c : Change) (on : x .line ≡ written c) (b : R
   room : x .place + freeBytes ≤ length (x .output)
   room = omega (arith, needed-range (x .line))
 
-  line-row : rowFor s x ≡ row s (line.Change c)
-  line-row = row-is s x (line.Change c) (ap parse on ∙ b .read) (ap tooLong on ∙ le-ltb mostBytes (length (written c)) (b .short))
+  command : lineCommand (x .line) ≡ line.Change c
+  command = command-is (x .line) (line.Change c) (ap parse on ∙ b .read) (ap tooLong on ∙ le-ltb mostBytes (length (written c)) (b .short))
 
   line-number : numberFor s x ≡ 0
-  unfolding row
   line-number =
-      ap (refusal (length (x .work)) (length (x .output)) (x .place)) line-row
-      ∙ roomy (length (x .work)) (length (x .output)) (x .place) (row s (line.Change c)) room
+      ap (refusal (length (x .work)) (length (x .output)) (x .place)) (change-row s x c command)
+      ∙ roomy (length (x .work)) (length (x .output)) (x .place) (changes (changing (s .tables) c)) room
       ∙ passes
 
   line-after : after s x .tables ≡ changing (s .tables) c .after
-  unfolding row
-  line-after = ap (λ (y : State). y .tables) (after-number s x ∙ ap₂ (λ (n : ℕ) (r : Row). stateBy s n r) line-number line-row)
+  line-after = change-after s x c command line-number
 
   line-answer : answer s x ≡ reply x 0 ok (x .work)
-  unfolding row text workAfter zeroed
-  line-answer = answer-at s x 0 (row s (line.Change c)) line-number line-row
+  unfolding text workAfter zeroed
+  line-answer = answer-at s x 0 (changes (changing (s .tables) c)) line-number (change-row s x c command)
 
   line-accepted : (d : Done) → d .reply ≡ answer s x → Accepted (record { call = x; done = d })
   line-accepted d e =

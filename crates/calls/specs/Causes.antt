@@ -1,5 +1,5 @@
 -- What refuses a call, and with which number.
--- It stands for the table of "Causes and numbers" of paper 01; rows 2 to 10 stand in `Rows`. Assumes nothing.
+-- It stands for the table of "Causes and numbers" of paper 01; the rows from 2 on stand in `Rows`. Assumes nothing.
 use Prim.Native.Nat.{ℕ, _+_, _≤_, _<_}
 use mathlib.Core.Path.{_≡_}
 use mathlib.Core.Bool.{true, false}

@@ -22,7 +22,7 @@ use Rattle.calls.specs.State.{StoredState, stateOf, Kept}
 use Rattle.calls.specs.Rows.{load}
 use Rattle.calls.specs.Calls.{Call, Done, called}
 use Rattle.calls.specs.Demand3.{Exchange, History, last}
-use Rattle.calls.specs.Saves.{Step, linesOf, AllFree, Accepted}
+use Rattle.calls.specs.Saves.{Step, Takes, linesOf, AllFree, Accepted}
 
 -- ---- the commands of a tree entered without load k
 -- what the line of a load gives, and every other line
@@ -75,8 +75,10 @@ pub record Dropped (n : ℕ) (t : Tables) (k : ℕ) (q : StoredState) : Type 0 w
   pub emptied : length (t .loads) ≡ 1 → dropLoad t k .loads ≡ []
   -- "The place freed can be filled again": a load whose figures are in range is taken
   pub filled : (p w v : ℕ) → loadIn (length (t .loads)) (load p w v) ≡ true → Step (dropLoad t k) (to.Load p w v) (addLoad (dropLoad t k) (load p w v))
-  -- its save is the save before, without that load; and a planner into which those lines were entered, from any lawful state, answers as it does
+  -- its save is the save before, without that load; every tables take these lines, and end as those after the drop; and a planner into which they
+  -- were entered, from any lawful state, answers as it does
   pub saves : saved (stateOf q .tables) ≡ enteredWithout k (saved t)
+  pub rebuilt : (u : Tables) → u .places ≡ t .places → Takes u (enteredWithout k (saved t)) (dropLoad t k)
   pub entered : (p : StoredState) → Kept n p → (xs : List Exchange) → History p xs
       → linesOf xs ≡ lines (changesText (enteredWithout k (saved t))) → AllFree xs → SameAnswers q p xs
   -- and its tree is the tree before, without that leaf

@@ -6,7 +6,7 @@ use mathlib.Core.List.{List, [], _∷_, _++_, map}
 use native.Mathlib.Nat.{suc-mul}
 use native.Mathlib.Omega.{arith}
 use lib.Dec.{eqb, lit≤}
-use lib.ListN.{length, length-append}
+use lib.ListN.{length, getD, length-append}
 use Rattle.lists.specs.Tests.{pick}
 use Rattle.marks.specs.declared.Marks.{Marks}
 use Rattle.marks.specs.Bits.{hasMark}
@@ -21,12 +21,39 @@ use Rattle.tables.specs.declared.rule.Sort.{Sort}
 use Rattle.tables.specs.declared.rule.Sort.the-variants as sort
 use Rattle.tables.specs.declared.rule.Transition.{Transition}
 use Rattle.tables.specs.declared.load.Load as load
-use Rattle.tables.specs.Tables.{Book, Tables, noRule, noLoad, rulesFor}
+use Rattle.tables.specs.Tables.{Book, Tables, noRule, noLoad, sizeFor, rulesFor}
 use Rattle.tables.specs.Limits.{maxStates, rangeFor, Limits}
 use Rattle.tables.specs.Lawful.{RuleFits, Lawful}
 use Rattle.tables.proofs.Lawful.{lawful}
 use Rattle.lists.specs.Each.{Each, none, more}
 use Rattle.lists.proofs.Each.{each-append, each-map}
+
+-- ---- what holds of each change of a book
+module _ (P : Change → Type 0) where
+  each-mark : (k : Sort) (m : Marks) (n : ℕ) → ((q : ℕ) → q ≤ n → P (markChange k q)) → Each P (markChanges k m n)
+  unfolding markChanges
+  each-mark k m zero h = none
+  each-mark k m (suc n) h = each-append (each-mark k m n (λ q l. h q (omega arith))) (go (hasMark (m .0) (suc n)))
+    where
+      go : (b : Bool) → Each P (pick b (markChange k (suc n) ∷ []) [])
+      go true = more (h (suc n) (omega arith)) none
+      go false = none
+
+  each-size : (s g : ℕ) → P (to.Book s g) → Each P (sizeChange s g)
+  unfolding sizeChange
+  each-size s g h = go (eqb s 0)
+    where
+      go : (b : Bool) → Each P (pick b [] (to.Book s g ∷ []))
+      go true = none
+      go false = more h none
+
+  pub each-book : (b : Book) → P (to.Book (b .states) (b .stages)) → ((k : Sort) (q : ℕ) → q ≤ sizeFor b k → P (markChange k q))
+      → ((k : Sort) (j : ℕ) → j < length (rulesFor b k) → P (ruleChange k (getD (rulesFor b k) j noRule))) → Each P (bookChanges b)
+  unfolding bookChanges
+  each-book b size mark rule =
+      let starts = each-append (each-size (b .states) (b .stages) size) (each-mark sort.Load (b .starts) (b .states) (mark sort.Load)) in
+      let ends = each-append starts (each-mark sort.Row (b .ends) (b .stages) (mark sort.Row)) in
+      each-append (each-append ends (each-map (ruleChange sort.Load) noRule (b .loadRules) (rule sort.Load))) (each-map (ruleChange sort.Row) noRule (b .rowRules) (rule sort.Row))
 
 -- ---- figures of at most four digits
 abbrev pub Few : ℕ → Type 0
@@ -54,15 +81,6 @@ unfolding FewDigits lineOf
 few-rule sort.Load r a b c = three a b c
 few-rule sort.Row r a b c = three a b c
 
-few-marks : (k : Sort) (m : Marks) (n : ℕ) → n ≤ maxStates → Each FewDigits (markChanges k m n)
-unfolding markChanges
-few-marks k m zero h = none
-few-marks k m (suc n) h = each-append (few-marks k m n (omega arith)) (go (hasMark (m .0) (suc n)))
-  where
-    go : (b : Bool) → Each FewDigits (pick b (markChange k (suc n) ∷ []) [])
-    go true = more (few-mark k (suc n) (omega arith)) none
-    go false = none
-
 module _ (t : Tables) (h : Limits t) where
   w : Lawful t
   w = lawful t h
@@ -71,16 +89,15 @@ module _ (t : Tables) (h : Limits t) where
   few-ranges sort.Load {r} f = few-rule sort.Load r (omega (arith, f .begins, w .states)) (omega (arith, f .gives)) (omega (arith, f .leads, w .stages))
   few-ranges sort.Row {r} f = few-rule sort.Row r (omega (arith, f .begins, w .stages)) (omega (arith, f .gives, w .states)) (omega (arith, f .leads, w .stages))
 
-  few-rules : (k : Sort) → Each FewDigits (map (ruleChange k) (rulesFor (t .book) k))
-  few-rules k = each-map (ruleChange k) noRule (rulesFor (t .book) k) (λ j l. few-ranges k (w .rule k j l))
+  few-sizes : (k : Sort) → sizeFor (t .book) k ≤ maxStates
+  few-sizes sort.Load = w .states
+  few-sizes sort.Row = w .stages
 
-  few-size : Each FewDigits (sizeChange (t .book .states) (t .book .stages))
-  unfolding sizeChange FewDigits lineOf
-  few-size = go (eqb (t .book .states) 0)
-    where
-      go : (b : Bool) → Each FewDigits (pick b [] (to.Book (t .book .states) (t .book .stages) ∷ []))
-      go true = none
-      go false = more (two {a = t .book .states} {b = t .book .stages} (omega (arith, w .states)) (omega (arith, w .stages))) none
+  few-book : Each FewDigits (bookChanges (t .book))
+  unfolding FewDigits lineOf
+  few-book =
+      each-book FewDigits (t .book) (two (omega (arith, w .states)) (omega (arith, w .stages)))
+      (λ k q l. few-mark k q (omega (arith, few-sizes k))) (λ k j l. few-ranges k (w .rule k j l))
 
   few-loads : Each FewDigits (map loadChange (t .loads))
   unfolding FewDigits lineOf
@@ -90,12 +107,8 @@ module _ (t : Tables) (h : Limits t) where
       three (omega (arith, f .parent, w .loads, w .places)) (omega (arith, f .power)) (omega (arith, f .worth)))
 
   pub saved-few : Each FewDigits (saved t)
-  unfolding saved bookChanges FewDigits lineOf
-  saved-few =
-      each-append (each-append (each-append (more none none)
-      (each-append (each-append (each-append (each-append few-size (few-marks sort.Load (t .book .starts) (t .book .states) (w .states)))
-      (few-marks sort.Row (t .book .ends) (t .book .stages) (w .stages))) (few-rules sort.Load)) (few-rules sort.Row)))
-      few-loads) (more (one (omega (arith, w .budget))) none)
+  unfolding saved FewDigits lineOf
+  saved-few = each-append (each-append (more none few-book) few-loads) (more (one (omega (arith, w .budget))) none)
 
 -- ---- how long a text is
 -- a line of such figures

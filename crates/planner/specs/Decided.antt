@@ -26,7 +26,7 @@ unfoldable pub decidedBy : State → (number : ℕ) → Row → Decided
 decidedBy s n r =
     record { answer = shownBy n r .answer; run = runOf (shownBy n r .entries); planner = plannerOf (storedState (stateBy s n r)) }
 
--- of a row, where there is room for the answer: rows 2 to 10 of "Causes and numbers"
+-- of a row, where there is room for the answer: the rows from 2 on of "Causes and numbers"
 abbrev pub decided : State → (cells : ℕ) → Row → Decided
 decided s m r = decidedBy s (lowest (causesOf m r)) r
 

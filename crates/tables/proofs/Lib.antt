@@ -4,8 +4,8 @@ pub mod Lawful
 pub mod Kept
 pub mod Stored
 pub mod Places
-pub mod Keeps
 pub mod Numbers
 pub mod Changes
-pub mod Examples
 pub mod Removed
+pub mod Keeps
+pub mod Examples

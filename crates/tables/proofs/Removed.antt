@@ -1,4 +1,4 @@
--- A load that leaves: in an array it is the change on paper, and the tables after it keep the limits. Assumes nothing.
+-- A load that leaves: the numbers that fall, one load fewer, and in an array the change on paper. Assumes nothing.
 use Prim.Native.Nat.{ℕ, zero, suc, min, _+_, _-_, _≤_, _<_}
 use mathlib.Core.Path.{_≡_, refl, sym, ap, ap₂, _∙_}
 use mathlib.Core.Bool.{Bool, true, false}
@@ -35,7 +35,7 @@ fallen-value k n = go (ltb k n) refl
 pub same-parent : (k : ℕ) (l : Load) → l .parent ≤ k → reparented k l ≡ l
 same-parent k l h = ap (λ (p : ℕ). record { parent = p; power = l .power; worth = l .worth }) (omega (arith, fallen-value k (l .parent)))
 
-pub still-none : (k : ℕ) → reparented k noLoad ≡ noLoad
+still-none : (k : ℕ) → reparented k noLoad ≡ noLoad
 still-none k = same-parent k noLoad (omega arith)
 
 -- ---- one load fewer
@@ -51,7 +51,11 @@ one-fewer k ls one most =
     )
 
 -- ---- in an array
--- where each later load comes down: the turns of a loop from place k - 1 on
+-- what it holds when the places below i hold what they will, and the others what they did
+abbrev pub cameTo : LoadList → (k i : ℕ) → List Load
+cameTo l k i = paste (l .items) (k - 1) (movedDown k (l .items)) (i - (k - 1))
+
+-- the turns of a loop from place k - 1 on
 module _ (n : ℕ) (l : LoadList) (k : ℕ) (full : placesOf l ≡ n) (one : 1 ≤ k) (most : k ≤ n) where
   length-moved : length (movedDown k (l .items)) ≡ n - (k - 1)
   length-moved =
@@ -73,13 +77,10 @@ module _ (n : ℕ) (l : LoadList) (k : ℕ) (full : placesOf l ≡ n) (one : 1 �
       ∙ List·getD-map f (drop k (l .items)) j noLoad
       ∙ ap f (getD-drop k (l .items) j noLoad ∙ load-here (k + j))
 
-  abbrev pub cameTo : ℕ → List Load
-  cameTo i = paste (l .items) (k - 1) (movedDown k (l .items)) (i - (k - 1))
-
-  pub none-came : l .items ≡ cameTo (k - 1)
+  pub none-came : l .items ≡ cameTo l k (k - 1)
   none-came = let e : k - 1 - (k - 1) ≡ 0 = omega arith in rw e (paste-zero (l .items) (k - 1) (movedDown k (l .items)))
 
-  pub next-came : (i : ℕ) {items : List Load} {x : Load} → k - 1 ≤ i → i < n → items ≡ cameTo i → x ≡ reparented k (loadAt l (i + 2)) → set items i x ≡ cameTo (i + 1)
+  pub next-came : (i : ℕ) {items : List Load} {x : Load} → k - 1 ≤ i → i < n → items ≡ cameTo l k i → x ≡ reparented k (loadAt l (i + 2)) → set items i x ≡ cameTo l k (i + 1)
   next-came i low high came got =
       let s = movedDown k (l .items) in
       let j = i - (k - 1) in
@@ -87,11 +88,11 @@ module _ (n : ℕ) (l : LoadList) (k : ℕ) (full : placesOf l ≡ n) (one : 1 �
       let number : suc (k + j) ≡ i + 2 = omega arith in
       let more : suc j ≡ i + 1 - (k - 1) = omega arith in
       ap₂ (λ (xs : List Load) (y : Load). set xs i y) came (got ∙ ap (λ (m : ℕ). reparented k (loadAt l m)) (sym number) ∙ sym (moved-here j))
-      ∙ ap (λ (m : ℕ). set (cameTo i) m (getD s j noLoad)) (sym at)
+      ∙ ap (λ (m : ℕ). set (cameTo l k i) m (getD s j noLoad)) (sym at)
       ∙ paste-suc (l .items) (k - 1) s j noLoad (omega arith) (omega (arith, length-moved))
       ∙ ap (paste (l .items) (k - 1) s) more
 
-  pub all-came : take (k - 1) (l .items) ++ movedDown k (l .items) ≡ cameTo n
+  pub all-came : take (k - 1) (l .items) ++ movedDown k (l .items) ≡ cameTo l k n
   all-came =
       let s = movedDown k (l .items) in
       rw (take-all (n - (k - 1)) s (omega (arith, length-moved)), drop-of-length-le (l .items) {i = k - 1 + (n - (k - 1))} (omega arith), append-nil)

@@ -1,6 +1,7 @@
 -- What each operation on the tables in a planner gives, for any contents of its arrays: the number, 0 where it is accepted, and the tables
 -- after it. It stands for the refusals 6 and 7 of "Causes and numbers" and for "an accepted line changes them as its row below says, a
--- refused one not at all" of paper 01. On tables that keep the limits these are the changes on paper (proofs/Changes). Assumes nothing.
+-- refused one not at all" of paper 01, and for "`drop,k` removes load k" of request Three of paper 02. On tables that keep the limits these are
+-- the changes on paper (proofs/Changes, proofs/Removed). Assumes nothing.
 use Prim.Native.Nat.{ℕ, zero, suc, _+_, _-_}
 use mathlib.Core.Bool.{Bool, false, _&&_}
 use mathlib.Core.List.{List, [], _∷_, _++_, map}

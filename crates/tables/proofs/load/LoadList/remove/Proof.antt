@@ -4,19 +4,17 @@ use mathlib.Core.Path.{_≡_, sym, ap, _∙_}
 use native.Mathlib.Omega.{arith}
 use borrow.Author.Needs.{needs}
 use lib.ListN.{length}
-use lib.Seq.{paste}
 use Rattle.lists.proofs.Arrays.{of-map}
 use Rattle.marks.proofs.Laws.{within-over}
 use Rattle.tables.specs.Limits.{maxLoads}
 use Rattle.tables.specs.Changes.{reparented}
-use Rattle.tables.specs.Operations.{movedDown}
-use Rattle.tables.proofs.Removed.{none-came, next-came, all-came, removed-in, removed-out, removed-past}
+use Rattle.tables.proofs.Removed.{cameTo, none-came, next-came, all-came, removed-in, removed-out, removed-past}
 use Rattle.tables.proofs.load.LoadList.remove.Statement.{statement}
 use Rattle.tables.proofs.load.LoadList.remove.Tie as tie
 
 abbrev Inv-loop : tie.InvT-loop
 Inv-loop self number next₀ i₀ next i =
-    (number - 1 ≤ i) × (i ≤ maxLoads) × (next .items ≡ paste (self .items) (number - 1) (movedDown number (self .items)) (i - (number - 1)))
+    (number - 1 ≤ i) × (i ≤ maxLoads) × (next .items ≡ cameTo self number i)
 
 abbrev μ-loop : tie.MeasureT-loop
 μ-loop self number next₀ i₀ next i = maxLoads - i
