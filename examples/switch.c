@@ -80,7 +80,8 @@ static bool is_on(uint64_t set, size_t load)
     return (set >> (load - 1) & 1) != 0;
 }
 
-/* Switches the port of a load. */
+/* Switches the port of a load. Here a port has the number of its load. A switch goes through a table from loads to ports, and forget_port moves
+ * the entries of that table too. */
 static void set_port(size_t load, bool on)
 {
     port_on[load - 1] = on;

@@ -71,8 +71,9 @@ def session_fault(rng, library, other, lines):
         got = planner.call(line, output, place, work)
         if got != want:
             return '%r at %d in %d bytes with %d cells: %r for %r' % (line, place, len(output), len(work) // 4, got[:2], want[:2])
-        if left_fault(planner, oracle, line):
-            return left_fault(planner, oracle, line)
+        fault = left_fault(planner, oracle, line)
+        if fault:
+            return fault
     return None if rebuilds(planner, other) else 'the save after %r does not rebuild the planner' % lines
 
 
@@ -100,8 +101,9 @@ def edge_fault(planner, case):
         oracle.answer(line)
         if got != answer:
             return '%r: %r for %r' % (line, got, answer)
-        if left_fault(planner, oracle, line):
-            return left_fault(planner, oracle, line)
+        fault = left_fault(planner, oracle, line)
+        if fault:
+            return fault
     return None
 
 
