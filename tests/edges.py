@@ -1,4 +1,5 @@
-"""Sessions of drops by name, each with its answers as request Three of paper 02 has them, written by hand.
+"""Sessions of drops by name, each with its answers as request Three of paper 02 has them, written by hand but for the listings of
+the fullest tree, which a formula makes.
 
 In the text of a session a row is `LINE LINE .. -> ANSWER`: each of the lines has this answer, and an answer's lines are parted by blanks.
 """
