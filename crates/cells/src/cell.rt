@@ -5,8 +5,8 @@ ghost use Rattle.meaning.specs.Cell.{cell, powerLimit, _⊕_};
 ghost use Rattle.tables.specs.Limits.{maxWorth};
 ghost use Rattle.cells.specs.Work.{cellLimit, heldIn};
 
-// The cell of the empty set.
-pub const EMPTY: u32 = 1;
+// The cell of the empty set. A load's worth counts in units of it, and its power against it.
+pub const EMPTY: u32 = 512;
 
 // No cell of a search passes this, and two numbers below it fit 32 bits together.
 const CELL_LIMIT: u32 = 1073741824;
@@ -24,7 +24,7 @@ pub(crate) fn greater(x: u32, y: u32) -> u32
     if x < y { y } else { x }
 }
 
-// The cell of two disjoint sets together. Where x stays the same a loop over y has no branch.
+// The cell of two disjoint sets together. Where x stays the same a loop over y has no branch: one least y tells whether there is any.
 pub fn join(x: u32, y: u32) -> u32
     requires { ⌜ (x ≤ cellLimit) × (y ≤ cellLimit) ⌝ }
     ensures { λ r. ⌜ r ≡ x ⊕ y ⌝ }
@@ -32,11 +32,14 @@ pub fn join(x: u32, y: u32) -> u32
     if x == 0 {
         return 0;
     }
-    let mut more: u32 = 0;
-    if y != 0 {
-        more = x - EMPTY;
+    let mut least: u32 = 1;
+    if x < EMPTY {
+        least = EMPTY - x;
     }
-    y + more
+    if y < least {
+        return 0;
+    }
+    x + y - EMPTY
 }
 
 // The cell of one load that is on.
@@ -44,5 +47,5 @@ pub(crate) fn cell_of(power: usize, worth: u32) -> u32
     requires { ⌜ (power < powerLimit) × (worth ≤ maxWorth) ⌝ }
     ensures { λ r. ⌜ (r ≡ cell power worth) × (r ≤ cellLimit) ⌝ }
 {
-    worth + EMPTY
+    worth * EMPTY + EMPTY - power as u32
 }

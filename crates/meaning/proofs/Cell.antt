@@ -1,7 +1,7 @@
 -- What the search needs of cells.
 -- Assumes nothing.
 use Prim.Native.Nat.{ℕ, zero, suc, _+_, _-_, _≤_, _<_, zero-le}
-use mathlib.Core.Path.{_≡_, refl, ap}
+use mathlib.Core.Path.{_≡_, refl, _∙_}
 use native.Mathlib.Nat.{not-suc-le-zero}
 use native.Mathlib.Omega.{arith}
 use Rattle.meaning.specs.Cell.{cell, powerLimit, empty, _⊕_}
@@ -34,25 +34,6 @@ unfolding _⊕_ cell
 ⊕-empty zero = refl
 ⊕-empty (suc x) = omega arith
 
--- the cell of two sets together is that of their power and worth together
-pub cell-add : (p v p′ v′ : ℕ) → p + p′ < powerLimit → cell p v ⊕ cell p′ v′ ≡ cell (p + p′) (v + v′)
-unfolding _⊕_ cell
-cell-add p v p′ v′ h = omega arith
-
-pub cell-pos : (p v : ℕ) → p < powerLimit → 0 < cell p v
-unfolding cell
-cell-pos p v h = omega arith
-
--- the greater cell is worth no less
-pub cell-le : (p v p′ v′ : ℕ) → p < powerLimit → p′ < powerLimit → cell p v ≤ cell p′ v′ → v ≤ v′
-unfolding cell
-cell-le p v p′ v′ h h′ l = omega arith
-
--- sets of equal worth have equal cells
-pub cell-same : (p v p′ v′ : ℕ) → v ≡ v′ → cell p v ≡ cell p′ v′
-unfolding cell
-cell-same p v p′ v′ e = ap suc e
-
 -- by cases, as code goes
 pub ⊕-left : (x y : ℕ) → x ≡ 0 → x ⊕ y ≡ 0
 unfolding _⊕_
@@ -65,8 +46,36 @@ unfolding _⊕_
 ⊕-right (suc x) zero h = refl
 ⊕-right (suc x) (suc y) h = absurd (omega arith)
 
-pub ⊕-both : (x y : ℕ) → (x ≡ 0 → ⊥) → (y ≡ 0 → ⊥) → x ⊕ y ≡ x + y - 1
+-- two sets that draw too much together
+pub ⊕-over : (x y : ℕ) → x + y ≤ powerLimit → x ⊕ y ≡ 0
+unfolding _⊕_ cell
+⊕-over zero y h = refl
+⊕-over (suc x) zero h = refl
+⊕-over (suc x) (suc y) h = omega arith
+
+pub ⊕-both : (x y : ℕ) → (x ≡ 0 → ⊥) → (y ≡ 0 → ⊥) → x ⊕ y ≡ x + y - powerLimit
 unfolding _⊕_ cell
 ⊕-both zero y h k = absurd (h refl)
 ⊕-both (suc x) zero h k = absurd (k refl)
 ⊕-both (suc x) (suc y) h k = refl
+
+-- the cell of two sets together is that of their power and worth together
+pub cell-add : (p v p′ v′ : ℕ) → p + p′ < powerLimit → cell p v ⊕ cell p′ v′ ≡ cell (p + p′) (v + v′)
+unfolding _⊕_ cell
+cell-add p v p′ v′ h =
+    let sum : cell p v + cell p′ v′ - powerLimit ≡ cell (p + p′) (v + v′) = omega arith in
+    ⊕-both (cell p v) (cell p′ v′) (λ e. absurd (omega arith)) (λ e. absurd (omega arith)) ∙ sum
+
+pub cell-pos : (p v : ℕ) → p < powerLimit → 0 < cell p v
+unfolding cell
+cell-pos p v h = omega arith
+
+-- the greater cell is worth no less
+pub cell-le : (p v p′ v′ : ℕ) → p < powerLimit → p′ < powerLimit → cell p v ≤ cell p′ v′ → v ≤ v′
+unfolding cell
+cell-le p v p′ v′ h h′ l = omega arith
+
+-- and of equal worth draws no more
+pub cell-cooler : (p v p′ v′ : ℕ) → p < powerLimit → v ≡ v′ → cell p v ≤ cell p′ v′ → p′ ≤ p
+unfolding cell
+cell-cooler p v p′ v′ h e l = omega arith

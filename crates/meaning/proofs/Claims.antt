@@ -2,6 +2,7 @@
 use Prim.Native.Nat.{ℕ, _<_}
 use mathlib.Core.Path.{_≡_, sym, subst, _∙_}
 use mathlib.Core.List.{List}
+use native.Mathlib.Nat.{le-trans}
 use native.Mathlib.Omega.{arith}
 use lib.ListN.{length}
 use Rattle.tables.specs.Tables.{Tables}
@@ -59,7 +60,7 @@ module _ (t : Tables) (w : Lawful t) where
         run = as-shown (λ σ ρ. TreeRun (t .book) σ ρ (treeOf t)) (plan-run t o small h);
         optimum = as-shown (λ σ ρ. Optimum t σ) (best .0);
         value = as-shown (λ σ ρ. bestPlan t ≡ cell (power t σ) (worth t σ)) (best .1);
-        lowest = as-shown (λ σ ρ. (τ : ℕ → ℕ) (υ : ℕ → Assigned) → TreeRun (t .book) τ υ (treeOf t) → Fits t τ → worth t τ ≡ worth t σ
+        lowest = as-shown (λ σ ρ. (τ : ℕ → ℕ) (υ : ℕ → Assigned) → TreeRun (t .book) τ υ (treeOf t) → Fits t τ → worth t τ ≡ worth t σ → power t τ ≡ power t σ
             → treeNumbers σ ρ (treeOf t) ≼ treeNumbers τ υ (treeOf t)) (plan-lowest t o small h);
       }
 
@@ -85,6 +86,7 @@ module _ (t : Tables) (w : Lawful t) where
     checked = check-shown;
     judged = λ ρ. let d = judge-tree-decides (t .book) ρ (treeOf t) in (d .holds, d .passes);
     grows = λ b c h. tree-grows (t .book) (treeOf t) b c h;
+    better = λ b c h σ τ x y. (y .greatest σ (x .allowed) (le-trans (x .fits) h), y .coolest σ (x .allowed) (le-trans (x .fits) h));
   }
 
 pub claims : (t : Tables) → Limits t → Claims t

@@ -13,7 +13,7 @@ use Rattle.meaning.specs.Best.{bestPlan}
 use Rattle.meaning.specs.Choice.{plan, marksOf, assignedBy}
 use Rattle.meaning.specs.Runs.{Assigned, TreeRun}
 use Rattle.meaning.specs.Order.{_≼_, treeNumbers}
-use Rattle.meaning.proofs.Cell.{cell-add, cell-pos, cell-le, cell-same}
+use Rattle.meaning.proofs.Cell.{cell-add, cell-pos, cell-le, cell-cooler}
 use Rattle.meaning.proofs.Optimal.{tree-complete, tree-sound}
 use Rattle.meaning.proofs.Tree.{tree-rooted, tree-total}
 use Rattle.meaning.proofs.Entries.{plan-follows}
@@ -62,6 +62,7 @@ module _ (t : Tables) (o : IsTree (t .loads)) (small : t .budget < powerLimit) w
           allowed = (assignedBy (plan t), s .0);
           fits = w;
           greatest = λ τ a f. cell-le (power t τ) (worth t τ) (power t σ) (worth t σ) (omega (arith, small)) (omega (arith, small)) (le-trans (plan-bound τ a f) (le-of-eq e));
+          coolest = λ τ a f v. cell-cooler (power t τ) (worth t τ) (power t σ) (worth t σ) (omega (arith, small)) v (le-trans (plan-bound τ a f) (le-of-eq e));
         },
         e,
       )
@@ -81,10 +82,11 @@ module _ (t : Tables) (o : IsTree (t .loads)) (small : t .budget < powerLimit) w
       go h (inr l) = let p = plan-optimal l .0 in absurd (h (marksOf (plan t)) (p .allowed) (p .fits))
 
   -- no run that reaches the same within the budget is lower
-  pub plan-lowest : 0 < bestPlan t → (σ : ℕ → ℕ) (ρ : ℕ → Assigned) → TreeRun (t .book) σ ρ (treeOf t) → Fits t σ → worth t σ ≡ worth t (marksOf (plan t))
+  pub plan-lowest : 0 < bestPlan t → (σ : ℕ → ℕ) (ρ : ℕ → Assigned) → TreeRun (t .book) σ ρ (treeOf t) → Fits t σ
+      → worth t σ ≡ worth t (marksOf (plan t)) → power t σ ≡ power t (marksOf (plan t))
       → treeNumbers (marksOf (plan t)) (assignedBy (plan t)) (treeOf t) ≼ treeNumbers σ ρ (treeOf t)
   unfolding bestPlan plan
-  plan-lowest h σ ρ r f e =
+  plan-lowest h σ ρ r f e d =
       tree-lowest (t .book) (marksOf (plan t)) (assignedBy (plan t)) σ ρ (treeOf t) (tree-rooted planned (t .loads)) (t .budget) h (plan-follows t o) r
       (le-trans (le-of-eq (drawn-power σ)) f)
-      (tree-cell σ f ∙ cell-same _ _ _ _ e ∙ sym (plan-optimal h .1))
+      (tree-cell σ f ∙ ap₂ cell d e ∙ sym (plan-optimal h .1))

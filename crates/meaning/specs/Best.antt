@@ -1,6 +1,6 @@
 -- The best cell of a branch and of a row, by recursion on the forest.
--- It stands for "The plan has the greatest worth of all allowed sets whose power is within the budget" of paper 01, and for document 000's
--- recursion, with an allowance for each branch. Assumes nothing.
+-- It stands for "The plan has the greatest worth of all allowed sets whose power is within the budget" of paper 01, for "of greatest worth,
+-- then of least power" of request Four of paper 02, and for document 000's recursion, with an allowance for each branch. Assumes nothing.
 use Prim.Native.Nat.{ℕ, suc, _-_}
 use mathlib.Core.Bool.{_&&_}
 use mathlib.Core.List.{List}

@@ -1,4 +1,4 @@
--- The marked cases of "Edges on this tree" of paper 01, in one table. Assumes nothing.
+-- The marked cases of "Edges on this tree" of paper 01 and those of request Four of paper 02, in one table. Assumes nothing.
 use Prim.Native.Nat.{ℕ}
 use mathlib.Core.Path.{_≡_}
 use mathlib.Core.Bool.{Bool, _&&_, not}
@@ -8,7 +8,7 @@ use Rattle.tables.specs.declared.rule.Transition.{Transition}
 use Rattle.tables.specs.declared.load.Load.{Load}
 use Rattle.tables.specs.Tables.{Book, Tables}
 use Rattle.tables.specs.Limits.{maxLoads, limits}
-use Rattle.meaning.specs.Sets.{worth, numberOn, Optimum, NoneFits}
+use Rattle.meaning.specs.Sets.{power, worth, numberOn, Optimum, NoneFits}
 use Rattle.meaning.specs.Best.{bestPlan}
 use Rattle.meaning.specs.Choice.{planEntries, shownSet}
 
@@ -21,6 +21,13 @@ load p w v = record { parent = p; power = w; worth = v }
 -- the tree of "One session, whole"
 abbrev pub fourLoads : List Load
 fourLoads = load 0 10 0 ∷ load 1 15 40 ∷ load 1 5 30 ∷ load 2 7 50 ∷ []
+
+-- "two lone cameras of worth 20, one of 9 W and one of 6 W", below a feed that draws nothing, in both orders
+abbrev pub warmFirst : List Load
+warmFirst = load 0 0 0 ∷ load 1 9 20 ∷ load 1 6 20 ∷ []
+
+abbrev pub coolFirst : List Load
+coolFirst = load 0 0 0 ∷ load 1 6 20 ∷ load 1 9 20 ∷ []
 
 -- "This book F keeps a load on only below a load that is on."
 abbrev pub bookF : Book
@@ -55,53 +62,60 @@ bookK = record {
   rowRules = transition 1 3 1 ∷ transition 2 2 2 ∷ transition 3 3 3 ∷ transition 3 1 1 ∷ [];
 }
 
--- what a case says of the plan: its worth, that no load is on, or that there is none
+-- what a case says of the plan: its worth and power, that no load is on, or that there is none
 pub data Expected : Type 0 where
-  worthOf : ℕ → Expected
+  figures : (worth power : ℕ) → Expected
   noLoadOn : Expected
   refusal9 : Expected
 
 pub record Case : Type 0 where
   pub book : Book
+  pub loads : List Load
   pub budget : ℕ
   pub expected : Expected
 
-abbrev case : Book → ℕ → Expected → Case
-case b c x = record { book = b; budget = c; expected = x }
+abbrev case : Book → List Load → ℕ → Expected → Case
+case b ls c x = record { book = b; loads = ls; budget = c; expected = x }
 
--- "budget to worth"
+-- "budget to worth"; the powers follow. Then "with .. space for one, the 6 W camera stays on"
 abbrev pub cases : List Case
 cases =
-    case bookF 10 noLoadOn
-    ∷ case bookF 14 (worthOf 0)
-    ∷ case bookF 15 (worthOf 30)
-    ∷ case bookF 31 (worthOf 70)
-    ∷ case bookF 32 (worthOf 90)
-    ∷ case bookF 36 (worthOf 90)
-    ∷ case bookF 37 (worthOf 120)
-    ∷ case bookI 11 (worthOf 50)
-    ∷ case bookI 12 (worthOf 80)
-    ∷ case bookK 4 refusal9
-    ∷ case bookK 5 (worthOf 30)
-    ∷ case bookK 21 (worthOf 50)
-    ∷ case bookK 22 (worthOf 90)
+    case bookF fourLoads 10 noLoadOn
+    ∷ case bookF fourLoads 14 (figures 0 0)
+    ∷ case bookF fourLoads 15 (figures 30 15)
+    ∷ case bookF fourLoads 31 (figures 70 30)
+    ∷ case bookF fourLoads 32 (figures 90 32)
+    ∷ case bookF fourLoads 36 (figures 90 32)
+    ∷ case bookF fourLoads 37 (figures 120 37)
+    ∷ case bookI fourLoads 11 (figures 50 7)
+    ∷ case bookI fourLoads 12 (figures 80 12)
+    ∷ case bookK fourLoads 4 refusal9
+    ∷ case bookK fourLoads 5 (figures 30 5)
+    ∷ case bookK fourLoads 21 (figures 50 7)
+    ∷ case bookK fourLoads 22 (figures 90 22)
+    ∷ case bookF warmFirst 9 (figures 20 6)
+    ∷ case bookF coolFirst 9 (figures 20 6)
     ∷ []
 
 abbrev pub tablesFor : Case → Tables
-tablesFor x = record { book = x .book; loads = fourLoads; budget = x .budget; places = maxLoads }
+tablesFor x = record { book = x .book; loads = x .loads; budget = x .budget; places = maxLoads }
+
+abbrev pub shown : Tables → ℕ → ℕ
+shown t = shownSet (planEntries t)
 
 -- do the tables keep the limits, and is their plan as expected?
 abbrev pub meets : Tables → Expected → Bool
-meets t (worthOf v) = not (eqb (bestPlan t) 0) && eqb (worth t (shownSet (planEntries t))) v
-meets t noLoadOn = not (eqb (bestPlan t) 0) && eqb (worth t (shownSet (planEntries t))) 0 && eqb (numberOn t (shownSet (planEntries t))) 0
+meets t (figures v w) = not (eqb (bestPlan t) 0) && eqb (worth t (shown t)) v && eqb (power t (shown t)) w
+meets t noLoadOn = not (eqb (bestPlan t) 0) && eqb (worth t (shown t)) 0 && eqb (numberOn t (shown t)) 0
 meets t refusal9 = eqb (bestPlan t) 0
 
 abbrev pub right : Case → Bool
 right x = limits (tablesFor x) && meets (tablesFor x) (x .expected)
 
--- what each case comes to: an allowed set of that worth that fits, and none that fits is worth more; or none fits
+-- what each case comes to: an allowed set of these figures that fits, with none that fits worth more, and none of its worth that draws less; or
+-- none fits
 abbrev pub Comes : Tables → Expected → Type 0
-Comes t (worthOf v) = (σ : ℕ → ℕ) × Optimum t σ × (worth t σ ≡ v)
+Comes t (figures v w) = (σ : ℕ → ℕ) × Optimum t σ × (worth t σ ≡ v) × (power t σ ≡ w)
 Comes t noLoadOn = (σ : ℕ → ℕ) × Optimum t σ × (worth t σ ≡ 0) × (numberOn t σ ≡ 0)
 Comes t refusal9 = NoneFits t
 

@@ -1,17 +1,18 @@
--- The value of a set in the search: 0 for none, else 1 + worth. A request that changes what is best changes this file and its laws.
--- It stands for "greatest worth" of "Which plan among equals" of paper 01. (Document 000's formula 6 adds a weight here; formulas 1 and 5
--- decide.) Assumes nothing.
-use Prim.Native.Nat.{ℕ, zero, suc, _+_, _-_}
+-- The value of a set in the search: 0 for none, else worth × 512 + 512 − power. A request that changes what is best changes this file and
+-- its laws.
+-- It stands for "of greatest worth, then of least power" of request Four of paper 02. (Document 000's formula 6 adds a weight here; formulas
+-- 1 and 5 decide.) Assumes nothing.
+use Prim.Native.Nat.{ℕ, zero, suc, _+_, _-_, _*_}
 use Rattle.meaning.specs.Forest.{Item, Forest, nil, node, total}
 use Rattle.meaning.specs.Sets.{counted}
-
--- the cell of a set with this power and worth: the greater cell is the better set
-unfoldable pub cell : (power worth : ℕ) → ℕ
-cell p v = suc v
 
 -- more than any budget: the laws of cells are for sets that draw less
 abbrev pub powerLimit : ℕ
 powerLimit = 512
+
+-- the cell of a set with this power and worth: the greater cell is the better set, worth first, then less power
+unfoldable pub cell : (power worth : ℕ) → ℕ
+cell p v = v * powerLimit + powerLimit - p
 
 abbrev pub empty : ℕ
 empty = cell 0 0

@@ -1,5 +1,6 @@
 -- The plan and the run of a checked set, among equals.
--- It stands for "Which plan among equals" of paper 01, sentence by sentence. Assumes nothing.
+-- It stands for "Which plan among equals" of paper 01, sentence by sentence, "where "best" and "greatest worth" mean both" worth and power
+-- (request Four of paper 02): they are those of Best. Assumes nothing.
 use Prim.Native.Nat.{ℕ, zero, suc, _-_}
 use mathlib.Core.Path.{_≡_}
 use mathlib.Core.Bool.{cond}

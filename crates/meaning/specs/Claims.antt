@@ -27,13 +27,15 @@ pub record EachLoad (t : Tables) (es : List Entry) : Type 0 where
   pub all : length es ≡ length (t .loads)
   pub each : Numbered 1 es
 
--- a plan: a run of a best set, whose cell is the best, and the lowest of all runs that reach the same within the budget
+-- a plan: a run of a best set, whose cell is the best, and the lowest of all runs that reach the same worth with the same power within the
+-- budget: "and only then parted as 01 says"
 pub record PlanShown (t : Tables) (es : List Entry) : Type 0 where
   pub loads : EachLoad t es
   pub run : TreeRun (t .book) (shownSet es) (assignedBy es) (treeOf t)
   pub optimum : Optimum t (shownSet es)
   pub value : bestPlan t ≡ cell (power t (shownSet es)) (worth t (shownSet es))
-  pub lowest : (σ : ℕ → ℕ) (ρ : ℕ → Assigned) → TreeRun (t .book) σ ρ (treeOf t) → Fits t σ → worth t σ ≡ worth t (shownSet es)
+  pub lowest : (σ : ℕ → ℕ) (ρ : ℕ → Assigned) → TreeRun (t .book) σ ρ (treeOf t) → Fits t σ
+      → worth t σ ≡ worth t (shownSet es) → power t σ ≡ power t (shownSet es)
       → treeNumbers (shownSet es) (assignedBy es) (treeOf t) ≼ treeNumbers σ ρ (treeOf t)
 
 -- the run of a checked set, the lowest of its runs. (No figure counts in a check: its branches draw 0.)
@@ -55,5 +57,7 @@ pub record Claims (t : Tables) : Type 0 where
   pub checked : (σ : ℕ → ℕ) → 0 < bestCheck t σ → CheckShown t σ (checkEntries t σ)
   -- the judge says yes exactly of runs: those of its own marks
   pub judged : (ρ : ℕ → Assigned) → T (judgeTree (t .book) ρ (treeOf t)) ↔ TreeRun (t .book) (ownMarks (t .book) ρ) ρ (treeOf t)
-  -- a greater budget is never worse
+  -- a greater budget is never worse: by its cell, and so by worth, then power
   pub grows : (b c : ℕ) → b ≤ c → bestPlan (setBudget t b) ≤ bestPlan (setBudget t c)
+  pub better : (b c : ℕ) → b ≤ c → (σ τ : ℕ → ℕ) → Optimum (setBudget t b) σ → Optimum (setBudget t c) τ
+      → (worth t σ ≤ worth t τ) × (worth t σ ≡ worth t τ → power t τ ≤ power t σ)

@@ -1,8 +1,9 @@
 -- Sets of loads of the tables: their figures, whether they are allowed, and which is best.
 -- It stands for "A set's worth and power are the sums of its loads' figures, 0 for the empty set; it fits if its power is at most the
--- budget", "A set is allowed if it has a run" and "The plan has the greatest worth of all allowed sets whose power is within the budget". Assumes
--- nothing.
+-- budget", "A set is allowed if it has a run" and "The plan has the greatest worth of all allowed sets whose power is within the budget" of
+-- paper 01, and for "the plan is now of greatest worth, then of least power" of request Four of paper 02. Assumes nothing.
 use Prim.Native.Nat.{ℕ, zero, suc, _≤_}
+use mathlib.Core.Path.{_≡_}
 use lib.Dec.{eqb}
 use Rattle.lists.specs.Argmax.{guard}
 use Rattle.tables.specs.Tables.{Tables}
@@ -43,6 +44,8 @@ pub record Optimum (t : Tables) (σ : ℕ → ℕ) : Type 0 where
   pub allowed : Allowed t σ
   pub fits : Fits t σ
   pub greatest : (τ : ℕ → ℕ) → Allowed t τ → Fits t τ → worth t τ ≤ worth t σ
+  -- "no allowed set of equal worth within the budget draws less"
+  pub coolest : (τ : ℕ → ℕ) → Allowed t τ → Fits t τ → worth t τ ≡ worth t σ → power t σ ≤ power t τ
 
 -- "no allowed set fits"
 abbrev pub NoneFits : Tables → Type 0

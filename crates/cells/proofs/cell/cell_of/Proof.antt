@@ -6,4 +6,4 @@ use Rattle.cells.proofs.cell.cell_of.Statement.{statement}
 use Rattle.cells.proofs.cell.cell_of.Tie as tie
 
 pub cell-of-spec : {M : Type 1} → statement M
-cell-of-spec = tie.close (tie.spec (λ c. search needs) (λ c. (cell-is _ _, omega arith)))
+cell-of-spec = tie.close (tie.spec (λ c. search needs) (λ c. search needs) (λ c. search needs) (λ c. search needs) (λ c. (cell-is _ _, omega arith)))

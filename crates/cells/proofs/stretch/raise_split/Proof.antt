@@ -7,7 +7,7 @@ use native.Mathlib.Omega.{arith}
 use borrow.Author.Needs.{needs}
 use Rattle.lists.specs.Argmax.{guard}
 use Rattle.marks.specs.Bits.{hasMark}
-use Rattle.meaning.specs.Cell.{empty}
+use Rattle.meaning.specs.Cell.{powerLimit, empty}
 use Rattle.meaning.specs.Best.{shares}
 use Rattle.meaning.proofs.Bound.{empty-⊕}
 use Rattle.cells.specs.declared.problem.Shape.{Shape}
@@ -24,7 +24,7 @@ module _ (sh : Shape) (w s t : List ℕ) (k q n h from to x : ℕ) (px : x ≡ p
   abbrev Goal : (ℕ → ℕ) → (ℕ → ℕ) → List ℕ → Type 0
   Goal f g t = Rising f to → Rising g to → Raised s t from to (λ a. shares f g a .value)
 
-  alone : n ≡ 0 → (b : Bool) → b ≡ hasMark (sh .ends .0) h → b ≡ true → Raised s t from to (moved 0 1 (cellsFrom w x))
+  alone : n ≡ 0 → (b : Bool) → b ≡ hasMark (sh .ends .0) h → b ≡ true → Raised s t from to (moved 0 powerLimit (cellsFrom w x))
       → Goal (heldBranch sh w k q) (heldRow sh w n h) t
   alone e b p v r =
       subst (λ g. Goal (heldBranch sh w k q) g t) (sym (row-none sh w n h e b p ∙ ap (λ (z : Bool). λ (c : ℕ). guard z empty) v))

@@ -8,6 +8,7 @@ use borrow.Author.Needs.{needs}
 use lib.ListN.{length}
 use Rattle.lists.specs.Argmax.{guard}
 use Rattle.marks.specs.Bits.{hasMark}
+use Rattle.meaning.specs.Cell.{powerLimit}
 use Rattle.cells.specs.declared.problem.Shape.{Shape}
 use Rattle.cells.specs.Work.{cellsFrom, heldRow}
 use Rattle.cells.proofs.Numbers.{empty-is}
@@ -15,7 +16,7 @@ use Rattle.cells.proofs.Places.{place-room, row-none, row-some}
 use Rattle.engine.proofs.best.row_at.Statement.{statement}
 use Rattle.engine.proofs.best.row_at.Tie as tie
 
-none : (sh : Shape) (w : List ℕ) (k g c : ℕ) → k ≡ 0 → (b : Bool) → b ≡ hasMark (sh .ends .0) g → (t : Bool) → b ≡ t → guard t 1 ≡ heldRow sh w k g c
+none : (sh : Shape) (w : List ℕ) (k g c : ℕ) → k ≡ 0 → (b : Bool) → b ≡ hasMark (sh .ends .0) g → (t : Bool) → b ≡ t → guard t powerLimit ≡ heldRow sh w k g c
 none sh w k g c e b h t q = ap (guard t) empty-is ∙ ap (λ (f : ℕ → ℕ). f c) (sym (row-none sh w k g e t (sym q ∙ h)))
 
 returns : tie.Need-returns
