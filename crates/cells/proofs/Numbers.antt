@@ -12,9 +12,9 @@ pub empty-is : powerLimit ≡ empty
 unfolding cell
 empty-is = refl
 
-pub cell-is : (p v : ℕ) → v * powerLimit + powerLimit - p ≡ cell p v
+pub cell-is : (p v r : ℕ) → r ≡ v * powerLimit + powerLimit - p → r ≡ cell p v
 unfolding cell
-cell-is p v = refl
+cell-is p v r e = e
 
 -- the cells of so many loads fit
 pub cell-fits : (n x : ℕ) → n ≤ maxLoads → x ≤ cell 0 (maxWorth + (maxWorth + maxWorth * n + maxWorth * n)) → x < cellLimit

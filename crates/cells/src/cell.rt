@@ -24,7 +24,7 @@ pub(crate) fn greater(x: u32, y: u32) -> u32
     if x < y { y } else { x }
 }
 
-// The cell of two disjoint sets together. Where x stays the same a loop over y has no branch: one least y tells whether there is any.
+// The cell of two disjoint sets together. Where x stays the same a loop over y has no branch.
 pub fn join(x: u32, y: u32) -> u32
     requires { ⌜ (x ≤ cellLimit) × (y ≤ cellLimit) ⌝ }
     ensures { λ r. ⌜ r ≡ x ⊕ y ⌝ }
@@ -32,14 +32,22 @@ pub fn join(x: u32, y: u32) -> u32
     if x == 0 {
         return 0;
     }
-    let mut least: u32 = 1;
+    if x == EMPTY {
+        return y;
+    }
+    // A set that is worth nothing and draws power takes its power off.
     if x < EMPTY {
-        least = EMPTY - x;
+        let less = EMPTY - x;
+        if y < less {
+            return 0;
+        }
+        return y - less;
     }
-    if y < least {
-        return 0;
+    let mut more: u32 = 0;
+    if y != 0 {
+        more = x - EMPTY;
     }
-    x + y - EMPTY
+    y + more
 }
 
 // The cell of one load that is on.

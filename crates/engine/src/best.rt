@@ -86,9 +86,10 @@ pub(crate) fn best_share(
     let mut best = Best::NONE;
     let mut a: usize = 0;
     while a <= c {
+        // The row comes first: where it ends it is the same for every allowance.
         let x = cell::join(
-            branch_at(sh, work, k, q, a),
             row_at(sh, work, next, h, c - a),
+            branch_at(sh, work, k, q, a),
         );
         best = best.improved(a, x);
         a += 1;

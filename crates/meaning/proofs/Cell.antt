@@ -34,6 +34,13 @@ unfolding _⊕_ cell
 ⊕-empty zero = refl
 ⊕-empty (suc x) = omega arith
 
+pub ⊕-comm : (x y : ℕ) → x ⊕ y ≡ y ⊕ x
+unfolding _⊕_ cell
+⊕-comm zero zero = refl
+⊕-comm zero (suc y) = refl
+⊕-comm (suc x) zero = refl
+⊕-comm (suc x) (suc y) = omega arith
+
 -- by cases, as code goes
 pub ⊕-left : (x y : ℕ) → x ≡ 0 → x ⊕ y ≡ 0
 unfolding _⊕_

@@ -1,28 +1,49 @@
 -- `join` meets its contract. Assumes nothing.
-use mathlib.Core.Path.{_≡_, sym}
+use Prim.Native.Nat.{ℕ, _+_, _-_}
+use mathlib.Core.Path.{_≡_, sym, ap, _∙_}
 use mathlib.Core.Logic.{⊎-elim}
 use native.Mathlib.Omega.{arith}
 use borrow.Author.Needs.{needs}
+use Rattle.meaning.specs.Cell.{powerLimit, _⊕_}
 use Rattle.meaning.proofs.Cell.{⊕-left, ⊕-right, ⊕-over, ⊕-both}
+use Rattle.meaning.proofs.Bound.{empty-⊕}
+use Rattle.cells.proofs.Numbers.{empty-is}
 use Rattle.cells.proofs.cell.join.Statement.{statement}
 use Rattle.cells.proofs.cell.join.Tie as tie
 
--- below the least y there is none: the two draw too much together, or y is none
-returns-2 : tie.Need-returns-2
-returns-2 c =
-    let s = c .before .before .before .args in
-    ⊎-elim
-    (λ w. sym (⊕-over (s .x) (s .y) (omega arith)))
-    (λ w. sym (⊕-right (s .x) (s .y) (omega arith)))
-    (c .before .if2 .came)
+sums : (x y r : ℕ) → (x ≡ 0 → ⊥) → (y ≡ 0 → ⊥) → r ≡ x + y - powerLimit → r ≡ x ⊕ y
+sums x y r h k e = e ∙ sym (⊕-both x y h k)
 
-sub-result : tie.Need-sub-result
-sub-result c = ⊎-elim (λ w. omega arith) (λ w. omega arith) (c .before .if2 .came)
+none : (x y r : ℕ) → y ≡ 0 → r ≡ 0 → r ≡ x ⊕ y
+none x y r k e = e ∙ sym (⊕-right x y k)
+
+alone : (x y : ℕ) → x ≡ powerLimit → y ≡ x ⊕ y
+alone x y e = sym (empty-⊕ y) ∙ ap (λ z. z ⊕ y) (sym empty-is ∙ sym e)
+
+returns : tie.Need-returns
+returns c = sym (⊕-left _ _ (c .if1 .taken))
+
+returns-2 : tie.Need-returns-2
+returns-2 c = alone _ _ (c .if2 .taken)
 
 returns-3 : tie.Need-returns-3
-returns-3 c =
-    let s = c .before .before .before .args in
-    sym (⊕-both (s .x) (s .y) (c .before .before .if1 .left) (λ e. ⊎-elim (λ w. omega arith) (λ w. omega arith) (c .before .if2 .came)))
+returns-3 c = let s = c .before .before .before .before .args in sym (⊕-over (s .x) (s .y) (omega arith))
+
+returns-4 : tie.Need-returns-4
+returns-4 c =
+    let s = c .before .before .before .before .args in
+    sums (s .x) (s .y) _ (c .before .before .before .if1 .left) (λ e. omega arith) (omega arith)
+
+add-result : tie.Need-add-result
+add-result c = ⊎-elim (λ w. omega arith) (λ w. omega arith) (c .before .if5 .came)
+
+returns-5 : tie.Need-returns-5
+returns-5 c =
+    let s = c .before .before .before .before .before .args in
+    ⊎-elim
+    (λ w. sums (s .x) (s .y) _ (c .before .before .before .before .if1 .left) (w .0 .taken) (omega arith))
+    (λ w. none (s .x) (s .y) _ (omega arith) (omega arith))
+    (c .before .if5 .came)
 
 pub join-spec : {M : Type 1} → statement M
-join-spec = tie.close (tie.spec (λ c. sym (⊕-left _ _ (c .if1 .taken))) (λ c. search needs) returns-2 (λ c. search needs) sub-result returns-3)
+join-spec = tie.close (tie.spec returns returns-2 (λ c. search needs) returns-3 returns-4 add-result returns-5)

@@ -5,6 +5,7 @@ use native.Mathlib.Omega.{arith}
 use borrow.Author.Needs.{needs}
 use Rattle.lists.specs.Argmax.{argmax}
 use Rattle.meaning.specs.Cell.{_⊕_}
+use Rattle.meaning.proofs.Cell.{⊕-comm}
 use Rattle.cells.specs.Work.{heldBranch, heldRow}
 use Rattle.engine.specs.Search.{greatestOf}
 use Rattle.engine.proofs.Search.{greatest-none, greatest-turn}
@@ -20,14 +21,14 @@ abbrev μ-loop : tie.MeasureT-loop
 loop-holds : tie.Need-loop-holds Inv-loop μ-loop
 loop-holds c = (omega arith, greatest-none _)
 
-branch-at-requires : tie.Need-branch-at-requires Inv-loop μ-loop
-branch-at-requires c κs = let s = c .before .before .before in (s .pre .0, (omega arith, omega arith, omega arith, omega arith, omega arith))
-
 row-at-requires : tie.Need-row-at-requires Inv-loop μ-loop
-row-at-requires c κs = let s = c .before .before .before .before in (s .pre .0, (omega arith, omega arith, omega arith, omega arith))
+row-at-requires c κs = let s = c .before .before .before in (s .pre .0, (omega arith, omega arith, omega arith, omega arith))
+
+branch-at-requires : tie.Need-branch-at-requires Inv-loop μ-loop
+branch-at-requires c κs = let s = c .before .before .before .before in (s .pre .0, (omega arith, omega arith, omega arith, omega arith, omega arith))
 
 join-requires : tie.Need-join-requires Inv-loop μ-loop
-join-requires c κs = (c .before .branch-at .ensures .1, c .row-at .ensures .1)
+join-requires c κs = (c .before .row-at .ensures .1, c .branch-at .ensures .1)
 
 add-a : tie.Need-add-a Inv-loop μ-loop
 add-a c = let s = c .before .before .before .before .before .before .before in omega (arith, s .pre .0 .sane .budget, s .pre .1, c .before .before .before .before .loop-test .taken)
@@ -40,7 +41,7 @@ loop-again c =
     let l = c .before .before .before .before .before .loop in (
       omega (arith, c .before .before .before .before .loop-test .taken),
       greatest-turn _ (l .a) _ (greatestOf (l .best)) _ (l .inv .1)
-          (c .before .join .ensures ∙ ap₂ _⊕_ (c .before .before .before .branch-at .ensures .0) (c .before .before .row-at .ensures .0)) (c .improved .ensures),
+          (c .before .join .ensures ∙ ⊕-comm _ _ ∙ ap₂ _⊕_ (c .before .before .branch-at .ensures .0) (c .before .before .before .row-at .ensures .0)) (c .improved .ensures),
     )
 
 returns : tie.Need-returns Inv-loop μ-loop
@@ -56,8 +57,8 @@ best-share-spec =
     Inv-loop
     μ-loop
     loop-holds
-    branch-at-requires
     row-at-requires
+    branch-at-requires
     join-requires
     (λ c κs. search needs)
     add-a
