@@ -31,14 +31,16 @@ extern "C" {
 #endif
 
 /* The version of this header: major * 10000 + minor * 100 + patch. hulmeide_version returns that of the archive, and they fit where the two
- * are the same. The minor number goes up with each request that changes what lines there are, or the layout:
+ * are the same. The minor number goes up with each request that changes what lines there are, what they answer, or
+ * the layout:
  * 1.1: a number may have zeros in front.
  * 1.2: `save` is a command. It needs HULMEIDE_SAVE_BYTES free bytes, and a caller that lends fewer has it turned away; its other lines go as
  *      before.
  * 1.3: `drop` is a command, and HULMEIDE_HAS_CHILDREN its refusal. It renumbers the loads behind: what a caller keeps by a load's number has
  *      to move with it.
+ * 1.4: of sets of equal worth `plan` shows one that draws least. Lines, refusals and layout are those of 1.3.
  */
-#define HULMEIDE_VERSION 10300
+#define HULMEIDE_VERSION 10400
 
 /* ---- Sizes ----
  *
