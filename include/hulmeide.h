@@ -31,8 +31,7 @@ extern "C" {
 #endif
 
 /* The version of this header: major * 10000 + minor * 100 + patch. hulmeide_version returns that of the archive, and they fit where the two
- * are the same. The minor number goes up with each request that changes what lines there are, what they answer, or
- * the layout:
+ * are the same. The minor number goes up with each request that changes what lines there are, what they answer, or the layout:
  * 1.1: a number may have zeros in front.
  * 1.2: `save` is a command. It needs HULMEIDE_SAVE_BYTES free bytes, and a caller that lends fewer has it turned away; its other lines go as
  *      before.
