@@ -6,23 +6,30 @@
 Each case is a session on a fresh book and tree. Every printed line is compared. Each session is run again with other zeros in front of its
 numbers, and must print the same. The save that each ends with is fed to another process, after other lines, which must take it line by line
 and save the same bytes; so must those of a fresh planner and of the fullest cabinet. The sessions of edges.py have answers written by hand,
-which the program and the oracle must both give. Then the lines are given to oracles that are wrong on purpose (wrong_oracles.py), and each
-must be told apart from the program: a comparison that cannot fail would show nothing.
+which the program and the oracle must both give. Then the lines, but for those of the largest trees, are given to oracles that are wrong on
+purpose (wrong_oracles.py), and each must be told apart from the program: a comparison that cannot fail would show nothing.
 The last line is 'N passed, M failed'.
 """
 import argparse
 import random
 import subprocess
 import sys
+from collections import namedtuple
 
-from edges import DROP_EDGES, NEAR_DROPS
+from edges import BELOW, EDGES, EVERY_OTHER, LARGEST_EDGES, NEAR_DROPS, ON_BY_ROW, ON_FIRST
 from limits import LINE_BYTES, MAX_BUDGET, MAX_DIGITS, MAX_LOADS, MAX_POWER, MAX_RULES, MAX_STAGES, MAX_STATES, MAX_WORTH
 from oracle import WORDS, Oracle
 from wrong_oracles import WRONG, with_fields
 
 MOST_RUNS = 1500  # a tree with more runs is left out: plain enumeration would be slow
 BATCH = 100  # sessions that are given to one run of the program
-TRIED, ENOUGH = 500, 20  # sessions that a wrong oracle is given at most, and those that tell it apart till no more are
+TRIED, ENOUGH = 400, 20  # sessions that a wrong oracle is given at most, and those that tell it apart till no more are
+
+# The powers and the worths of a session's loads, and its greatest budget. Of the second sort many sets are equal in worth, and some in both.
+Figures = namedtuple('Figures', 'powers worths most_budget')
+MIXED = Figures((0, 1, 2, 3, 5, 8), (0, 1, 1, 2, 3), 20)
+EQUALS = Figures((0, 1, 2, 3), (0, 1), 6)
+FREE_BOOKS = [book.split() for book in (BELOW, EVERY_OTHER, ON_FIRST, ON_BY_ROW)]  # these leave most loads the choice
 
 
 def padded(rng, line):
@@ -54,16 +61,25 @@ def book_lines(rng):
     return lines
 
 
-def load_line(rng, count):
+def any_book(rng, figures):
+    """The lines of a book: by chance, but half of the books for many equals leave a choice between them."""
+    return rng.choice(FREE_BOOKS) if figures is EQUALS and rng.random() < 0.5 else book_lines(rng)
+
+
+def load_line(rng, count, figures):
     """The line of a load that comes after so many others."""
-    return 'load,%d,%d,%d' % (rng.randint(1, count) if count else 0, rng.choice((0, 1, 2, 3, 5, 8)), rng.choice((0, 1, 1, 2, 3)))
+    return 'load,%d,%d,%d' % (rng.randint(1, count) if count else 0, rng.choice(figures.powers), rng.choice(figures.worths))
 
 
-def tree_lines(rng):
-    return [load_line(rng, count) for count in range(rng.randint(1, 5))]
+def tree_lines(rng, figures=MIXED):
+    return [load_line(rng, count, figures) for count in range(rng.randint(1, 5))]
 
 
-def figures(rng):
+def budget_line(rng, figures):
+    return 'budget,%d' % rng.randint(0, figures.most_budget)
+
+
+def field(rng):
     """A field that may be a number: in range or at an edge, or of the wrong form."""
     edges = (MAX_STATES + 1, MAX_LOADS, MAX_LOADS + 1, MAX_BUDGET, MAX_BUDGET + 1, MAX_WORTH, MAX_WORTH + 1, 10**MAX_DIGITS - 1, 10**MAX_DIGITS)
     zeros = ('00', '01', '0' * MAX_DIGITS, '1'.zfill(MAX_DIGITS), '0' * (MAX_DIGITS + 1), '1'.zfill(MAX_DIGITS + 1))
@@ -77,7 +93,7 @@ def damaged(rng):
     if kind == 7:
         return rng.choice(NEAR_DROPS)
     if kind < 4 and word != 'clear':
-        return ','.join([word] + [figures(rng) for _ in range(rng.randint(0, 4))]).encode()
+        return ','.join([word] + [field(rng) for _ in range(rng.randint(0, 4))]).encode()
     if kind == 4:
         return bytes(rng.choice((0, 9, 13, 32, 44, 48, 49, 57, 99, 112, 128, 255)) for _ in range(rng.randint(0, 12)))
     if kind == 5:
@@ -92,34 +108,35 @@ def drop_line(rng, oracle):
     return b'drop,%d' % rng.choice(leaves if leaves and rng.random() < 0.6 else numbers)
 
 
-def question(rng, oracle):
+def question(rng, oracle, figures):
     """A line of a session whose book and tree stand: mostly plans and what changes them."""
     loads = len(oracle.loads)
     return rng.choice((
-        lambda: b'budget,%d' % rng.randint(0, 20), *4 * [lambda: b'plan'], lambda: b'save',
+        lambda: budget_line(rng, figures).encode(), *4 * [lambda: b'plan'], lambda: b'save',
         lambda: b'check,' + bytes(rng.choice(b'01') for _ in range(loads)),
-        lambda: b'power,%d,%d' % (rng.randint(1, loads + 1), rng.randint(0, 8)),
-        lambda: b'worth,%d,%d' % (rng.randint(1, loads + 1), rng.randint(0, 4)),
-        *2 * [lambda: drop_line(rng, oracle), lambda: load_line(rng, loads).encode()],
+        lambda: b'power,%d,%d' % (rng.randint(1, loads + 1), rng.choice(figures.powers)),
+        lambda: b'worth,%d,%d' % (rng.randint(1, loads + 1), rng.choice(figures.worths)),
+        *2 * [lambda: drop_line(rng, oracle), lambda: load_line(rng, loads, figures).encode()],
         lambda: damaged(rng)))()
 
 
 def session(rng):
     """The lines of a session that starts with `clear`, and the oracle's answers; or nothing where there are too many runs."""
-    oracle, lines, answers = Oracle(), [], []
+    oracle, lines, answers, figures = Oracle(), [], [], rng.choice((MIXED, EQUALS))
 
     def say(line):
         line = padded(rng, line) if rng.random() < 0.4 else line
         lines.append(line)
         answers.append(oracle.answer(line))
         return few_runs(oracle)
-    for line in ['clear'] + rng.choice((book_lines(rng) + tree_lines(rng), tree_lines(rng) + book_lines(rng))):
+    book, tree = any_book(rng, figures), tree_lines(rng, figures)
+    for line in ['clear', budget_line(rng, figures)] + rng.choice((book + tree, tree + book)):
         if not say(line.encode()):
             return None
         if rng.random() < 0.05:
             say(b'save')
     for _ in range(rng.randint(4, 14)):
-        line = question(rng, oracle)
+        line = question(rng, oracle, figures)
         if line.startswith((b'load,', b'book', b'rule', b'row', b'start')) and rng.random() < 0.5:
             continue  # half of what would change the book or the tree is left out, so that more plans are of the cabinet built
         if not say(line):
@@ -261,10 +278,10 @@ def saves_differ(program):
 
 
 def edges_differ(outs):
-    wrong = [name for (name, case), out in zip(DROP_EDGES.items(), outs) if not edge_right(case, out)]
+    wrong = [name for (name, case), out in zip(EDGES.items(), outs) if not edge_right(case, out)]
     for name in wrong:
         print('DIFFERS: ' + name)
-    print('%d sessions by name, with %d lines' % (len(outs), sum(len(lines) for lines, _ in DROP_EDGES.values())))
+    print('%d sessions by name, with %d lines' % (len(outs), sum(len(lines) for lines, _ in EDGES.values())))
     return len(wrong)
 
 
@@ -282,12 +299,13 @@ def main():
     options.add_argument('--seed', type=int, default=1)
     args = options.parse_args()
     rng = random.Random(args.seed)
-    cases, edges = sessions(rng, args.cases), list(DROP_EDGES.values())
+    cases, edges = sessions(rng, args.cases), list(EDGES.values())
     outs, edge_outs = all_printed(args.program, cases), [printed(args.program, lines) for lines, _ in edges]
     others = again(rng, cases) + [fed_back(*three) for three in zip(cases, outs, cases[1:] + cases[:1])]
     wrong = differing(cases, outs) + differing(others, all_printed(args.program, others))
     failed = sessions_differ(wrong, cases) + saves_differ(args.program) + edges_differ(edge_outs)
-    failed += not_told_apart(edges + cases, edge_outs + outs)
+    quick = len(EDGES) - len(LARGEST_EDGES)
+    failed += not_told_apart(edges[:quick] + cases, edge_outs[:quick] + outs)
     print('%d passed, %d failed' % (len(cases) + len(others) + len(NAMED) + len(edges) + len(WRONG) - failed, failed))
     return 1 if failed else 0
 

@@ -45,6 +45,7 @@ class Session:
         self.rng = rng
         self.most = most  # loads
         self.reach = rng.choice((2, 9, MAX_LOADS))  # how far before a load its parent may be
+        self.most_worth = rng.choice((1, 9))  # of a load; where it is 1, many sets are equal in worth
         self.lines = []
         self.known = {}  # by the place of the line
         self.loads = []  # the lines that enter them
@@ -67,7 +68,7 @@ class Session:
         """A load enters, or is one too many."""
         count = len(self.loads)
         parent = self.rng.randint(max(1, count - self.reach), count) if count else 0
-        line = 'load,%d,%d,%d' % (parent, self.rng.choice((0, 1, 1, 2, 3, 5)), self.rng.randint(0, 9))
+        line = 'load,%d,%d,%d' % (parent, self.rng.choice((0, 1, 1, 2, 3, 5)), self.rng.randint(0, self.most_worth))
         if count < self.most:
             self.loads.append(line)
             self.say(line, 'ok')

@@ -1,9 +1,9 @@
-"""Sessions of drops by name, each with its answers as request Three of paper 02 has them, written by hand but for the listings of
-the fullest tree, which a formula makes.
+"""Sessions by name, each with its answers as paper 02 has them: of loads that leave (request Three), and of equal plans, of which the
+cooler one wins (request Four). The answers are written by hand but for the listings of the fullest trees, which a formula makes.
 
 In the text of a session a row is `LINE LINE .. -> ANSWER`: each of the lines has this answer, and an answer's lines are parted by blanks.
 """
-from limits import LINE_BYTES, MAX_LOADS
+from limits import CELLS, LINE_BYTES, MAX_BUDGET, MAX_LOADS, MAX_WORTH
 
 # A load may be on only if its parent is.
 BELOW = 'book,2,2 start,1 start,2 end,1 end,2 rule,1,0,2 rule,1,1,1 rule,2,0,2 row,1,1,1 row,2,2,2'
@@ -11,6 +11,18 @@ BELOW = 'book,2,2 start,1 start,2 end,1 end,2 rule,1,0,2 rule,1,1,1 rule,2,0,2 r
 EVERY_OTHER = 'book,2,2 start,1 end,1 end,2 rule,1,1,1 rule,1,0,1 rule,2,0,1 row,1,1,2 row,2,2,1'
 # Every load is on.
 ALL_ON = 'book,1,1 start,1 end,1 rule,1,1,1 row,1,1,1'
+# Every load may be on or off, and its rule for on is the lower one.
+ON_FIRST = 'book,1,1 start,1 end,1 rule,1,1,1 rule,1,0,1 row,1,1,1'
+# The root is on in state 1 and off in state 2, and has no children.
+ON_BY_STATE = 'book,2,1 start,1 start,2 end,1 rule,1,1,1 rule,2,0,1'
+# The root is on. By its lower rule its children are on, by its higher one off.
+ON_BY_RULE = 'book,3,2 start,1 end,1 end,2 rule,1,1,1 rule,1,1,2 rule,2,1,1 rule,3,0,1 row,1,2,1 row,2,3,2'
+# The root is on. A child is on by the lower row rule, off by the higher one.
+ON_BY_ROW = 'book,3,1 start,3 end,1 rule,1,1,1 rule,2,0,1 rule,3,1,1 row,1,1,1 row,1,2,1'
+# Of the children of the root the first may be off, and every other load is on.
+FIRST_FREE = 'book,3,2 start,3 end,2 rule,3,1,1 rule,2,0,2 rule,2,1,2 rule,1,1,2 row,1,2,2 row,2,1,2'
+# Of the children of the root the first is off by row rule 1, or the second by row rules 2 and 3. Every other load is on.
+ONE_OF_TWO = 'book,3,3 start,3 end,2 rule,3,1,1 rule,1,1,2 rule,2,0,2 row,1,2,2 row,1,1,3 row,3,2,2 row,2,1,2'
 
 # Lines that are nearly drops of a load: each breaks its form, and is answered with 3.
 NEAR_DROPS = (
@@ -175,3 +187,272 @@ save -> clear {BELOW} load,0,10,0 load,1,15,40 load,1,5,30 load,2,7,50 budget,30
 plan -> plan,70,30,3 1,1,1,2,0 2,1,1,2,1 3,1,1,2,1 4,0,1,1,1
 '''),
 }
+
+COOLER_EDGES = {
+    # "With two lone cameras of worth 20, one of 9 W and one of 6 W, and space for one, the 6 W camera stays on."
+    'two cameras, the warmer one first': session(f'''
+{BELOW} load,0,0,0 load,1,9,20 load,1,6,20 budget,9 -> ok
+plan -> plan,20,6,2 1,1,1,2,0 2,0,1,1,1 3,1,1,2,1
+budget,5 -> ok
+plan -> plan,0,0,0 1,0,1,1,0 2,0,2,3,2 3,0,2,3,2
+budget,6 -> ok
+plan -> plan,20,6,2 1,1,1,2,0 2,0,1,1,1 3,1,1,2,1
+budget,8 -> ok
+plan -> plan,20,6,2 1,1,1,2,0 2,0,1,1,1 3,1,1,2,1
+budget,14 -> ok
+plan -> plan,20,6,2 1,1,1,2,0 2,0,1,1,1 3,1,1,2,1
+budget,15 -> ok
+plan -> plan,40,15,3 1,1,1,2,0 2,1,1,2,1 3,1,1,2,1
+'''),
+    # By paper 01 alone the first child would have the smallest allowance, 0, and the camera of 9 W would stay on.
+    'two cameras, the cooler one first': session(f'''
+{BELOW} load,0,0,0 load,1,6,20 load,1,9,20 budget,9 -> ok
+plan -> plan,20,6,2 1,1,1,2,0 2,1,1,2,1 3,0,1,1,1
+budget,5 -> ok
+plan -> plan,0,0,0 1,0,1,1,0 2,0,2,3,2 3,0,2,3,2
+budget,6 -> ok
+plan -> plan,20,6,2 1,1,1,2,0 2,1,1,2,1 3,0,1,1,1
+budget,8 -> ok
+plan -> plan,20,6,2 1,1,1,2,0 2,1,1,2,1 3,0,1,1,1
+budget,14 -> ok
+plan -> plan,20,6,2 1,1,1,2,0 2,1,1,2,1 3,0,1,1,1
+budget,15 -> ok
+plan -> plan,40,15,3 1,1,1,2,0 2,1,1,2,1 3,1,1,2,1
+'''),
+    'a watt more, the same, a watt less': session(f'''
+{BELOW} load,0,0,0 load,1,6,20 load,1,7,20 budget,9 -> ok
+plan -> plan,20,6,2 1,1,1,2,0 2,1,1,2,1 3,0,1,1,1
+power,3,6 -> ok
+plan -> plan,20,6,2 1,1,1,2,0 2,0,1,1,1 3,1,1,2,1
+power,3,5 -> ok
+plan -> plan,20,5,2 1,1,1,2,0 2,0,1,1,1 3,1,1,2,1
+worth,2,21 -> ok
+plan -> plan,21,6,2 1,1,1,2,0 2,1,1,2,1 3,0,1,1,1
+'''),
+    'the cooler camera leaves, and another one comes': session(f'''
+{BELOW} load,0,0,0 load,1,6,20 load,1,9,20 budget,9 -> ok
+plan -> plan,20,6,2 1,1,1,2,0 2,1,1,2,1 3,0,1,1,1
+drop,2 -> ok
+plan -> plan,20,9,2 1,1,1,2,0 2,1,1,2,1
+load,1,6,20 -> ok
+plan -> plan,20,6,2 1,1,1,2,0 2,0,1,1,1 3,1,1,2,1
+'''),
+    # Load 1 would be on by the lower rule, with budget to spare.
+    'a load of worth 0 stays off': session(f'''
+{ON_FIRST} load,0,2,0 load,1,3,4 load,1,1,0 budget,9 -> ok
+plan -> plan,4,3,1 1,0,1,2,0 2,1,1,1,1 3,0,1,2,1
+worth,1,1 -> ok
+plan -> plan,5,5,2 1,1,1,1,0 2,1,1,1,1 3,0,1,2,1
+{BELOW} worth,1,0 -> ok
+plan -> plan,4,5,2 1,1,1,2,0 2,1,1,2,1 3,0,1,1,1
+'''),
+    'a load of worth 0 stays on for one below it': session(f'''
+{BELOW} load,0,2,0 load,1,3,0 load,2,1,7 load,1,1,0 budget,9 -> ok
+plan -> plan,7,6,3 1,1,1,2,0 2,1,1,2,1 3,1,1,2,1 4,0,1,1,1
+budget,6 -> ok
+plan -> plan,7,6,3 1,1,1,2,0 2,1,1,2,1 3,1,1,2,1 4,0,1,1,1
+budget,5 -> ok
+plan -> plan,0,0,0 1,0,1,1,0 2,0,2,3,2 3,0,2,3,2 4,0,2,3,2
+budget,9 worth,3,0 -> ok
+plan -> plan,0,0,0 1,0,1,1,0 2,0,2,3,2 3,0,2,3,2 4,0,2,3,2
+'''),
+    'worth 0 that draws the whole budget': session(f'''
+{ALL_ON} load,0,500,0 budget,500 -> ok
+plan -> plan,0,500,1 1,1,1,1,0
+budget,499 -> ok
+plan -> no,9
+power,1,299 load,1,200,0 -> ok
+plan -> plan,0,499,2 1,1,1,1,0 2,1,1,1,1
+load,2,1,0 -> ok
+plan -> no,9
+budget,500 -> ok
+plan -> plan,0,500,3 1,1,1,1,0 2,1,1,1,1 3,1,1,1,1
+power,1,11 budget,212 -> ok
+plan -> plan,0,212,3 1,1,1,1,0 2,1,1,1,1 3,1,1,1,1
+'''),
+    'worth 1 that draws the whole budget': session(f'''
+{BELOW} load,0,500,1 budget,500 -> ok
+plan -> plan,1,500,1 1,1,1,2,0
+budget,499 -> ok
+plan -> plan,0,0,0 1,0,1,1,0
+budget,500 power,1,0 worth,1,0 load,1,500,1 -> ok
+plan -> plan,1,500,2 1,1,1,2,0 2,1,1,2,1
+load,1,0,1 -> ok
+plan -> plan,2,500,3 1,1,1,2,0 2,1,1,2,1 3,1,1,2,1
+budget,499 -> ok
+plan -> plan,1,0,2 1,1,1,2,0 2,0,1,1,1 3,1,1,2,1
+'''),
+    'greater worth wins, whatever it draws': session(f'''
+{BELOW} load,0,0,0 load,1,9,21 load,1,1,20 budget,9 -> ok
+plan -> plan,21,9,2 1,1,1,2,0 2,1,1,2,1 3,0,1,1,1
+budget,8 -> ok
+plan -> plan,20,1,2 1,1,1,2,0 2,0,1,1,1 3,1,1,2,1
+budget,10 -> ok
+plan -> plan,41,10,3 1,1,1,2,0 2,1,1,2,1 3,1,1,2,1
+'''),
+    # Loads 2 and 3 draw 2 W together, and load 4 draws 3 W alone. By paper 01 alone load 2 would have the smallest allowance, 0.
+    'two loads that draw less than one': session(f'''
+{BELOW} load,0,0,0 load,1,1,1 load,1,1,1 load,1,3,2 budget,3 -> ok
+plan -> plan,2,2,3 1,1,1,2,0 2,1,1,2,1 3,1,1,2,1 4,0,1,1,1
+budget,2 -> ok
+plan -> plan,2,2,3 1,1,1,2,0 2,1,1,2,1 3,1,1,2,1 4,0,1,1,1
+budget,4 -> ok
+plan -> plan,3,4,3 1,1,1,2,0 2,0,1,1,1 3,1,1,2,1 4,1,1,2,1
+budget,5 -> ok
+plan -> plan,4,5,4 1,1,1,2,0 2,1,1,2,1 3,1,1,2,1 4,1,1,2,1
+'''),
+    'equal in both: the smallest allowance for the first child': session(f'''
+{BELOW} load,0,0,0 load,1,4,20 load,1,4,20 budget,7 -> ok
+plan -> plan,20,4,2 1,1,1,2,0 2,0,1,1,1 3,1,1,2,1
+budget,8 -> ok
+plan -> plan,40,8,3 1,1,1,2,0 2,1,1,2,1 3,1,1,2,1
+power,2,1 worth,2,1 power,3,2 worth,3,2 load,1,3,3 budget,3 -> ok
+plan -> plan,3,3,2 1,1,1,2,0 2,0,1,1,1 3,0,1,1,1 4,1,1,2,1
+'''),
+    'equal in both: the lowest load rule': session(f'''
+{ON_FIRST} load,0,0,0 load,1,0,0 budget,5 -> ok
+plan -> plan,0,0,2 1,1,1,1,0 2,1,1,1,1
+{BELOW} -> ok
+plan -> plan,0,0,0 1,0,1,1,0 2,0,2,3,2
+'''),
+    # Load 2 takes the lower row rule, though it needs the greater allowance.
+    'equal in both: the lowest row rule before the smallest allowance': session(f'''
+{ON_BY_ROW} load,0,0,0 load,1,4,20 load,1,4,20 budget,7 -> ok
+plan -> plan,20,4,2 1,1,3,3,0 2,1,1,1,1 3,0,2,2,2
+power,2,5 -> ok
+plan -> plan,20,4,2 1,1,3,3,0 2,0,2,2,2 3,1,1,1,1
+'''),
+    'the higher start state draws less': session(f'''
+{ON_BY_STATE} load,0,3,0 budget,9 -> ok
+plan -> plan,0,0,0 1,0,2,2,0
+check,1 -> yes 1,1,1,1,0
+worth,1,1 -> ok
+plan -> plan,1,3,1 1,1,1,1,0
+check,0 -> yes 1,0,2,2,0
+worth,1,0 power,1,0 -> ok
+plan -> plan,0,0,1 1,1,1,1,0
+'''),
+    'the higher load rule draws less': session(f'''
+{ON_BY_RULE} load,0,1,5 load,1,4,0 budget,9 -> ok
+plan -> plan,5,1,1 1,1,1,2,0 2,0,3,4,2
+check,11 -> yes 1,1,1,1,0 2,1,2,3,1
+worth,2,1 -> ok
+plan -> plan,6,5,2 1,1,1,1,0 2,1,2,3,1
+check,10 -> yes 1,1,1,2,0 2,0,3,4,2
+worth,2,0 power,2,0 -> ok
+plan -> plan,5,1,2 1,1,1,1,0 2,1,2,3,1
+'''),
+    'the higher row rule draws less': session(f'''
+{ON_BY_ROW} load,0,0,0 load,1,4,0 load,1,2,0 budget,9 -> ok
+plan -> plan,0,0,1 1,1,3,3,0 2,0,2,2,2 3,0,2,2,2
+check,111 -> yes 1,1,3,3,0 2,1,1,1,1 3,1,1,1,1
+power,2,0 -> ok
+plan -> plan,0,0,2 1,1,3,3,0 2,1,1,1,1 3,0,2,2,2
+worth,3,1 -> ok
+plan -> plan,1,2,3 1,1,3,3,0 2,1,1,1,1 3,1,1,1,1
+check,100 -> yes 1,1,3,3,0 2,0,2,2,2 3,0,2,2,2
+check,000 -> no,10
+'''),
+    # The camera of 6 W is below load 2, that of 9 W below load 3.
+    'two cameras, each below a switch': session(f'''
+{BELOW} load,0,0,0 load,1,0,0 load,1,0,0 load,2,6,20 load,3,9,20 budget,9 -> ok
+plan -> plan,20,6,3 1,1,1,2,0 2,1,1,2,1 3,0,1,1,1 4,1,1,2,1 5,0,2,3,2
+power,2,4 power,3,1 budget,11 -> ok
+plan -> plan,20,10,3 1,1,1,2,0 2,0,1,1,1 3,1,1,2,1 4,0,2,3,2 5,1,1,2,1
+power,3,2 -> ok
+plan -> plan,20,10,3 1,1,1,2,0 2,1,1,2,1 3,0,1,1,1 4,1,1,2,1 5,0,2,3,2
+'''),
+    # Of the cameras below load 2 the cooler one has to be weighed against load 5.
+    'two cameras below a switch, and one beside it': session(f'''
+{BELOW} load,0,0,0 load,1,0,0 load,2,9,20 load,2,6,20 load,1,7,20 budget,9 -> ok
+plan -> plan,20,6,3 1,1,1,2,0 2,1,1,2,1 3,0,1,1,1 4,1,1,2,1 5,0,1,1,1
+power,5,6 -> ok
+plan -> plan,20,6,2 1,1,1,2,0 2,0,1,1,1 3,0,2,3,2 4,0,2,3,2 5,1,1,2,1
+power,3,5 -> ok
+plan -> plan,20,5,3 1,1,1,2,0 2,1,1,2,1 3,1,1,2,1 4,0,1,1,1 5,0,1,1,1
+'''),
+    'a check looks at no figure': session(f'''
+{BELOW} load,0,0,0 load,1,6,20 load,1,9,20 budget,9 -> ok
+plan -> plan,20,6,2 1,1,1,2,0 2,1,1,2,1 3,0,1,1,1
+check,110 -> yes 1,1,1,2,0 2,1,1,2,1 3,0,1,1,1
+check,101 -> yes 1,1,1,2,0 2,0,1,1,1 3,1,1,2,1
+check,100 -> yes 1,1,1,2,0 2,0,1,1,1 3,0,1,1,1
+check,000 -> yes 1,0,1,1,0 2,0,2,3,2 3,0,2,3,2
+check,111 -> yes 1,1,1,2,0 2,1,1,2,1 3,1,1,2,1
+check,011 -> no,10
+'''),
+    # A plan of the same worth is the same plan, whatever is to spare.
+    'the budget rises and falls': session(f'''
+{ON_FIRST} load,0,1,0 load,1,2,1 load,1,3,1 load,1,1,1 -> ok
+plan -> plan,0,0,0 1,0,1,2,0 2,0,1,2,1 3,0,1,2,1 4,0,1,2,1
+budget,1 -> ok
+plan -> plan,1,1,1 1,0,1,2,0 2,0,1,2,1 3,0,1,2,1 4,1,1,1,1
+budget,2 -> ok
+plan -> plan,1,1,1 1,0,1,2,0 2,0,1,2,1 3,0,1,2,1 4,1,1,1,1
+budget,3 -> ok
+plan -> plan,2,3,2 1,0,1,2,0 2,1,1,1,1 3,0,1,2,1 4,1,1,1,1
+budget,5 -> ok
+plan -> plan,2,3,2 1,0,1,2,0 2,1,1,1,1 3,0,1,2,1 4,1,1,1,1
+budget,6 -> ok
+plan -> plan,3,6,3 1,0,1,2,0 2,1,1,1,1 3,1,1,1,1 4,1,1,1,1
+budget,500 -> ok
+plan -> plan,3,6,3 1,0,1,2,0 2,1,1,1,1 3,1,1,1,1 4,1,1,1,1
+budget,4 -> ok
+plan -> plan,2,3,2 1,0,1,2,0 2,1,1,1,1 3,0,1,2,1 4,1,1,1,1
+'''),
+}
+
+# As many loads as there may be, of the greatest worth, that draw nothing.
+RICHEST = ['load,0,0,%d' % MAX_WORTH] + ['load,1,0,%d' % MAX_WORTH] * (MAX_LOADS - 1)
+WORTH_OF_ALL = MAX_WORTH * MAX_LOADS
+
+
+def listing(first, rule, row):
+    """The lines of the loads from one on that are on in state 1, by these rules."""
+    return ' '.join('%d,1,1,%d,%d' % (k, rule, row) for k in range(first, MAX_LOADS + 1))
+
+
+# The greatest budget for which the cells of the line program are enough: for the most loads, one state and one stage.
+WIDE_BUDGET = CELLS // (2 * MAX_LOADS) - 1
+# A chain of loads of worth 0 that draw the greatest budget together: as many as have cells for it in the line program.
+CHAIN_LOADS = CELLS // (2 * (MAX_BUDGET + 1))
+CHAIN_POWER = MAX_BUDGET // CHAIN_LOADS
+CHAIN = ['load,0,%d,0' % (MAX_BUDGET - CHAIN_POWER * (CHAIN_LOADS - 1))] + ['load,%d,%d,0' % (k, CHAIN_POWER) for k in range(1, CHAIN_LOADS)]
+CHAIN_RUN = ['1,1,1,1,0'] + ['%d,1,1,1,1' % k for k in range(2, CHAIN_LOADS + 1)]
+
+# Of equal plans too, but of trees so large that enumeration takes its time.
+LARGEST_EDGES = {
+    'the whole budget over a long chain': session(f'''
+{ALL_ON} {' '.join(CHAIN)} budget,{MAX_BUDGET} -> ok
+plan -> plan,0,{MAX_BUDGET},{CHAIN_LOADS} {' '.join(CHAIN_RUN)}
+worth,{CHAIN_LOADS},1 -> ok
+plan -> plan,1,{MAX_BUDGET},{CHAIN_LOADS} {' '.join(CHAIN_RUN)}
+budget,{MAX_BUDGET - 1} -> ok
+plan -> no,9
+'''),
+    'the greatest worth': session(f'''
+{ALL_ON} {' '.join(RICHEST)} -> ok
+plan -> plan,{WORTH_OF_ALL},0,{MAX_LOADS} 1,1,1,1,0 {listing(2, 1, 1)}
+power,2,{WIDE_BUDGET} budget,{WIDE_BUDGET} -> ok
+plan -> plan,{WORTH_OF_ALL},{WIDE_BUDGET},{MAX_LOADS} 1,1,1,1,0 {listing(2, 1, 1)}
+budget,{WIDE_BUDGET - 1} -> ok
+plan -> no,9
+'''),
+    'the greatest worth, with one load that may be off': session(f'''
+{FIRST_FREE} {' '.join(RICHEST)} power,2,9 budget,9 -> ok
+plan -> plan,{WORTH_OF_ALL},9,{MAX_LOADS} 1,1,3,1,0 2,1,2,3,1 {listing(3, 4, 2)}
+worth,2,0 -> ok
+plan -> plan,{WORTH_OF_ALL - MAX_WORTH},0,{MAX_LOADS - 1} 1,1,3,1,0 2,0,2,2,1 {listing(3, 4, 2)}
+worth,2,{MAX_WORTH} budget,8 -> ok
+plan -> plan,{WORTH_OF_ALL - MAX_WORTH},0,{MAX_LOADS - 1} 1,1,3,1,0 2,0,2,2,1 {listing(3, 4, 2)}
+'''),
+    'the greatest worth, with one of two loads off': session(f'''
+{ONE_OF_TWO} {' '.join(RICHEST)} power,2,6 power,3,9 budget,9 -> ok
+plan -> plan,{WORTH_OF_ALL - MAX_WORTH},6,{MAX_LOADS - 1} 1,1,3,1,0 2,1,1,2,2 3,0,2,3,3 {listing(4, 2, 4)}
+power,3,6 -> ok
+plan -> plan,{WORTH_OF_ALL - MAX_WORTH},6,{MAX_LOADS - 1} 1,1,3,1,0 2,0,2,3,1 {listing(3, 2, 4)}
+worth,2,{MAX_WORTH - 1} power,2,5 -> ok
+plan -> plan,{WORTH_OF_ALL - MAX_WORTH},6,{MAX_LOADS - 1} 1,1,3,1,0 2,0,2,3,1 {listing(3, 2, 4)}
+'''),
+}
+EDGES = {**DROP_EDGES, **COOLER_EDGES, **LARGEST_EDGES}

@@ -14,7 +14,7 @@ import random
 import sys
 
 from crosscheck import sessions
-from edges import DROP_EDGES
+from edges import EDGES
 from library import Lent, Library, Planner, held, tables_with
 from limits import FREE_BYTES, LINE_BYTES, PLANNER_BYTES, SAVE_BYTES
 from oracle import Oracle, bytes_needed, parse
@@ -109,7 +109,7 @@ def edge_fault(planner, case):
 
 def edge_faults(kind, library):
     """What is wrong in each session by name, with a planner of this kind."""
-    return [edge_fault(kind(library).fresh(), case) for case in DROP_EDGES.values()]
+    return [edge_fault(kind(library).fresh(), case) for case in EDGES.values()]
 
 
 def main():
@@ -126,7 +126,7 @@ def main():
     for fault in [f for f in faults if f][:5]:
         print('DIFFERS: ' + fault)
     failed = sum(fault is not None for fault in faults)
-    print('%d calls in %d sessions, and %d sessions by name' % (sum(map(len, cases)), len(cases), len(DROP_EDGES)))
+    print('%d calls in %d sessions, and %d sessions by name' % (sum(map(len, cases)), len(cases), len(EDGES)))
     print('%d passed, %d failed' % (len(faults) - failed, failed))
     return 1 if failed else 0
 

@@ -1,4 +1,4 @@
-"""Paper 01 and requests One to Three of paper 02 by plain enumeration: every run of every set, straight from the text. It shares no code with
+"""Paper 01 and requests One to Four of paper 02 by plain enumeration: every run of every set, straight from the text. It shares no code with
 the product, and with the header of the product only the limits.
 
 It is slow on purpose. Trees of up to five or six loads and small books are what it is for.
@@ -121,17 +121,29 @@ class Oracle:
             if q in self.starts:
                 yield from self.branch_runs(1, q)
 
-    # ---- "Which plan among equals"
+    # ---- "Which plan among equals" of paper 01, "where "best" and "greatest worth" mean both" worth and power (request Four of paper 02)
+
+    def best(self, runs, allowance):
+        """"Of greatest worth, then of least power": the worth and the power below 0 of the best run within an allowance, or None."""
+        return max(((v, -w) for v, w, _ in runs if w <= allowance), default=None)
+
+    def best_branch(self, runs, allowance):
+        """The best by which a load rule is chosen."""
+        return self.best(runs, allowance)
+
+    def best_row(self, runs, allowance):
+        """The best by which a row rule and the allowance of a branch are chosen."""
+        return self.best(runs, allowance)
 
     @staticmethod
-    def best(runs, allowance):
-        """The greatest worth within an allowance, or None."""
-        return max((v for v, w, _ in runs if w <= allowance), default=None)
+    def together(one, other):
+        """The best of a branch and of the later row together, or None."""
+        return None if one is None or other is None else (one[0] + other[0], one[1] + other[1])
 
     def choose_branch(self, k, state, row_rule, allowance, out):
-        goal = self.best(self.branch_runs(k, state), allowance)
+        goal = self.best_branch(self.branch_runs(k, state), allowance)
         for n in self.order(range(1, len(self.rules) + 1)):
-            if self.best(self.rule_runs(k, state, n), allowance) == goal:
+            if self.best_branch(self.rule_runs(k, state, n), allowance) == goal:
                 break
         mark, stage = self.rules[n - 1][1], self.rules[n - 1][2]
         out[k] = (mark, state, n, row_rule)
@@ -140,16 +152,15 @@ class Oracle:
     def choose_row(self, row, stage, allowance, out):
         if not row:
             return
-        goal = self.best(self.row_runs(row, stage), allowance)
+        goal = self.best_row(self.row_runs(row, stage), allowance)
         for n in self.order(range(1, len(self.rows) + 1)):
-            if self.best(self.step_runs(row, stage, n), allowance) == goal:
+            if self.best_row(self.step_runs(row, stage, n), allowance) == goal:
                 break
         state = self.rows[n - 1][1]
         branch = list(self.branch_runs(row[0], state))
         rest = list(self.row_runs(row[1:], self.next_stage(self.rows[n - 1])))
         for share in self.order(range(allowance + 1)):
-            mine, others = self.best(branch, share), self.best(rest, allowance - share)
-            if mine is not None and others is not None and mine + others == goal:
+            if self.together(self.best_row(branch, share), self.best_row(rest, allowance - share)) == goal:
                 break
         self.choose_branch(row[0], state, n, share, out)
         self.choose_row(row[1:], self.next_stage(self.rows[n - 1]), allowance - share, out)

@@ -1,5 +1,5 @@
 """Oracles that are wrong on purpose, each in one place. A comparison that cannot tell them from the product would show nothing."""
-from limits import CELLS, MAX_LOADS
+from limits import CELLS, MAX_BUDGET, MAX_LOADS
 from oracle import Oracle
 
 
@@ -264,6 +264,90 @@ class DropTakesMore(Oracle):
         return super().answer(b','.join(line.split(b',')[:2]) if line.startswith(b'drop,') else line, cells)
 
 
+def greatest(runs, allowance, merit):
+    """The greatest of what runs within an allowance are compared by, two numbers of worth and power, or None."""
+    return max((merit(worth, power) for worth, power, _ in runs if power <= allowance), default=None)
+
+
+def by_worth(runs, allowance):
+    return greatest(runs, allowance, lambda worth, power: (worth, 0))
+
+
+class WorthAlone(Oracle):
+    """Worth alone is best, as in paper 01, and the smallest allowance of a first child passes for the least power."""
+
+    def best(self, runs, allowance):
+        return by_worth(runs, allowance)
+
+
+class PowerAtRootAlone(Oracle):
+    """Power tells only between start states: load rules, row rules and allowances are chosen by worth alone."""
+
+    def best_branch(self, runs, allowance):
+        return by_worth(runs, allowance)
+
+    def best_row(self, runs, allowance):
+        return by_worth(runs, allowance)
+
+
+class BranchesByWorth(Oracle):
+    """Load rules are chosen by worth alone."""
+
+    def best_branch(self, runs, allowance):
+        return by_worth(runs, allowance)
+
+
+class RowsByWorth(Oracle):
+    """Row rules and allowances are chosen by worth alone."""
+
+    def best_row(self, runs, allowance):
+        return by_worth(runs, allowance)
+
+
+class WarmerOfEquals(Oracle):
+    """Of equal worth the set that draws more is taken."""
+
+    def best(self, runs, allowance):
+        return greatest(runs, allowance, lambda worth, power: (worth, power))
+
+
+class PowerBeforeWorth(Oracle):
+    """The plan is of least power, then of greatest worth."""
+
+    def best(self, runs, allowance):
+        return greatest(runs, allowance, lambda worth, power: (-power, worth))
+
+
+class FewerLoads(Oracle):
+    """Of equal worth the set with fewer loads on is taken, whatever it draws."""
+
+    def best(self, runs, allowance):
+        fitting = [(worth, run) for worth, power, run in runs if power <= allowance]
+        return max(((worth, -sum(entry[0] for entry in run.values())) for worth, run in fitting), default=None)
+
+
+class OffDraws(Oracle):
+    """A load that is off draws its power too."""
+
+    def figures(self, k, mark):
+        return self.loads[k - 1][1], super().figures(k, mark)[1]
+
+
+class WholeBudgetIsNone(Oracle):
+    """A cell is worth * 500 + 500 - power, so that a set of worth 0 that draws 500 W is taken for none."""
+
+    def best(self, runs, allowance):
+        found = greatest(runs, allowance, lambda worth, power: (MAX_BUDGET * worth - power, 0))
+        return None if found == (-MAX_BUDGET, 0) else found
+
+
+class PowerIntoWorth(Oracle):
+    """A cell is worth * 256 + 256 - power, so that 257 W more outweigh a worth of 1."""
+
+    def best(self, runs, allowance):
+        return greatest(runs, allowance, lambda worth, power: (256 * worth - power, 0))
+
+
 # Those that are wrong in a drop that has its form, and all of them.
 WRONG_DROPS = [
     ParentsStay, OwnNumberFalls, NextNumberFalls, LowerNumberFalls, LastIntoGap, ParentDropped, RootDropped, RefusedDropTaken, ChildrenFirst,
@@ -272,4 +356,6 @@ WRONG_DROPS = [
 WRONG = [
     StageRestarts, LeafAlwaysEnds, HighestFirst, PowerKept, FirstBudget, StoresNothing, ZerosBarred, ZerosNotCounted,
     EndsFirst, RowsFirst, MarksDescend, BookOfNone, NoBudgetOfNone, PaddedSave, NoSaveOfNoLoads, SaveTakesFields, DropTakesMore, *WRONG_DROPS,
+    WorthAlone, PowerAtRootAlone, BranchesByWorth, RowsByWorth, WarmerOfEquals, PowerBeforeWorth, FewerLoads, OffDraws, WholeBudgetIsNone,
+    PowerIntoWorth,
 ]
