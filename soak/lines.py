@@ -3,6 +3,7 @@
 The weights of the words change from season to season, so that lists run full, books are replaced, and plans are asked for.
 """
 from model import RANGES, Model
+from edges import BELOW  # of tests/, which model.py put on the path
 
 SEASON = 150  # lines
 SEASONS = (
@@ -19,6 +20,8 @@ OTHER_WORDS = (
     b'cler', b'0', b'no', b'ok',
 )
 ASKED = (b'save', b'plan', b'check')  # after a drop; they change nothing
+# The greatest values of a line's last fields, power and worth, in a season in which many sets are equal in worth.
+EQUALS = {b'load': (3, 1), b'power': (3,), b'worth': (1,)}
 STRAY = bytes((0, 1, 9, 11, 13, 32, 34, 43, 44, 45, 46, 47, 48, 49, 57, 58, 65, 97, 127, 128, 255))
 LONG = (*range(Model.most_bytes - 1, Model.most_bytes + 3), Model.most_bytes + 20, 1024, 1025, 4095, 4096, 4097, 9000)
 
@@ -57,9 +60,9 @@ def leaf(rng, model):
     return rng.choice(sorted({*range(1, len(model.loads) + 1)} - {parent for parent, _, _ in model.loads}))
 
 
-def values(rng, model, word):
+def values(rng, model, word, equals):
     """Values for the fields of a word: in their ranges, now and then at an edge, now and then those of a rule that is there. A load that is to
-    leave has mostly no children."""
+    leave has mostly no children. Where `equals`, loads have few different figures."""
     there = {b'rule': model.rules, b'row': model.rows}.get(word)
     if there and rng.random() < 0.1:
         return rng.choice(there)
@@ -69,6 +72,8 @@ def values(rng, model, word):
         return [leaf(rng, model)]
     ranges = RANGES[word](model)
     found = [rng.randint(low, max(low, high)) for low, high in ranges]
+    if equals and word in EQUALS:
+        found[-len(EQUALS[word]):] = [rng.randint(0, most) for most in EQUALS[word]]
     if ranges and rng.random() < 0.2:
         field = rng.randrange(len(ranges))
         found[field] = at_an_edge(rng, *ranges[field])
@@ -80,11 +85,11 @@ def number(rng, value):
     return (b'%d' % value).zfill(rng.randint(1, Model.most_digits) if rng.random() < 0.3 else 1)
 
 
-def line_of(rng, model, word):
+def line_of(rng, model, word, equals):
     """A line that is in form."""
     if word == b'check':
         return b'check,' + bits(rng, model)
-    return b','.join([word] + [number(rng, value) for value in values(rng, model, word)])
+    return b','.join([word] + [number(rng, value) for value in values(rng, model, word, equals)])
 
 
 # ---- damage to a line
@@ -180,18 +185,18 @@ def dropped(taken):
 def season(rng, model):
     """The lines of a season. The model takes each, so that the next one is written for the tables in force. After a drop the words of ASKED
     follow."""
-    weights = rng.choice(SEASONS)
+    weights, equals = rng.choice(SEASONS), rng.random() < 0.4
     words, shares = list(weights), list(weights.values())
     lines = first_lines(rng, model)
     for line in lines:
         model.take(line)
     while len(lines) < SEASON:
-        line = line_of(rng, model, rng.choices(words, shares)[0])
+        line = line_of(rng, model, rng.choices(words, shares)[0], equals)
         if rng.random() < 0.2:
             line = rng.choice(DAMAGE)(rng, line)
         lines.append(line)
         if dropped(model.take(line)):
-            lines += [line_of(rng, model, word) for word in ASKED]
+            lines += [line_of(rng, model, word, equals) for word in ASKED]
     return lines
 
 
@@ -211,10 +216,17 @@ def all_cells():
     return lines + [b'budget,%d' % budget, b'plan', b'budget,%d' % (budget + 1), b'plan']
 
 
+def cameras(*powers):
+    """A feed with cameras of equal worth, of which the coolest has space, and its plan. A load may be on only if its parent is."""
+    loads = [b'load,0,0,0'] + [b'load,1,%d,20' % power for power in powers]
+    return [b'clear', *BELOW.encode().split(), *loads, b'budget,%d' % max(powers), b'plan']
+
+
 def seldom():
     """What random lines seldom have, in a session of its own."""
     sizes = [b'book,%d,1' % (Model.most_states + 1), b'book,1,%d' % (Model.most_stages + 1)]
-    return sizes + one_rule_more() + all_cells() + [b'\0plan', b'\0budget,1', b'check,', b'save']
+    others = [b'\0plan', b'\0budget,1', b'check,', b'save']
+    return sizes + one_rule_more() + all_cells() + others + cameras(9, 6) + cameras(6, 9)
 
 
 def session(rng, model, count):

@@ -6,6 +6,7 @@
 Every answer to a change, every refusal from 2 to 8, every 11 and every save is compared. Of a plan or a check that the tables do not refuse,
 the answer must be 9 or 10, or a run of the set it shows, line for line (shown.py). Every number that a word can be answered with must come up.
 After a drop a save, a plan and a check are asked for. Another process, fed the tree without that load, must answer the same.
+Plans are asked for again, of another process, with a budget of just their power and with a watt less (budgets.py).
 Then the same lines are given to models that are wrong on purpose (wrong.py), and each must be told apart from the program.
 With --wrong NAME the wrong model takes the right one's place, and the run is to fail.
 The last line is 'N passed, M failed': sessions, kinds of answers, wrong models.
@@ -17,6 +18,7 @@ import sys
 import time
 from collections import Counter
 
+import budgets
 import lines
 import shown
 from model import EFFECTS, Model
@@ -88,14 +90,23 @@ def drops_in(session):
             yield at, without(saved, load)
 
 
-def fed(program, session, parts):
+def fed(ask, session, parts):
     """Feeds the trees without the loads that left to another process: how many, and whether it prints what was printed after the drops."""
     found, given, wanted = list(drops_in(session))[:FED], [], []
     for at, entering in found:
         asked = slice(at + 1, at + 1 + len(lines.ASKED))
         given += entering + session[asked]
         wanted += [b'ok'] * len(entering) + [line for part in parts[asked] for line in part]
-    return len(found), printed_by(program, given, ended=bool(given))[:-1] == wanted
+    return len(found), ask(given) == wanted
+
+
+def asked_anew(program, session, parts):
+    """How many trees without a load and how many plans another process was asked about, and what differs, or None."""
+    def ask(given):
+        return printed_by(program, given, ended=bool(given))[:-1]
+    trees, same = fed(ask, session, parts)
+    plans, fault = budgets.compared(ask, session, parts)
+    return trees, plans, fault if same else 'a tree that was entered without a load that left'
 
 
 def sessions(args, rng):
@@ -106,23 +117,22 @@ def sessions(args, rng):
 
 
 def run_sessions(args, kind):
-    """Runs the sessions: how many agree and differ, the answers counted, the trees fed, and the first sessions with what was printed."""
+    """Runs the sessions: how many agree and differ, the answers counted, what was asked anew, and the first sessions with what was printed."""
     rng = random.Random(args.seed)
-    agree, differ, seen, trees, kept = 0, 0, Counter(), 0, []
+    agree, differ, seen, asked, kept = 0, 0, Counter(), Counter(), []
     for place, session in enumerate(sessions(args, rng)):
         printed = printed_by(args.program, session, ended=rng.random() < 0.5 or session[-1] == b'')
         parts, difference = compare(kind(), session, printed, seen)
         if difference is None:
-            count, same = fed(args.program, session, parts)
-            trees += count
-            difference = None if same else 'a tree that was entered without a load that left'
+            trees, plans, difference = asked_anew(args.program, session, parts)
+            asked.update(drops=trees, plans=plans)
         agree += difference is None
         differ += difference is not None
         if difference and differ <= 5:
             print('session %d differs at %s' % (place, difference))
         if len(kept) < KEPT:
             kept.append((session, printed))
-    return agree, differ, seen, trees, kept
+    return agree, differ, seen, asked, kept
 
 
 def answers(seen):
@@ -153,10 +163,10 @@ def main():
     options.add_argument('--wrong', choices=WRONG)
     args = options.parse_args()
     began = time.monotonic()
-    agree, differ, seen, trees, kept = run_sessions(args, WRONG[args.wrong] if args.wrong else Model)
+    agree, differ, seen, asked, kept = run_sessions(args, WRONG[args.wrong] if args.wrong else Model)
     seconds = time.monotonic() - began
-    print('%d lines in %d sessions, seed %d, %d drops compared: %d sessions differ; %.1f s'
-          % (args.lines, agree + differ, args.seed, trees, differ, seconds))
+    print('%d lines in %d sessions, seed %d, %d drops compared, %d plans asked for again: %d sessions differ; %.1f s'
+          % (args.lines, agree + differ, args.seed, asked['drops'], asked['plans'], differ, seconds))
     present, missing = answers(seen)
     told, untold = told_apart(kept)
     print('%d kinds of answers seen, %d missing; %d wrong models told apart, %d not' % (present, missing, told, untold))
