@@ -72,6 +72,14 @@ Tables tables_of(Cabinet c) {
     return t;
 }
 
+Tables with_equals(Tables t) {
+    for (size_t k = 0; k < t.loads.count; k++) {
+        t.loads.items[k].power = (uint16_t)(t.loads.items[k].power % 4 * 10);
+        t.loads.items[k].worth %= 2;
+    }
+    return t;
+}
+
 size_t cells_of(const Tables *t) {
     return HULMEIDE_CELLS_NEEDED(t->loads.count, t->book.states, t->book.stages, t->budget);
 }

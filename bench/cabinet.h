@@ -20,6 +20,10 @@ typedef struct { Shape shape; int loads, states, rules, budget; } Cabinet;
 Cabinet largest(Shape shape);
 
 Tables tables_of(Cabinet c);
+
+// The same cabinet, but its loads draw 0, 10, 20 or 30 watts and are worth 0 or 1: many sets are equal in worth, and many in power too.
+Tables with_equals(Tables t);
+
 void add_rules(TransitionList *list, int rules, int states, bool of_loads, unsigned seed);
 size_t cells_of(const Tables *t);
 

@@ -1,15 +1,12 @@
-// "Which plan among equals": the run read back from the filled cells, from the top down. Both plans in C use it.
+// "Which plan among equals": the run read back from the filled cells, from the top down. The best is by worth and power both, as the cells are.
+// Both plans in C use it.
 #include "cells.h"
 
 // What the row from load k onward reaches at this stage with an allowance.
 static uint32_t row_value(const Tables *t, uint32_t *work, int k, int stage, int allowance) {
     if (k == NONE)
-        return ends_at(t, stage);
+        return ends_at(t, stage) ? EMPTY : 0;
     return row_cells(t, work, k, stage)[allowance];
-}
-
-static uint32_t joined(uint32_t x, uint32_t y) {
-    return x && y ? x + y - 1 : 0;
 }
 
 // Load k takes the lowest load rule that still reaches the best: its row's stage, and what is left for the row.
@@ -19,10 +16,9 @@ static int choose_load_rule(const Tables *t, uint32_t *work, int k, int state, i
     for (int j = 0; j < (int)t->book.load_rules.count; j++) {
         Transition r = t->book.load_rules.items[j];
         int power = r.label ? t->loads.items[k].power : 0;
-        uint32_t worth = r.label ? t->loads.items[k].worth : 0;
         if (r.from != state || power > *allowance)
             continue;
-        if (joined(1 + worth, row_value(t, work, child, r.to, *allowance - power)) == goal) {
+        if (joined(own_cell(t, k, r.label), row_value(t, work, child, r.to, *allowance - power)) == goal) {
             run->states[k] = (uint8_t)state;
             run->load_rules[k] = (uint8_t)(j + 1);
             run->set |= (uint64_t)r.label << k;

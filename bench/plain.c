@@ -4,19 +4,18 @@
 
 // The branch of load k by one load rule.
 static void raise_branch(const Tables *t, uint32_t *work, int k, int child, Transition r) {
-    uint32_t *o = branch_cells(t, work, k, r.from);
+    uint32_t *o = branch_cells(t, work, k, r.from), own = own_cell(t, k, r.label);
     int power = r.label ? t->loads.items[k].power : 0;
-    uint32_t worth = r.label ? t->loads.items[k].worth : 0;
     if (child == NONE) {
         if (ends_at(t, r.to))
             for (int a = power; a < width_of(t); a++)
-                if (o[a] < 1 + worth)
-                    o[a] = 1 + worth;
+                if (o[a] < own)
+                    o[a] = own;
         return;
     }
     uint32_t *row = row_cells(t, work, child, r.to);
     for (int a = power; a < width_of(t); a++) {
-        uint32_t z = row[a - power] ? row[a - power] + worth : 0;
+        uint32_t z = joined(own, row[a - power]);
         if (o[a] < z)
             o[a] = z;
     }
@@ -28,7 +27,7 @@ static void raise_splits(uint32_t *o, const uint32_t *branch, const uint32_t *la
         if (!branch[c])
             continue;
         for (int a = c; a < width; a++) {
-            uint32_t z = later[a - c] ? later[a - c] + branch[c] - 1 : 0;
+            uint32_t z = later[a - c] ? later[a - c] + branch[c] - EMPTY : 0;
             if (o[a] < z)
                 o[a] = z;
         }

@@ -1,7 +1,11 @@
 //! A plan in plain Rust, as one writes it from the paper: every cell of every branch and row, in cache order, every split tried.
-//! Loads are numbered from 0 here. A cell is 0 where no run fits, and otherwise the greatest worth and 1.
+//! Loads are numbered from 0 here. A cell is 0 where no run fits, and otherwise worth * EMPTY + EMPTY - power of the best run: greatest worth,
+//! then least power.
 
 use hulmeide::{MAX_LOADS, MAX_RULES};
+
+/// The cell of the empty set. It is more than any power that fits a budget.
+const EMPTY: u32 = 512;
 
 #[repr(C)]
 #[derive(Clone, Copy)]
@@ -115,15 +119,16 @@ impl Tables {
         self.first_after(k, self.loads()[k].parent as usize)
     }
 
-    /// The power and the worth of load k with this mark.
-    fn figures(&self, k: usize, mark: u8) -> (usize, u32) {
+    /// The power and the cell of load k with this mark, without what is below it.
+    fn own(&self, k: usize, mark: u8) -> (usize, u32) {
         let load = self.loads()[k];
-        if mark == 1 { (load.power as usize, load.worth as u32) } else { (0, 0) }
+        if mark == 1 { (load.power as usize, load.worth as u32 * EMPTY + EMPTY - load.power as u32) } else { (0, EMPTY) }
     }
 }
 
+/// The cell of two parts of the tree together.
 fn joined(x: u32, y: u32) -> u32 {
-    if x == 0 || y == 0 { 0 } else { x + y - 1 }
+    if x == 0 || y == 0 { 0 } else { x + y - EMPTY }
 }
 
 /// Raises each cell to what stands beside it, joined with `own`.
@@ -135,7 +140,7 @@ fn raise(out: &mut [u32], cells: &[u32], own: u32) {
 
 /// The branch of load k by one load rule.
 fn raise_branch(t: &Tables, work: &mut [u32], k: usize, rule: Transition) {
-    let (power, worth) = t.figures(k, rule.label);
+    let (power, own) = t.own(k, rule.label);
     if power >= t.width() {
         return;
     }
@@ -144,9 +149,9 @@ fn raise_branch(t: &Tables, work: &mut [u32], k: usize, rule: Transition) {
     match t.first_child(k) {
         Some(child) => {
             let at = t.row_place(child, rule.to);
-            raise(out, &below[at..at + t.width()], worth + 1);
+            raise(out, &below[at..at + t.width()], own);
         }
-        None if t.ends_at(rule.to) => out.iter_mut().for_each(|o| *o = (*o).max(worth + 1)),
+        None if t.ends_at(rule.to) => out.iter_mut().for_each(|o| *o = (*o).max(own)),
         None => {}
     }
 }
@@ -166,7 +171,7 @@ fn raise_row(t: &Tables, work: &mut [u32], k: usize, rule: Transition) {
                 }
             }
         }
-        None if t.ends_at(rule.to) => raise(out, branch, 1),
+        None if t.ends_at(rule.to) => raise(out, branch, EMPTY),
         None => {}
     }
 }
@@ -187,7 +192,8 @@ fn fill(t: &Tables, work: &mut [u32]) {
 fn row_value(t: &Tables, work: &[u32], k: Option<usize>, stage: u8, allowance: usize) -> u32 {
     match k {
         Some(k) => work[t.row_place(k, stage) + allowance],
-        None => t.ends_at(stage) as u32,
+        None if t.ends_at(stage) => EMPTY,
+        None => 0,
     }
 }
 
@@ -196,11 +202,11 @@ fn choose_branch(t: &Tables, work: &[u32], run: &mut Run, k: usize, state: u8, a
     let goal = work[t.branch_place(k, state) + allowance];
     let child = t.first_child(k);
     for (j, rule) in t.book.load_rules.rules().iter().enumerate() {
-        let (power, worth) = t.figures(k, rule.label);
+        let (power, own) = t.own(k, rule.label);
         if rule.from != state || power > allowance {
             continue;
         }
-        if joined(worth + 1, row_value(t, work, child, rule.to, allowance - power)) == goal {
+        if joined(own, row_value(t, work, child, rule.to, allowance - power)) == goal {
             run.states[k] = state;
             run.load_rules[k] = j as u8 + 1;
             run.set |= (rule.label as u64) << k;

@@ -10,8 +10,9 @@ static uint32_t greater(uint32_t x, uint32_t y) {
     return x < y ? y : x;
 }
 
-// The strip raised to `cells`, each with `more` worth, moved up by `shift`.
-static void lift(uint32_t *restrict strip, const uint32_t *restrict cells, int shift, uint32_t more, int width) {
+// The strip raised to `cells`, each joined with `own`, moved up by `shift`. What is added to each may be below 0, and then wraps round.
+static void lift(uint32_t *restrict strip, const uint32_t *restrict cells, int shift, uint32_t own, int width) {
+    uint32_t more = own - EMPTY;
     for (int a = shift; a < width; a++) {
         uint32_t cell = cells[a - shift];
         strip[a] = greater(strip[a], cell ? cell + more : 0);
@@ -23,19 +24,19 @@ static void share(uint32_t *strip, const uint32_t *branch, const uint32_t *later
     for (int c = 0; c < width; c++)
         if (branch[c] != last) {
             last = branch[c];
-            lift(strip, later, c, last - 1, width);
+            lift(strip, later, c, last, width);
         }
 }
 
 // The strip raised to the branch of load k by one load rule.
 static void raise_branch(const Tables *t, uint32_t *work, uint32_t *strip, int k, int child, Transition r) {
     int power = r.label ? t->loads.items[k].power : 0;
-    uint32_t worth = r.label ? t->loads.items[k].worth : 0;
+    uint32_t own = own_cell(t, k, r.label);
     if (child != NONE)
-        lift(strip, row_cells(t, work, child, r.to), power, worth, width_of(t));
+        lift(strip, row_cells(t, work, child, r.to), power, own, width_of(t));
     else if (ends_at(t, r.to))
         for (int a = power; a < width_of(t); a++)
-            strip[a] = greater(strip[a], 1 + worth);
+            strip[a] = greater(strip[a], own);
 }
 
 // The strip raised to the row from load k onward by one row rule.
@@ -44,7 +45,7 @@ static void raise_row(const Tables *t, uint32_t *work, uint32_t *strip, int k, i
     if (next != NONE)
         share(strip, branch, row_cells(t, work, next, r.to), width_of(t));
     else if (ends_at(t, r.to))
-        lift(strip, branch, 0, 0, width_of(t));
+        lift(strip, branch, 0, EMPTY, width_of(t));
 }
 
 // The cells of load k and the state or stage `from`.

@@ -1,4 +1,4 @@
-// Times of the four plans by tree, loads, rules and budget.
+// Times of the four plans by tree, loads, rules and budget, and on cabinets that tell which of equal plans each shows.
 #include "measure.h"
 #include <stdio.h>
 
@@ -24,9 +24,20 @@ static void print_growth(void) {
         print_row("budget", budget, tables_of((Cabinet){RANDOM, HULMEIDE_MAX_LOADS, 4, HULMEIDE_MAX_RULES, budget}));
 }
 
+static void print_equals(void) {
+    print_head("Many equals: 64 loads of 0, 10, 20 or 30 watts and worth 0 or 1, 8 states, 8 stages, 32 + 32 rules", "tree", "watts");
+    for (int shape = 0; shape < SHAPES; shape++)
+        for (int budget = 125; budget <= HULMEIDE_MAX_BUDGET; budget += 125) {
+            Cabinet c = largest(shape);
+            c.budget = budget;
+            print_row(shape_names[shape], budget, with_equals(tables_of(c)));
+        }
+}
+
 int main(void) {
     printf("A plan: processor time in milliseconds, best of %d rounds; proved over each other one; the answer that all agree on\n", ROUNDS);
     print_trees();
     print_growth();
+    print_equals();
     return 0;
 }
