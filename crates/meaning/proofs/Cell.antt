@@ -53,7 +53,7 @@ unfolding _⊕_
 ⊕-right (suc x) zero h = refl
 ⊕-right (suc x) (suc y) h = absurd (omega arith)
 
--- two sets that draw too much together
+-- two sets that are worth nothing and draw too much together, or one that is none
 pub ⊕-over : (x y : ℕ) → x + y ≤ powerLimit → x ⊕ y ≡ 0
 unfolding _⊕_ cell
 ⊕-over zero y h = refl

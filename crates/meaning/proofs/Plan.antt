@@ -1,6 +1,6 @@
 -- The plan is the best of all allowed sets that fit, the lowest of the runs that reach it, and there is none exactly if no allowed set
 -- fits. Assumes nothing.
-use Prim.Native.Nat.{ℕ, _-_, _≤_, _<_}
+use Prim.Native.Nat.{ℕ, _≤_, _<_}
 use mathlib.Core.Path.{_≡_, refl, sym, ap, ap₂, _∙_}
 use mathlib.Core.Logic.{_↔_, _⊎_, inl, inr}
 use native.Mathlib.Nat.{le-trans, le-of-eq, eq-zero-or-pos}

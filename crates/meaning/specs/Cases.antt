@@ -100,6 +100,7 @@ cases =
 abbrev pub tablesFor : Case → Tables
 tablesFor x = record { book = x .book; loads = x .loads; budget = x .budget; places = maxLoads }
 
+-- the set that the plan shows
 abbrev pub shown : Tables → ℕ → ℕ
 shown t = shownSet (planEntries t)
 

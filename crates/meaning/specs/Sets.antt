@@ -39,7 +39,7 @@ module _ (t : Tables) (σ : ℕ → ℕ) where
   abbrev pub Fits : Type 0
   Fits = power ≤ t .budget
 
--- σ is a best set: it is allowed and fits, and no other such set is worth more
+-- σ is a best set: it is allowed and fits, no other such set is worth more, and none of equal worth draws less
 pub record Optimum (t : Tables) (σ : ℕ → ℕ) : Type 0 where
   pub allowed : Allowed t σ
   pub fits : Fits t σ
