@@ -27,6 +27,7 @@ static void raise_splits(uint32_t *o, const uint32_t *branch, const uint32_t *la
         if (!branch[c])
             continue;
         for (int a = c; a < width; a++) {
+            // As `joined` has it: the branch is not 0 here, and the loop is faster without that test.
             uint32_t z = later[a - c] ? later[a - c] + branch[c] - EMPTY : 0;
             if (o[a] < z)
                 o[a] = z;

@@ -42,6 +42,25 @@ def fault(plan, answers):
     return None if is_less or power == 0 else 'a plan worth less than %d with a budget of %d' % (worth, power - 1)
 
 
+# A plan with the answers to such lines that are right of it, and answers that are wrong on purpose, each in one place.
+CAMERA = ['plan,20,6,2', '1,1,1,2,0', '2,1,1,2,1', '3,0,1,1,1']
+RIGHT = [['ok'], CAMERA, ['ok'], ['plan,0,0,0', '1,0,1,1,0', '2,0,2,3,2', '3,0,2,3,2']]
+WRONG = {
+    'a line of a save refused': [['no,5'], *RIGHT[1:]],
+    'no plan with a budget of its power': [RIGHT[0], ['no,9'], *RIGHT[2:]],
+    'another set of that worth and power': [RIGHT[0], ['plan,20,6,2', '1,1,1,2,0', '2,0,1,1,1', '3,1,1,2,1'], *RIGHT[2:]],
+    'a watt less refused': [*RIGHT[:2], ['no,5'], RIGHT[3]],
+    'that worth with a watt less': [*RIGHT[:3], ['plan,20,5,2', *CAMERA[1:]]],
+    'more worth with a watt less': [*RIGHT[:3], ['plan,21,5,2', *CAMERA[1:]]],
+}
+
+
+def untold():
+    """The answers that are taken for what they are not: those that are right for wrong, and those that are wrong for right."""
+    found = [name for name, answers in WRONG.items() if not fault(CAMERA, answers)]
+    return ['right answers', *found] if fault(CAMERA, RIGHT) else found
+
+
 def compared(ask, session, parts):
     """How many plans of a session were asked for again, of another process, and the first fault, or None."""
     plans = list(plans_in(session, parts))[:MOST]

@@ -217,7 +217,7 @@ def all_cells():
 
 
 def cameras(*powers):
-    """A feed with cameras of equal worth, of which the coolest has space, and its plan. A load may be on only if its parent is."""
+    """A feed with cameras of equal worth and space for one of them, and its plan. A load may be on only if its parent is."""
     loads = [b'load,0,0,0'] + [b'load,1,%d,20' % power for power in powers]
     return [b'clear', *BELOW.encode().split(), *loads, b'budget,%d' % max(powers), b'plan']
 

@@ -145,14 +145,12 @@ def answers(seen):
 
 
 def told_apart(kept):
-    """How many wrong models differ from the program in a kept session, and how many do not."""
-    told = 0
-    for name, kind in WRONG.items():
-        if any(compare(kind(), session, printed, Counter())[1] for session, printed in kept):
-            told += 1
-        else:
-            print('%s: not told apart' % name)
-    return told, len(WRONG) - told
+    """How many wrong models differ from the program in a kept session, with the wrong answers of budgets.py, and how many do not."""
+    untold = [name for name, kind in WRONG.items()
+              if not any(compare(kind(), session, printed, Counter())[1] for session, printed in kept)] + budgets.untold()
+    for name in untold:
+        print('%s: not told apart' % name)
+    return len(WRONG) + len(budgets.WRONG) - len(untold), len(untold)
 
 
 def main():
@@ -169,7 +167,7 @@ def main():
           % (args.lines, agree + differ, args.seed, asked['drops'], asked['plans'], differ, seconds))
     present, missing = answers(seen)
     told, untold = told_apart(kept)
-    print('%d kinds of answers seen, %d missing; %d wrong models told apart, %d not' % (present, missing, told, untold))
+    print('%d kinds of answers seen, %d missing; %d wrong models and answers told apart, %d not' % (present, missing, told, untold))
     passed, failed = agree + present + told, differ + missing + untold
     print('%d passed, %d failed' % (passed, failed))
     return 1 if failed else 0

@@ -124,7 +124,7 @@ class Oracle:
     # ---- "Which plan among equals" of paper 01, "where "best" and "greatest worth" mean both" worth and power (request Four of paper 02)
 
     def best(self, runs, allowance):
-        """"Of greatest worth, then of least power": the worth and the power below 0 of the best run within an allowance, or None."""
+        """"Of greatest worth, then of least power": the worth, and the power with a minus sign, of the best run within an allowance, or None."""
         return max(((v, -w) for v, w, _ in runs if w <= allowance), default=None)
 
     def best_branch(self, runs, allowance):
