@@ -29,25 +29,24 @@ pub fn join(x: u32, y: u32) -> u32
     requires { ⌜ (x ≤ cellLimit) × (y ≤ cellLimit) ⌝ }
     ensures { λ r. ⌜ r ≡ x ⊕ y ⌝ }
 {
-    if x == 0 {
-        return 0;
-    }
     if x == EMPTY {
         return y;
     }
-    // A set that is worth nothing and draws power takes its power off.
-    if x < EMPTY {
-        let less = EMPTY - x;
-        if y < less {
-            return 0;
+    if x > EMPTY {
+        let mut more: u32 = 0;
+        if y != 0 {
+            more = x - EMPTY;
         }
-        return y - less;
+        return y + more;
     }
-    let mut more: u32 = 0;
-    if y != 0 {
-        more = x - EMPTY;
+    // No set, or one that is worth nothing and draws power.
+    if x == 0 {
+        return 0;
     }
-    y + more
+    if x + y < EMPTY {
+        return 0;
+    }
+    x + y - EMPTY
 }
 
 // The cell of one load that is on.
