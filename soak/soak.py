@@ -9,7 +9,8 @@ After a drop a save, a plan and a check are asked for. Another process, fed the 
 Plans are asked for again, of another process, with a budget of just their power and with a watt less (budgets.py).
 Then the same lines are given to models that are wrong on purpose (wrong.py), and each must be told apart from the program.
 With --wrong NAME the wrong model takes the right one's place, and the run is to fail.
-The last line is 'N passed, M failed': sessions, kinds of answers, wrong models.
+Answers to plans asked for again that are wrong on purpose must be told apart too.
+The last line is 'N passed, M failed': sessions, kinds of answers, wrong models and answers.
 """
 import argparse
 import random
