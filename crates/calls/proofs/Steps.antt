@@ -1,19 +1,17 @@
 -- Changes that are accepted one after the other: lists of them, one for each element of a list, and one for each mark. Assumes nothing.
-use Prim.Native.Nat.{ℕ, zero, suc, _+_, _-_, _*_, _/_, _%_, _^_, _≤_, _<_}
+use Prim.Native.Nat.{ℕ, zero, suc, _%_, _^_, _≤_, _<_}
 use mathlib.Core.Path.{_≡_, refl, sym, ap, subst, _∙_}
 use mathlib.Core.Bool.{Bool, true, false}
 use mathlib.Core.List.{List, [], _∷_, _++_, map, append-nil}
-use native.Mathlib.Nat.{mod-lt, mod-eq-of-lt, zero-lt-suc}
-use native.Mathlib.Numerals.{one-add}
+use native.Mathlib.Nat.{mod-eq-of-lt}
 use native.Mathlib.Omega.{arith}
-use borrow.Author.Tests.{eqb-true, eqb-false, le-leb}
-use lib.Bits.{bitOr, or-shifted-r}
-use lib.Pow.{pow-pos, mod-pow-add}
+use borrow.Author.Tests.{le-leb}
 use lib.Seq.{append-snoc}
 use Rattle.lists.specs.Tests.{pick}
 use Rattle.marks.specs.declared.Marks.{Marks}
-use Rattle.marks.specs.Bits.{hasMark, withMark}
+use Rattle.marks.specs.Bits.{hasMark}
 use Rattle.marks.specs.Sets.{marked}
+use Rattle.marks.proofs.Laws.{mark-more, mark-less}
 use Rattle.lines.specs.declared.Change.{Change}
 use Rattle.lines.specs.Saved.{markChange, markChanges}
 use Rattle.tables.specs.declared.rule.Sort.{Sort}
@@ -39,28 +37,6 @@ module _ {A : Type 0} (f : A → Change) (at : List A → Tables) (all : List A)
   for-each = from-here all [] refl
 
 -- ---- one for each mark
-digit : (x k d : ℕ) → x / 2 ^ k % 2 ≡ d → x % 2 ^ suc k ≡ d * 2 ^ k + x % 2 ^ k
-digit x k d e = rw (← one-add k) (mod-pow-add x 1 k ∙ rw e)
-
-mark-more : (x k : ℕ) → suc k ≤ maxStates → hasMark x (suc k) ≡ true → withMark 8 (x % 2 ^ k) (suc k) ≡ x % 2 ^ suc k
-unfolding hasMark withMark
-mark-more x k h e =
-    let z : suc k - 1 ≡ k = omega arith in
-    let o : 2 ^ k ≡ 1 * 2 ^ k = omega arith in
-    rw (le-leb (suc k) 8 h, z, digit x k 1 (eqb-true (x / 2 ^ k % 2) 1 e))
-    (ap (λ (p : ℕ). bitOr (x % 2 ^ k) p) o ∙ or-shifted-r 1 k (x % 2 ^ k) (mod-lt x (pow-pos k)))
-
-mark-less : (x k : ℕ) → hasMark x (suc k) ≡ false → x % 2 ^ suc k ≡ x % 2 ^ k
-unfolding hasMark
-mark-less x k e =
-    let n = eqb-false (x / 2 ^ k % 2) 1 e in
-    digit x k 0 (zero-or (x / 2 ^ k % 2) (mod-lt (x / 2 ^ k) (zero-lt-suc 1)) n) ∙ omega arith
-  where
-    zero-or : (d : ℕ) → d < 2 → (d ≡ 1 → ⊥) → d ≡ 0
-    zero-or zero l h = refl
-    zero-or (suc zero) l h = absurd (h refl)
-    zero-or (suc (suc d)) l h = absurd (omega arith)
-
 abbrev pub marks : ℕ → Marks
 marks x = record { 0 = x }
 
@@ -75,7 +51,7 @@ module _ (k : Sort) (at : Marks → Tables) (n : ℕ) (most : n ≤ maxStates)
           → Takes (at (marks 0)) (markChanges k m i ++ pick b (markChange k (suc i) ∷ []) []) (at (marks (m .0 % 2 ^ suc i)))
       go true e ih =
           let s = step (marks (m .0 % 2 ^ i)) (suc i) (rw (le-leb 1 (suc i) (omega arith)) (le-leb (suc i) n h)) in
-          takes-append ih (one (rw (mark-more (m .0) i (omega arith) e) at s))
+          takes-append ih (one (rw (mark-more 8 (m .0) i (omega arith) e) at s))
       go false e ih = rw (append-nil, mark-less (m .0) i e) ih
 
   pub for-marks : m .0 < 2 ^ n → Takes (at (marks 0)) (markChanges k m n) (at m)

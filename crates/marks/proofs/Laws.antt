@@ -2,15 +2,17 @@
 use Prim.Native.Nat.{ℕ, zero, suc, _+_, _-_, _*_, _/_, _%_, _^_, _≤_, _<_}
 use mathlib.Core.Path.{_≡_, refl, sym, ap, _∙_}
 use mathlib.Core.Bool.{Bool, true, false}
-use native.Mathlib.Nat.{pow-suc, mod-lt, zero-lt-suc}
+use native.Mathlib.Nat.{pow-suc, mod-lt, zero-lt-suc, div-lt-iff-lt-mul, div-eq-of-lt, le-trans}
 use native.Mathlib.Numerals.{one-add}
 use native.Mathlib.Omega.{arith}
-use borrow.Author.Tests.{eq-eqb, le-leb, lt-leb}
-use lib.Bits.{bitOr, or-step, or-zero-r}
-use lib.Pow.{shr-shr, shl-exact}
+use borrow.Author.Tests.{eqb-true, eqb-false, eq-eqb, le-leb, lt-leb, ltb-true, lt-ltb}
+use lib.Dec.{eqb}
+use lib.Bits.{bitOr, or-step, or-zero-r, or-shifted-r}
+use lib.Pow.{shr-shr, shl-exact, pow-pos, pow-mono, mod-pow-add}
 use lib.Count.{ones, ones-step}
 use Rattle.lists.specs.Tests.{pick}
-use Rattle.marks.specs.Bits.{within, bitAt, setBit, hasMark, withMark, sizeTo, size}
+use Rattle.lists.proofs.Bools.{same-test}
+use Rattle.marks.specs.Bits.{within, bitAt, setBit, hasMark, upTo, withMark, sizeTo, size}
 
 -- which numbers are within 1 to w
 pub within-over : (w n : ℕ) → w < n → within w n ≡ false
@@ -75,6 +77,41 @@ bit-high zero x zero h l = let e : x / 2 ^ 0 % 2 ≡ 0 = omega arith in rw e
 bit-high zero x (suc k) h l = let e : x / 2 ≡ 0 = omega arith in rw (bit-suc, e) (bit-high zero 0 k (omega arith) (omega arith))
 bit-high (suc w) x zero h l = absurd (omega arith)
 bit-high (suc w) x (suc k) h l = rw bit-suc (bit-high w (x / 2) k (omega (arith, pow-suc 2 w)) (omega arith))
+
+-- ---- all numbers of a set are at most n: the number shifted by n is 0; and all are at most its width
+pub up-to-shifted : (n x : ℕ) → eqb (x / 2 ^ n) 0 ≡ upTo n x
+up-to-shifted n x =
+    same-test _ _
+    (λ h.
+    let none : x / 2 ^ n < 1 = omega (arith, eqb-true (x / 2 ^ n) 0 h) in
+    lt-ltb x (2 ^ n) (omega (arith, div-lt-iff-lt-mul {k = 2 ^ n} {x = x} {y = 1} (pow-pos n) .0 none)))
+    (λ h. eq-eqb (x / 2 ^ n) 0 (div-eq-of-lt (ltb-true x (2 ^ n) h)))
+
+pub up-to-all : (w n x : ℕ) → x < 2 ^ w → w ≤ n → true ≡ upTo n x
+up-to-all w n x h l = sym (lt-ltb x (2 ^ n) (le-trans h (pow-mono l)))
+
+-- ---- a set, one number after the other: with its numbers up to k it is what is left below 2 ^ k
+digit : (x k d : ℕ) → x / 2 ^ k % 2 ≡ d → x % 2 ^ suc k ≡ d * 2 ^ k + x % 2 ^ k
+digit x k d e = rw (← one-add k) (mod-pow-add x 1 k ∙ rw e)
+
+pub mark-more : (w x k : ℕ) → suc k ≤ w → hasMark x (suc k) ≡ true → withMark w (x % 2 ^ k) (suc k) ≡ x % 2 ^ suc k
+unfolding hasMark withMark
+mark-more w x k h e =
+    let z : suc k - 1 ≡ k = omega arith in
+    let o : 2 ^ k ≡ 1 * 2 ^ k = omega arith in
+    rw (le-leb (suc k) w h, z, digit x k 1 (eqb-true (x / 2 ^ k % 2) 1 e))
+    (ap (λ (p : ℕ). bitOr (x % 2 ^ k) p) o ∙ or-shifted-r 1 k (x % 2 ^ k) (mod-lt x (pow-pos k)))
+
+pub mark-less : (x k : ℕ) → hasMark x (suc k) ≡ false → x % 2 ^ suc k ≡ x % 2 ^ k
+unfolding hasMark
+mark-less x k e =
+    let n = eqb-false (x / 2 ^ k % 2) 1 e in
+    digit x k 0 (zero-or (x / 2 ^ k % 2) (mod-lt (x / 2 ^ k) (zero-lt-suc 1)) n) ∙ omega arith
+  where
+    zero-or : (d : ℕ) → d < 2 → (d ≡ 1 → ⊥) → d ≡ 0
+    zero-or zero l h = refl
+    zero-or (suc zero) l h = absurd (h refl)
+    zero-or (suc (suc d)) l h = absurd (omega arith)
 
 -- ---- sets
 pub has-in : (x n : ℕ) → (n ≡ 0 → ⊥) → bitAt x (n - 1) ≡ hasMark x n

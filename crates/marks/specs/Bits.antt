@@ -3,7 +3,7 @@
 -- marks; n by count of ones". Assumes nothing.
 use Prim.Native.Nat.{ℕ, zero, suc, _+_, _-_, _/_, _%_, _^_}
 use mathlib.Core.Bool.{Bool, false}
-use lib.Dec.{leb, eqb}
+use lib.Dec.{leb, ltb, eqb}
 use lib.Bits.{bitOr}
 use Rattle.lists.specs.Tests.{pick}
 
@@ -24,6 +24,10 @@ setBit x k = bitOr x (2 ^ k)
 unfoldable pub hasMark : ℕ → ℕ → Bool
 hasMark x zero = false
 hasMark x (suc k) = bitAt x k
+
+-- are all of its numbers from 1 to n?
+abbrev pub upTo : ℕ → ℕ → Bool
+upTo n x = ltb x (2 ^ n)
 
 -- the set with n in it; a number outside 1 to w changes nothing
 unfoldable pub withMark : ℕ → ℕ → ℕ → ℕ

@@ -3,7 +3,7 @@
 use Prim.Native.Nat.{ℕ}
 use mathlib.Core.Bool.{Bool}
 use Rattle.lists.specs.Argmax.{guard}
-use Rattle.marks.specs.Bits.{hasMark, withMark, size}
+use Rattle.marks.specs.Bits.{hasMark, upTo, withMark, size}
 use Rattle.marks.specs.declared.Marks.{Marks}
 use Rattle.marks.specs.declared.LoadSet.{LoadSet}
 
@@ -22,6 +22,10 @@ joined s n = record { 0 = withMark setWidth (s .0) n }
 
 unfoldable pub hasLoad : LoadSet → ℕ → Bool
 hasLoad s n = hasMark (s .0) n
+
+-- are all of its loads from 1 to n?
+abbrev pub loadsUpTo : ℕ → LoadSet → Bool
+loadsUpTo n s = upTo n (s .0)
 
 -- how many loads are in the set
 unfoldable pub sizeOf : LoadSet → ℕ

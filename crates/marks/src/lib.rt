@@ -1,7 +1,7 @@
 // Sets of small numbers, held as marks: number n is in the set where binary digit n - 1 is set.
 ghost use mathlib.Core.Path.{_≡_};
 ghost use Rattle.marks.specs.Bits.{hasMark};
-ghost use Rattle.marks.specs.Sets.{marked, joined, hasLoad, sizeOf};
+ghost use Rattle.marks.specs.Sets.{marked, joined, hasLoad, loadsUpTo, sizeOf};
 
 // A set of states or of stages: numbers from 1 to 8.
 #[repr(C)]
@@ -38,6 +38,7 @@ impl Marks {
 }
 
 // A set of loads: numbers from 1 to 64.
+#[repr(C)]
 pub struct LoadSet(pub u64);
 
 impl LoadSet {
@@ -67,6 +68,16 @@ impl LoadSet {
             return false;
         }
         (self.0 >> (load - 1)) % 2 == 1
+    }
+
+    // Are all of its loads from 1 to n?
+    pub fn up_to(self, n: usize) -> bool
+        ensures { λ r. ⌜ r ≡ loadsUpTo n self ⌝ }
+    {
+        if 64 <= n {
+            return true;
+        }
+        self.0 >> n == 0
     }
 
     // How many loads are in the set.

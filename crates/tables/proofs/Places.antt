@@ -1,17 +1,14 @@
 -- The test place by place and part by part, as the code goes, is the test of the limits. Assumes nothing.
-use Prim.Native.Nat.{ℕ, zero, suc, _/_, _^_, _≤_, _<_}
+use Prim.Native.Nat.{ℕ, zero, suc, _≤_}
 use mathlib.Core.Path.{_≡_, refl, sym}
 use mathlib.Core.Bool.{Bool, true, false, _&&_, _||_}
-use native.Mathlib.Nat.{div-lt-iff-lt-mul, div-eq-of-lt, le-trans}
 use native.Mathlib.Omega.{arith}
-use borrow.Author.Tests.{eqb-true, eq-eqb, ne-eqb, leb-true, le-leb, ltb-true, lt-ltb, le-ltb}
+use borrow.Author.Tests.{ne-eqb, leb-true, le-leb, ltb-true, lt-ltb, le-ltb}
 use lib.Dec.{eqb, leb, ltb}
 use lib.ListN.{length}
-use lib.Pow.{pow-pos, pow-mono}
 use Rattle.lists.specs.Tests.{allBelow}
 use Rattle.lists.proofs.Bools.{and-false, same-test}
 use Rattle.lists.proofs.Places.{places-limited, places-numbered}
-use Rattle.marks.specs.declared.Marks.{Marks}
 use Rattle.tables.specs.declared.rule.RuleRange.{RuleRange}
 use Rattle.tables.specs.declared.rule.Sort.the-variants as sort
 use Rattle.tables.specs.declared.rule.TransitionList.{TransitionList}
@@ -19,21 +16,9 @@ use Rattle.tables.specs.declared.load.LoadList.{LoadList}
 use Rattle.tables.specs.declared.tables.StoredBook.{StoredBook}
 use Rattle.tables.specs.declared.tables.StoredTables.{StoredTables}
 use Rattle.tables.specs.Tables.{Sort, Load, noRule, noLoad}
-use Rattle.tables.specs.Limits.{sizeIn, maxStates, marksIn, ruleIn, sameRule, ruleRange, rulesIn, maxRules, sortIn, bookIn, parentIn, maxPower, maxWorth, loadIn, mostPlaces, loadsIn, budgetIn, limits}
+use Rattle.tables.specs.Limits.{sizeIn, marksIn, ruleIn, sameRule, ruleRange, rulesIn, maxRules, sortIn, bookIn, parentIn, maxPower, maxWorth, loadIn, mostPlaces, loadsIn, budgetIn, limits}
 use Rattle.tables.specs.Stored.{heldSize, heldMarks, heldRules, rulesOf, loadsOf, placesOf, bookOf, tablesOf, zeroRule, zeroLoad, rulesFree, loadsFree, keepsLimits}
 use Rattle.tables.specs.Places.{rulePlace, loadPlace, rulesHeld, loadsHeld, sortHeld, bookHeld}
-
--- ---- marks: none stands past n where the number shifted by n is 0, and none past 8 in a byte
-pub marks-shifted : (n : ℕ) (m : Marks) → eqb (m .0 / 2 ^ n) 0 ≡ marksIn n m
-marks-shifted n m =
-    same-test _ _
-    (λ h.
-    let none : m .0 / 2 ^ n < 1 = omega (arith, eqb-true (m .0 / 2 ^ n) 0 h) in
-    lt-ltb (m .0) (2 ^ n) (omega (arith, div-lt-iff-lt-mul {k = 2 ^ n} {x = m .0} {y = 1} (pow-pos n) .0 none)))
-    (λ h. eq-eqb (m .0 / 2 ^ n) 0 (div-eq-of-lt (ltb-true (m .0) (2 ^ n) h)))
-
-pub marks-all : (n : ℕ) (m : Marks) → m .0 < 2 ^ maxStates → maxStates ≤ n → true ≡ marksIn n m
-marks-all n m h l = sym (lt-ltb (m .0) (2 ^ n) (le-trans h (pow-mono l)))
 
 -- ---- a load: the root has parent 0, a later load a smaller number
 below-suc : (a n : ℕ) → ltb a (suc n) ≡ leb a n

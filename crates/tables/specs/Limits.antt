@@ -1,14 +1,15 @@
 -- The limits of "Loads and book" of paper 01, as one test of the tables. Each clause quotes its sentence.
 -- Assumes nothing.
-use Prim.Native.Nat.{ℕ, zero, suc, _^_}
+use Prim.Native.Nat.{ℕ, zero, suc}
 use mathlib.Core.Path.{_≡_}
 use mathlib.Core.Bool.{Bool, true, false, _&&_, _||_}
 use mathlib.Core.List.{List}
-use lib.Dec.{eqb, leb, ltb}
+use lib.Dec.{eqb, leb}
 use lib.ListN.{length}
 use Rattle.lists.specs.Tests.{everyFrom}
 use Rattle.lists.specs.Places.{limited}
 use Rattle.marks.specs.declared.Marks.{Marks}
+use Rattle.marks.specs.Bits.{upTo}
 use Rattle.marks.specs.Sets.{setWidth}
 use Rattle.tables.specs.declared.rule.RuleRange.{RuleRange}
 use Rattle.tables.specs.declared.rule.Transition.{Transition}
@@ -35,7 +36,7 @@ sizeIn s g = (eqb s 0 && eqb g 0) || bookSize s g
 
 -- "marks stand only on states up to S and stages up to G"
 abbrev pub marksIn : ℕ → Marks → Bool
-marksIn n m = ltb (m .0) (2 ^ n)
+marksIn n m = upTo n (m .0)
 
 -- "every figure and reference is in range": the three numbers of a rule of either sort
 unfoldable pub ruleIn : RuleRange → Transition → Bool

@@ -1,0 +1,14 @@
+-- `LoadSet::up_to` meets its contract: the number shifted past n is 0 exactly if no load stands past n. Assumes nothing.
+use borrow.Author.Needs.{needs}
+use Rattle.marks.proofs.Laws.{up-to-shifted, up-to-all}
+use Rattle.marks.proofs.LoadSet.up_to.Statement.{statement}
+use Rattle.marks.proofs.LoadSet.up_to.Tie as tie
+
+returns : tie.Need-returns
+returns c = up-to-all 64 (c .before .args .n) (c .before .args .self .0) (search needs) (c .if1 .taken)
+
+returns-2 : tie.Need-returns-2
+returns-2 c = up-to-shifted (c .before .before .args .n) (c .before .before .args .self .0)
+
+pub up-to-spec : {M : Type 1} → statement M
+up-to-spec = tie.close (tie.spec returns (λ c. search needs) returns-2)
