@@ -2,17 +2,15 @@
 -- It stands for "Each is given exactly in its case." and "says yes or no" of paper 01. Assumes nothing.
 use Prim.Native.Nat.{ℕ, _*_, _≤_, _<_}
 use mathlib.Core.Path.{_≡_}
-use mathlib.Core.Bool.{Bool, true, false, _&&_, _||_}
+use mathlib.Core.Bool.{true, false}
 use mathlib.Core.List.{List}
 use mathlib.Core.Logic.{_↔_}
-use lib.Dec.{eqb}
 use lib.ListN.{length}
 use Rattle.tables.specs.declared.tables.StoredTables.{StoredTables}
-use Rattle.tables.specs.Tables.{Book, Tables}
-use Rattle.tables.specs.Limits.{between}
+use Rattle.tables.specs.Tables.{Tables}
 use Rattle.tables.specs.Stored.{tablesOf, keepsLimits}
 use Rattle.meaning.specs.Forest.{planned, tree}
-use Rattle.meaning.specs.Runs.{Assigned, TreeRun}
+use Rattle.meaning.specs.Runs.{TreeRun, named}
 use Rattle.meaning.specs.Judge.{ownMarks}
 use Rattle.judge.specs.declared.Verdict.{Verdict}
 use Rattle.judge.specs.declared.Verdict.the-variants.{LimitBroken, NoLoads, NotThree, Yes, No}
@@ -39,13 +37,6 @@ CaseOf s ns No = Judgeable s ns × (IsRun (tablesOf s) ns → ⊥)
 -- each answer is given exactly in its case: yes exactly to runs
 abbrev pub AnswersExactly : Type 0
 AnswersExactly = (s : StoredTables) (ns : List ℕ) (v : Verdict) → (judged s ns ≡ v) ↔ CaseOf s ns v
-
--- do the numbers of load k name a state, a load rule and a row rule (0 for the root)?
-abbrev pub named : Book → (number : ℕ) → Assigned → Bool
-named b k a =
-    between 1 (b .states) (a .state)
-    && between 1 (length (b .loadRules)) (a .loadRule)
-    && ((eqb k 1 && eqb (a .rowRule) 0) || between 1 (length (b .rowRules)) (a .rowRule))
 
 -- "A number that names nothing in the book makes it no.": where the answer is yes, every number names something
 abbrev pub YesNames : Type 0

@@ -10,6 +10,7 @@ pub mod Lowest
 pub mod Plan
 pub mod Check
 pub mod Judge
+pub mod Named
 pub mod Agree
 pub mod Rows
 pub mod Bound

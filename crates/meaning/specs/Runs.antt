@@ -4,13 +4,14 @@
 -- Assumes nothing.
 use Prim.Native.Nat.{ℕ, zero, suc, _<_}
 use mathlib.Core.Path.{_≡_}
-use mathlib.Core.Bool.{Bool}
+use mathlib.Core.Bool.{Bool, false, _&&_}
 use mathlib.Core.List.{List}
-use lib.Dec.{T}
+use lib.Dec.{T, eqb}
 use lib.ListN.{length, getD}
 use Rattle.marks.specs.Bits.{hasMark}
 use Rattle.tables.specs.declared.rule.Transition.{Transition}
 use Rattle.tables.specs.Tables.{Book, noRule}
+use Rattle.tables.specs.Limits.{between}
 use Rattle.meaning.specs.Forest.{Item, Forest, nil, node}
 
 -- "Some states are start states, some stages are end stages."
@@ -43,6 +44,18 @@ pub record Assigned : Type 0 where
   pub state : ℕ
   pub loadRule : ℕ
   pub rowRule : ℕ
+
+-- do the numbers of load k name something, of so many states, load rules and row rules? "A number that names nothing in the book makes it no"
+abbrev pub rowRuleIn : (rules number rule : ℕ) → Bool
+rowRuleIn m zero r = false
+rowRuleIn m (suc zero) r = eqb r 0
+rowRuleIn m (suc (suc k)) r = between 1 m r
+
+abbrev pub namedIn : (states loadRules rowRules number : ℕ) → Assigned → Bool
+namedIn s l r k a = between 1 s (a .state) && between 1 l (a .loadRule) && rowRuleIn r k (a .rowRule)
+
+abbrev pub named : Book → (number : ℕ) → Assigned → Bool
+named b k a = namedIn (b .states) (length (b .loadRules)) (length (b .rowRules)) k a
 
 -- "Each load rule begins with its load's state.": load rule n of a load with mark m, in state q. Its row below begins at the rule's stage.
 pub record BranchRun (b : Book) (m n : ℕ) (i : Item) (below : ℕ → Type 0) (q : ℕ) : Type 0 where
