@@ -13,16 +13,16 @@ use Rattle.lines.specs.Length.{tooLong}
 use Rattle.lines.specs.Grammar.{parse, lineCommand}
 use Rattle.lines.specs.Saved.{saveBytes}
 use Rattle.lines.specs.Answers.{freeBytes}
-use Rattle.lines.proofs.Sizes.{plan-short}
+use Rattle.lines.proofs.Sizes.{numbers-short}
 use Rattle.tables.specs.Refusals as no
 use Rattle.meaning.specs.Cells.{cellsOf}
 use Rattle.calls.specs.State.{State, StoredState, fresh, stateOf, keeps}
-use Rattle.calls.specs.Rows.{Cause, Row, row, lineRow, bytesOf, causesOf, cellsFor}
+use Rattle.calls.specs.Rows.{Cause, Row, row, lineRow, bytesOf, causesOf, isChange, isShow, cellsFor}
 use Rattle.calls.specs.Causes.{Applies, here, there, allCauses}
 use Rattle.calls.specs.Printing.{zeroed, searched}
 use Rattle.calls.specs.Calls.{Call, Done, rowFor}
 use Rattle.calls.specs.Demand1 as demand
-use Rattle.calls.specs.Demand1.{bytesFor, bytesNeeded, Demand1, ByCommand}
+use Rattle.calls.specs.Demand1.{bytesFor, bytesNeeded, onlyShows, Demand1, ByCommand}
 use Rattle.calls.proofs.Numbers.{Ascending, lowest-least}
 use Rattle.calls.proofs.Answers.{command-long, row-is}
 use Rattle.calls.proofs.Rows.{line-right, works-plan}
@@ -35,8 +35,20 @@ row-bytes s (line.Change x) = refl
 row-bytes s line.Plan = refl
 row-bytes s (line.Check σ n) = refl
 row-bytes s line.Save = refl
+row-bytes s line.Last = refl
 row-bytes s line.Broken = refl
 row-bytes s line.TooLong = refl
+
+-- so does whether it only shows
+row-shows : (s : State) (c : Command) → isShow (row s c) ≡ onlyShows c
+unfolding row
+row-shows s (line.Change x) = refl
+row-shows s line.Plan = refl
+row-shows s (line.Check σ n) = refl
+row-shows s line.Save = refl
+row-shows s line.Last = refl
+row-shows s line.Broken = refl
+row-shows s line.TooLong = refl
 
 pub bytes-needed : (s : State) (l : List ℕ) → bytesOf (lineRow s l) ≡ bytesNeeded l
 unfolding lineRow bytesNeeded
@@ -92,7 +104,7 @@ module _ (p : StoredState) (c : Call) (d : Done) (x : Demand1 p c d) where
 
   cleared : parse (c .line) ≡ line.Plan → searched (d .reply .number) ≡ true → d .reply .work ≡ zeroed (cellsOf (s .tables)) (c .work)
   unfolding row
-  cleared q h = x .cleared h ∙ ap (λ (r : Row). zeroed (cellsFor r) (c .work)) (row-is s c line.Plan q (plan-short (c .line) q))
+  cleared q h = x .cleared h ∙ ap (λ (r : Row). zeroed (cellsFor r) (c .work)) (row-is s c line.Plan q (numbers-short (c .line) line.Plan q refl))
 
   unchanged : (parse (c .line) ≡ line.Plan → searched (d .reply .number) ≡ true → ⊥) → d .reply .work ≡ c .work
   unfolding lineRow
@@ -106,9 +118,20 @@ module _ (p : StoredState) (c : Call) (d : Done) (x : Demand1 p c d) where
       go (inl q) = none (searched (d .reply .number)) refl (h (plan-read (c .line) q))
       go (inr z) = still z
 
+  -- ---- what the planner keeps
+  plans : parse (c .line) ≡ line.Plan → d .state .tables ≡ p .tables
+  unfolding row
+  plans q = x .still (ap isChange (row-is s c line.Plan q (numbers-short (c .line) line.Plan q refl)))
+
+  shown : onlyShows (lineCommand (c .line)) ≡ true → d .state ≡ p
+  unfolding lineRow
+  shown e = x .shows (row-shows s (lineCommand (c .line)) ∙ e)
+
   pub by-command : ByCommand p c d
   by-command = record {
-    tables = λ l. ap (λ (p : StoredState). p .tables) (x .state l);
+    tables = x .tables;
+    plan = plans;
+    shows = shown;
     one = (
       λ e. one-cause (rw e at (x .number .given (omega (arith, e)))),
       elim [ inl e ↦ one-given (here refl (rw e)) | inr l ↦ one-given (too-few l) ],

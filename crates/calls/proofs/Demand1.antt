@@ -11,15 +11,16 @@ use lib.ListN.{length, take, drop, length-take, length-append}
 use lib.Seq.{sets, sets-eq, take-at, drop-at}
 use Rattle.lines.specs.Answers.{refused}
 use Rattle.tables.specs.Refusals as no
+use Rattle.tables.specs.Stored.{stored}
 use Rattle.calls.specs.State.{State, StoredState, storedState, stateOf, keeps, Within, Sized}
 use Rattle.calls.specs.Rows.{Cause, _if_, Row, bytesOf}
 use Rattle.calls.specs.Causes.{lowest, allCauses, refusal}
 use Rattle.calls.specs.Printing.{text}
-use Rattle.calls.specs.Calls.{Call, Reply, rowFor, numberFor, reply, answer, turnedAway, handled, calledIf, called}
+use Rattle.calls.specs.Calls.{Call, Reply, writtenBy, rowFor, numberFor, reply, answer, turnedAway, handled, calledIf, called}
 use Rattle.calls.specs.Demand1.{Demand1}
 use Rattle.calls.proofs.State.{state-stored, keeps-stored, keeps-kept, kept-within, kept-stored}
 use Rattle.calls.proofs.Rows.{Right, line-right}
-use Rattle.calls.proofs.Refusals.{causes-lowest, refusal-most, refused-keeps}
+use Rattle.calls.proofs.Refusals.{causes-lowest, refusal-most, after-number, refused-tables, still-tables, still-state, refused-keeps}
 use Rattle.calls.proofs.Answers.{called-stored, answer-at}
 use Rattle.calls.proofs.Work.{clash, unsearched, row-zeroed}
 use Rattle.calls.proofs.Keeps.{answer-fits}
@@ -32,7 +33,10 @@ broken p c e =
     record {
       number = rw e (causes-lowest (line-right (stateOf p) (length (c .work)) (c .line)) true (length (c .output)) (c .place));
       most = lit≤ tt;
-      state = λ _. refl;
+      tables = λ _. refl;
+      state = λ _ _. refl;
+      still = λ _. refl;
+      shows = λ _. refl;
       one = λ _. refl;
       prints = λ h. absurd (omega (arith, h));
       fits = omega arith;
@@ -96,13 +100,24 @@ module _ (s : State) (h : Within s) (c : Call) where
       go true e = inl (eqb-true n no.unusable e)
       go false e = inr (room (eqb-false n no.unusable e))
 
+  -- what it wrote is its text
+  pub wrote : writtenBy c (answer s c) ≡ text (numberFor s c) (rowFor s c)
+  unfolding answer text
+  wrote = ⊎-elim nothing (written-is (c .output) bs (c .place)) one-or-room
+    where
+      nothing : n ≡ no.unusable → writtenBy c (answer s c) ≡ text n r
+      nothing e = subst (λ (b : List ℕ). take (length b) (drop (c .place) (sets (c .output) (c .place) b)) ≡ b) (sym (ap (λ (i : ℕ). text i r) e)) refl
+
   held : Demand1 (storedState s) c (handled s c)
   unfolding answer refusal lowest
   held =
       record {
         number = rw (keeps-stored s h, state-stored s h) (causes-lowest x false (length (c .output)) (c .place));
         most = refusal-most x (length (c .output)) (c .place);
-        state = λ l. ap storedState (refused-keeps s c l);
+        tables = λ l. ap stored (refused-tables s c l);
+        state = λ l e. ap storedState (refused-keeps s c l e);
+        still = λ e. ap (λ (x : State). stored (x .tables)) (after-number s c) ∙ ap stored (still-tables s n r (rw (state-stored s h) at e));
+        shows = λ e. ap storedState (after-number s c ∙ still-state s n r (rw (state-stored s h) at e));
         one = one;
         prints = λ l. written-is (c .output) bs (c .place) (room (λ e. absurd (omega (arith, l, e)))) ∙ refusal-text n r l;
         fits = rw (state-stored s h) (answer-fits s h c);

@@ -29,6 +29,8 @@ use Rattle.tables.proofs.Stored.{tables-stored}
 use Rattle.tables.proofs.Removed.{one-fewer}
 use Rattle.tables.proofs.Keeps.{drop-load-keeps}
 use Rattle.meaning.proofs.Leaving.{left}
+use Rattle.runs.specs.Outcome as outcome
+use Rattle.runs.specs.Outcome.{storedOutcome, rangeOf, outcomeIn}
 use Rattle.calls.specs.State.{State, StoredState, storedState, stateOf, Within, Kept}
 use Rattle.calls.specs.Rows.{load, changing}
 use Rattle.calls.specs.Calls.{Call, Done, rowFor, numberFor, after, answer, called}
@@ -128,10 +130,10 @@ no-more (l ∷ ls) e = absurd (omega arith)
 
 -- on every planner that keeps the limits
 pub drops : {n : ℕ} (p : StoredState) → Kept n p → (c : Call) (k : ℕ) → DropCall c k (called p c) → Dropped n (stateOf p .tables) k (called p c .state)
-unfolding answer changing
+unfolding answer changing outcomeIn
 drops {n} p h c k d = record {
   tables = held;
-  kept = record { tables = (u, keeps, held, full) };
+  kept = record { tables = (u, keeps, held, full); outcome = (outcome.none, nothing, wiped) };
   fewer = fewer;
   emptied = λ e. no-more (u .loads) (omega (arith, fewer));
   filled = λ a b v e. record { accepted = load-accepted (t .places) (u .loads) (load a b v) (rw fewer e) (omega (arith, fewer, lawful t (w .tables) .loads)); after = refl };
@@ -174,6 +176,12 @@ drops {n} p h c k d = record {
     held : called p c .state .tables ≡ stored u
     held = ap (λ (x : Done). x .state .tables) done ∙ ap stored (change-after s c (to.Drop k) (d .line) none)
 
+    wiped : called p c .state .outcome ≡ storedOutcome outcome.none
+    wiped = ap (λ (x : Done). x .state .outcome) done ∙ rw (none, change-row s c (to.Drop k) (d .line))
+
+    nothing : outcomeIn (rangeOf (tablesOf (called p c .state .tables))) outcome.none ≡ true
+    nothing = refl
+
     lines-left : saved u ≡ enteredWithout k (saved t)
     lines-left = saves-without t k (leave .0 .0) (leave .0 .1)
 
@@ -182,4 +190,5 @@ drops {n} p h c k d = record {
     enters r hr xs y l f =
         let e = ends u keeps full r hr xs y (l ∙ ap (λ (cs : List Change). lines (changesText cs)) (sym lines-left)) f in
         let same : last r xs .tables ≡ called p c .state .tables = ap (λ (x : StoredState). x .tables) (e .last) ∙ ap stored (e .tables) ∙ sym held in
-        record { accepted = e .accepted; tables = same; answers = λ x. λ i. called (record { tables = same i }) x }
+        let gone : last r xs .outcome ≡ called p c .state .outcome = ap (λ (x : StoredState). x .outcome) (e .last) ∙ ap storedOutcome (e .outcome) ∙ sym wiped in
+        record { accepted = e .accepted; tables = same; answers = λ x. λ i. called (record { tables = same i; outcome = gone i }) x }

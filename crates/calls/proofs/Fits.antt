@@ -9,24 +9,29 @@ use borrow.Author.Tests.{eqb-false}
 use lib.Dec.{lit≤, eqb}
 use lib.ListN.{length, getD}
 use Rattle.lists.specs.Each.{none, more}
+use Rattle.lists.proofs.Each.{each-all, each-at}
 use Rattle.lists.specs.Argmax.{guard}
-use Rattle.lines.specs.Answers.{freeBytes, AllRanged}
+use Rattle.lines.specs.Answers.{freeBytes, Ranged, AllRanged}
 use Rattle.lines.proofs.Answers.{plan-fits, check-fits}
 use Rattle.tables.specs.declared.load.Load.{Load}
 use Rattle.tables.specs.Tables.{Tables, noLoad}
-use Rattle.tables.specs.Limits.{maxWorth, mostPlaces, Limits}
+use Rattle.tables.specs.declared.rule.Sort.the-variants as sort
+use Rattle.tables.specs.Limits.{maxPower, maxWorth, mostPlaces, Limits}
 use Rattle.tables.specs.Lawful.{Lawful}
 use Rattle.tables.proofs.Lawful.{lawful}
 use Rattle.meaning.specs.Forest.{IsTree, sum}
 use Rattle.meaning.specs.Sets.{counted, power, worth, numberOn}
 use Rattle.meaning.specs.Best.{bestPlan}
 use Rattle.tables.specs.declared.entry.Entry.{Entry}
-use Rattle.meaning.specs.Choice.{find, inOrder, plan, check, planEntries, checkEntries, shownSet}
+use Rattle.meaning.specs.Choice.{noEntry, find, inOrder, plan, check, planEntries, checkEntries, shownSet}
 use Rattle.meaning.proofs.Ranges.{Bounded, plan-bounded, check-bounded}
 use Rattle.meaning.proofs.Entries.{Listed, plan-listed, check-listed}
 use Rattle.meaning.proofs.InOrder.{listed-length}
 use Rattle.meaning.proofs.Ordered.{loads-ordered}
 use Rattle.meaning.proofs.Claims.{claims}
+use Rattle.runs.specs.Outcome.{planned, rangeOf, outcomeIn}
+use Rattle.runs.proofs.Entries.{number-at}
+use Rattle.runs.proofs.Stored.{LinesIn, lines-in, mark-in, named-in, run-in}
 use Rattle.calls.specs.Rows.{noneFits, showingPlan, showingCheck, shownText}
 use Rattle.calls.proofs.Answers.{positive}
 
@@ -57,6 +62,9 @@ one-most true = lit≤ tt
 one-most false = lit≤ tt
 
 module _ (t : Tables) (h : Lawful t) (σ : ℕ → ℕ) where
+  all-power : power t σ < 1000000
+  all-power = omega (arith, sum-most (λ k l. counted (σ k) (l .power)) maxPower (t .loads) 1 (λ j l n. counted-most (σ n) _ maxPower (h .load j l .power)))
+
   all-worth : worth t σ < 1000000
   all-worth = omega (arith, sum-most (λ k l. counted (σ k) (l .worth)) maxWorth (t .loads) 1 (λ j l n. counted-most (σ n) _ maxWorth (h .load j l .worth)))
 
@@ -74,7 +82,7 @@ module _ (t : Tables) (h : Limits t) where
   few : length (t .loads) ≤ mostPlaces
   few = omega (arith, w .loads, w .places)
 
-  pub plan-ranged : AllRanged (planEntries t)
+  plan-ranged : AllRanged (planEntries t)
   unfolding planEntries
   plan-ranged = all-ranged (plan t) (length (t .loads)) (omega (arith, few)) (plan-listed t listed) (plan-bounded t w)
 
@@ -82,21 +90,39 @@ module _ (t : Tables) (h : Limits t) where
   unfolding checkEntries
   check-ranged σ = all-ranged (check t σ) (length (t .loads)) (omega (arith, few)) (check-listed t listed σ) (check-bounded t w σ)
 
-  plan-few : 14 * length (planEntries t) + 20 ≤ freeBytes
-  unfolding planEntries
-  plan-few = omega (arith, few, listed-length (plan t) (length (t .loads)) (plan-listed t listed))
-
-  check-few : (σ : ℕ → ℕ) → 14 * length (checkEntries t σ) + 20 ≤ freeBytes
+  check-few : (σ : ℕ → ℕ) → 14 * length (checkEntries t σ) + 23 ≤ freeBytes
   unfolding checkEntries
   check-few σ = omega (arith, few, listed-length (check t σ) (length (t .loads)) (check-listed t listed σ))
 
-  pub planned-fits : noneFits t ≡ false → length (shownText (showingPlan t (planEntries t))) ≤ freeBytes
+  -- the lines of a plan that is in range
+  module _ (es : List Entry) (l : LinesIn (rangeOf t) es) where
+    figures : (i : ℕ) → i < length es → Ranged (getD es i noEntry)
+    figures i b =
+        let f = named-in (rangeOf t) (getD es i noEntry) (l .figures i b) in
+        record {
+          number = omega (arith, number-at es 1 i (l .each) b, l .all, few);
+          mark = mark-in (rangeOf t) (getD es i noEntry) (l .figures i b);
+          state = omega (arith, f .state, w .states);
+          rule = omega (arith, f .rule, w .rules sort.Load);
+          row = omega (arith, f .row, w .rules sort.Row);
+        }
+
+    pub lines-ranged : AllRanged es
+    lines-ranged = each-all noEntry es figures
+
+    pub lines-fit : length (shownText (showingPlan t es)) ≤ freeBytes
+    lines-fit =
+        let σ = shownSet es in
+        plan-fits es lines-ranged (omega (arith, l .all, few)) (worth t σ) (power t σ) (numberOn t σ) (all-worth t w σ) (all-power t w σ) (all-on t w σ)
+
+  pub plan-in : noneFits t ≡ false → outcomeIn (rangeOf t) (planned (planEntries t)) ≡ true
   unfolding noneFits
-  planned-fits e =
-      let σ = shownSet (planEntries t) in
-      let fits = claims t h .planned (positive (eqb-false (bestPlan t) 0 e)) .optimum .fits in
-      plan-fits (planEntries t) plan-ranged plan-few (worth t σ) (power t σ) (numberOn t σ)
-      (all-worth t w σ) (omega (arith, fits, w .budget)) (all-on t w σ)
+  plan-in e =
+      let p = claims t h .planned (positive (eqb-false (bestPlan t) 0 e)) in
+      run-in t w (planEntries t) (p .loads) (λ i b. each-at noEntry plan-ranged i b .mark) (shownSet (planEntries t)) (p .run)
+
+  pub planned-fits : noneFits t ≡ false → length (shownText (showingPlan t (planEntries t))) ≤ freeBytes
+  planned-fits e = lines-fit (planEntries t) (lines-in (rangeOf t) (planEntries t) (plan-in e))
 
   pub checked-fits : (σ : ℕ → ℕ) → length (shownText (showingCheck (checkEntries t σ))) ≤ freeBytes
   checked-fits σ = check-fits (checkEntries t σ) (check-ranged σ) (check-few σ)

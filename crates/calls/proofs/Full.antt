@@ -11,7 +11,7 @@ use Rattle.lists.specs.Tests.{pick}
 use Rattle.lists.proofs.Arrays.{length-snoc}
 use Rattle.lines.specs.declared.Command.the-variants as line
 use Rattle.lines.specs.declared.Change.the-variants as to
-use Rattle.lines.proofs.Sizes.{change-short}
+use Rattle.lines.proofs.Sizes.{numbers-short}
 use Rattle.tables.specs.Refusals as no
 use Rattle.tables.specs.Tables as on-paper
 use Rattle.tables.specs.Tables.{Tables}
@@ -33,7 +33,7 @@ module _ (n k : ℕ) (s : State) (places : s .tables .places ≡ n) (loads : len
   r = row s (line.Change (to.Load (l .parent) (l .power) (l .worth)))
 
   load-row : rowFor s c ≡ r
-  load-row = row-is s c (line.Change (to.Load (l .parent) (l .power) (l .worth))) (l .line) (change-short (c .line) (to.Load (l .parent) (l .power) (l .worth)) (l .line))
+  load-row = row-is s c (line.Change (to.Load (l .parent) (l .power) (l .worth))) (l .line) (numbers-short (c .line) (line.Change (to.Load (l .parent) (l .power) (l .worth))) (l .line) refl)
 
   load-number : numberFor s c ≡ pick (leb n k) no.full 0
   unfolding row changing lowest

@@ -1,21 +1,23 @@
 -- Every line keeps the limits and the places for loads, and every answer fits. Assumes nothing.
 use Prim.Native.Nat.{ℕ, zero, suc, _≤_}
-use mathlib.Core.Path.{_≡_, refl}
+use mathlib.Core.Path.{_≡_, refl, sym, subst}
+use mathlib.Core.Bool.{Bool, true, false}
 use native.Mathlib.Omega.{arith}
-use lib.Dec.{lit<}
+use lib.Dec.{lit<, eqb}
 use lib.ListN.{length}
+use Rattle.lists.specs.Tests.{pick}
 use Rattle.lines.proofs.Answers.{refused-fits}
 use Rattle.tables.specs.Refusals as no
-use Rattle.tables.specs.Limits.{Limits}
-use Rattle.calls.specs.State.{State, Within}
-use Rattle.calls.specs.Rows.{Row, bytesOf, causesOf}
+use Rattle.runs.specs.Outcome.{noneFits, rangeOf, outcomeIn}
+use Rattle.calls.specs.State.{State, plain, Within}
+use Rattle.calls.specs.Rows.{Row, changes, shows, works, bytesOf, causesOf}
 use Rattle.calls.specs.Causes.{lowest, allCauses, refusal}
-use Rattle.calls.specs.Effects.{acted, changed}
+use Rattle.calls.specs.Effects.{acted, changed, stateBy}
 use Rattle.calls.specs.Printing.{text}
-use Rattle.calls.specs.Calls.{Call, rowFor, after, answer}
+use Rattle.calls.specs.Calls.{Call, rowFor, numberFor, after, answer}
 use Rattle.calls.proofs.Numbers.{passed}
 use Rattle.calls.proofs.Rows.{Right, line-right}
-use Rattle.calls.proofs.Refusals.{refusal-most}
+use Rattle.calls.proofs.Refusals.{refusal-most, after-number}
 
 -- no cause at all: none of the row
 pub none-of-row : (n room place : ℕ) (r : Row) → refusal n room place r ≡ 0 → lowest (causesOf n r) ≡ 0
@@ -25,20 +27,35 @@ none-of-row n room place r e = passed no.unusable _ _ (lit< tt) e .1
 -- no line changes the limit of loads
 pub after-places : (s : State) (c : Call) → after s c .tables .places ≡ s .tables .places
 unfolding changed
-after-places s c = go (refusal 0 (length (c .output)) (c .place) (rowFor s c))
+after-places s c = go (refusal 0 (length (c .output)) (c .place) (rowFor p c))
   where
-    go : (n : ℕ) → acted (s .tables) n (rowFor s c) .places ≡ s .tables .places
-    go zero = line-right s 0 (c .line) .places
+    p : State
+    p = plain (s .tables)
+
+    go : (n : ℕ) → acted (s .tables) n (rowFor (plain (s .tables)) c) .places ≡ s .tables .places
+    go zero = line-right (plain (s .tables)) 0 (c .line) .places
     go (suc n) = refl
+
+-- the tables that a row leaves, and the outcome beside them, by its number
+left-within : (s : State) → Within s → (cells n : ℕ) (r : Row) → Right s cells r → (n ≡ 0 → lowest (causesOf cells r) ≡ 0) → Within (stateBy s n r)
+unfolding outcomeIn
+left-within s h m zero (changes x) a e = record { tables = a .keeps h (e refl); outcome = refl }
+left-within s h m (suc n) (changes x) a e = record { tables = h .tables; outcome = h .outcome }
+left-within s h m zero (shows b cs x) a e = record { tables = h .tables; outcome = h .outcome }
+left-within s h m (suc n) (shows b cs x) a e = record { tables = h .tables; outcome = h .outcome }
+left-within s h m zero (works b k before after x) a e = record { tables = h .tables; outcome = a .finds h (e refl) }
+left-within s h m (suc n) (works b k before after x) a e = record { tables = h .tables; outcome = go (eqb (suc n) no.noneFits) }
+  where
+    go : (b : Bool) → outcomeIn (rangeOf (s .tables)) (pick b noneFits (s .outcome)) ≡ true
+    go true = refl
+    go false = h .outcome
 
 module _ (s : State) (h : Within s) where
   pub after-within : (c : Call) → Within (after s c)
-  unfolding changed
-  after-within c = record { tables = go (refusal 0 (length (c .output)) (c .place) (rowFor s c)) (none-of-row 0 (length (c .output)) (c .place) (rowFor s c)) }
-    where
-      go : (n : ℕ) → (n ≡ 0 → lowest (causesOf 0 (rowFor s c)) ≡ 0) → Limits (acted (s .tables) n (rowFor s c))
-      go zero e = line-right s 0 (c .line) .keeps h (e refl)
-      go (suc n) e = h .tables
+  after-within c =
+      let m = length (c .work) in
+      subst Within (sym (after-number s c))
+      (left-within s h m (numberFor s c) (rowFor s c) (line-right s m (c .line)) (none-of-row m (length (c .output)) (c .place) (rowFor s c)))
 
   -- of a number of the table, and 0 only where no cause applies
   pub text-fits : (cells n : ℕ) {r : Row} → Right s cells r → n ≤ no.greatest → (n ≡ 0 → lowest (causesOf cells r) ≡ 0) → length (text n r) ≤ bytesOf r

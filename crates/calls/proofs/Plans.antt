@@ -6,7 +6,7 @@ use native.Mathlib.Omega.{arith}
 use borrow.Author.Tests.{eqb-true, eqb-false, ne-eqb, le-ltb}
 use lib.ListN.{length}
 use Rattle.lines.specs.declared.Command.the-variants.{Plan}
-use Rattle.lines.proofs.Sizes.{plan-short}
+use Rattle.lines.proofs.Sizes.{numbers-short}
 use Rattle.tables.specs.Refusals as no
 use Rattle.tables.specs.Tables.{Tables}
 use Rattle.meaning.specs.Best.{bestPlan}
@@ -31,10 +31,10 @@ module _ (s : State) (c : Call) (k : PlanCall (s .tables) c) where
   abbrev r : Row
   r = row s Plan
 
-  plan-row : rowFor s c ≡ r
-  plan-row = row-is s c Plan (k .line) (plan-short (c .line) (k .line))
+  pub plan-row : rowFor s c ≡ r
+  plan-row = row-is s c Plan (k .line) (numbers-short (c .line) Plan (k .line) refl)
 
-  plan-number : (b : Bool) → noneFits (s .tables) ≡ b → numberFor s c ≡ refusedIf no.noneFits b
+  pub plan-number : (b : Bool) → noneFits (s .tables) ≡ b → numberFor s c ≡ refusedIf no.noneFits b
   unfolding row lowest
   plan-number b e =
       ap (refusal (length (c .work)) (length (c .output)) (c .place)) plan-row ∙ roomy (length (c .work)) (length (c .output)) (c .place) r (k .free)

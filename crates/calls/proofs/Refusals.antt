@@ -1,24 +1,28 @@
 -- The number of a row, and that it acts exactly if its number is 0. Assumes nothing.
 use Prim.Native.Nat.{ℕ, zero, suc, _≤_, _<_}
 use mathlib.Core.Path.{_≡_, refl, sym, ap, ap₂, _∙_}
-use mathlib.Core.Bool.{Bool}
+use mathlib.Core.Bool.{Bool, true, false}
 use mathlib.Core.List.{_∷_}
 use mathlib.Core.Logic.{_⊎_, inl, inr}
 use native.Mathlib.Nat.{eq-zero-or-pos}
 use native.Mathlib.Omega.{arith}
-use lib.Dec.{lit≤}
+use lib.Dec.{lit≤, eqb}
 use lib.ListN.{length}
+use Rattle.lists.proofs.Bools.{or-right}
 use Rattle.lines.specs.declared.Change.{Change}
+use Rattle.lines.specs.declared.Command.{Command}
 use Rattle.lines.specs.declared.Command.the-variants as line
 use Rattle.lines.specs.Grammar.{lineCommand}
 use Rattle.tables.specs.Refusals as no
 use Rattle.tables.specs.Tables.{Tables}
-use Rattle.calls.specs.State.{State}
-use Rattle.calls.specs.Rows.{_if_, Row, changes, shows, works, changing, row, lineRow, causesOf}
+use Rattle.calls.specs.State.{State, plain}
+use Rattle.calls.specs.Rows.{_if_, Row, changes, shows, works, changing, row, lineRow, causesOf, effectOf, isChange, isShow}
 use Rattle.calls.specs.Causes.{lowest, allCauses, refusal, Lowest}
-use Rattle.calls.specs.Effects.{acted, changed, stateBy}
+use Rattle.calls.specs.Effects.{acted, changed, outcomeBy, stateBy}
+use Rattle.calls.specs.Printing.{searched}
 use Rattle.calls.specs.Calls.{Call, rowFor, after, numberFor}
 use Rattle.calls.proofs.Numbers.{ascending-from, lowest-given, lowest-least, lowest-range}
+use Rattle.calls.proofs.Work.{clash}
 use Rattle.calls.proofs.Rows.{Right}
 
 module _ {s : State} {n : ℕ} {r : Row} (x : Right s n r) where
@@ -39,24 +43,43 @@ module _ {s : State} {n : ℕ} {r : Row} (x : Right s n r) where
   pub past-one : 0 < lowest (causesOf n r) → (no.unusable < lowest (causesOf n r)) × (lowest (causesOf n r) ≤ no.greatest)
   past-one = lowest-range 2 (causesOf n r) (x .ordered)
 
+-- what leaves the tables where it is accepted leaves them always
+idle : (t : Tables) (n : ℕ) (r : Row) → effectOf t r ≡ t → acted t n r ≡ t
+idle t zero r e = e
+idle t (suc n) r e = refl
+
 -- no change's number depends on the cells, and no other row acts
 acts-alike : (t : Tables) (m n room place : ℕ) (r : Row) → acted t (refusal m room place r) r ≡ acted t (refusal n room place r) r
 unfolding refusal allCauses
 acts-alike t m n room place (changes x) = refl
 acts-alike t m n room place (shows b cs x) = refl
-acts-alike t m n room place (works b k before after x) = still (refusal m room place r) ∙ sym (still (refusal n room place r))
-  where
-    r : Row
-    r = works b k before after x
+acts-alike t m n room place (works b k before after x) =
+    let r = works b k before after x in
+    idle t (refusal m room place r) r refl ∙ sym (idle t (refusal n room place r) r refl)
 
-    still : (i : ℕ) → acted t i r ≡ t
-    still zero = refl
-    still (suc i) = refl
+-- no row that acts looks beside the tables
+acts-plain : (s : State) (room place : ℕ) (c : Command) → let t = s .tables in
+    acted t (refusal 0 room place (row (plain t) c)) (row (plain t) c) ≡ acted t (refusal 0 room place (row s c)) (row s c)
+unfolding row
+acts-plain s room place (line.Change c) = refl
+acts-plain s room place line.Plan = refl
+acts-plain s room place (line.Check σ n) = refl
+acts-plain s room place line.Save = refl
+acts-plain s room place line.Last =
+    let t = s .tables in
+    let p = row (plain t) line.Last in
+    let r = row s line.Last in
+    idle t (refusal 0 room place p) p refl ∙ sym (idle t (refusal 0 room place r) r refl)
+acts-plain s room place line.Broken = refl
+acts-plain s room place line.TooLong = refl
 
 -- a call acts exactly if its number is 0
 pub after-number : (s : State) (c : Call) → after s c ≡ stateBy s (numberFor s c) (rowFor s c)
-unfolding changed
-after-number s c = λ i. record { tables = acts-alike (s .tables) 0 (length (c .work)) (length (c .output)) (c .place) (rowFor s c) i }
+unfolding changed lineRow
+after-number s c =
+    let acts = acts-plain s (length (c .output)) (c .place) (lineCommand (c .line))
+    ∙ acts-alike (s .tables) 0 (length (c .work)) (length (c .output)) (c .place) (rowFor s c) in
+    λ i. record { tables = acts i; outcome = outcomeBy (numberFor s c) (rowFor s c) (s .outcome) }
 
 -- the line of a change: its row, and the tables that it leaves where it is accepted
 module _ (s : State) (x : Call) (c : Change) (on : lineCommand (x .line) ≡ line.Change c) where
@@ -68,9 +91,31 @@ module _ (s : State) (x : Call) (c : Change) (on : lineCommand (x .line) ≡ lin
   change-after e = ap (λ (y : State). y .tables) (after-number s x ∙ ap₂ (λ (n : ℕ) (r : Row). stateBy s n r) e change-row)
 
 -- "a refused one not at all"
-pub refused-keeps : (s : State) (c : Call) → 0 < numberFor s c → after s c ≡ s
-refused-keeps s c h = after-number s c ∙ go (numberFor s c) h
+pub refused-tables : (s : State) (c : Call) → 0 < numberFor s c → after s c .tables ≡ s .tables
+refused-tables s c h = ap (λ (x : State). x .tables) (after-number s c) ∙ go (numberFor s c) h
   where
-    go : (n : ℕ) → 0 < n → stateBy s n (rowFor s c) ≡ s
+    go : (n : ℕ) → 0 < n → acted (s .tables) n (rowFor s c) ≡ s .tables
     go zero l = absurd (omega arith)
     go (suc n) l = refl
+
+-- a row that is no change leaves the tables, and one that shows the outcome too
+pub still-tables : (s : State) (n : ℕ) (r : Row) → isChange r ≡ false → stateBy s n r .tables ≡ s .tables
+still-tables s n (changes x) e = absurd (clash e)
+still-tables s n (shows b cs x) e = idle (s .tables) n (shows b cs x) refl
+still-tables s n (works b m before after x) e = idle (s .tables) n (works b m before after x) refl
+
+pub still-state : (s : State) (n : ℕ) (r : Row) → isShow r ≡ true → stateBy s n r ≡ s
+still-state s n (changes x) e = absurd (clash (sym e))
+still-state s zero (shows b cs x) e = refl
+still-state s (suc n) (shows b cs x) e = refl
+still-state s n (works b m before after x) e = absurd (clash (sym e))
+
+-- what did not search leaves the outcome too
+pub unsearched-state : (s : State) (n : ℕ) (r : Row) → 0 < n → searched n ≡ false → stateBy s n r ≡ s
+unsearched-state s zero r l e = absurd (omega arith)
+unsearched-state s (suc n) (changes x) l e = refl
+unsearched-state s (suc n) (shows b cs x) l e = refl
+unsearched-state s (suc n) (works b m before after x) l e = rw (or-right (eqb (suc n) 0) (eqb (suc n) no.noneFits) e)
+
+pub refused-keeps : (s : State) (c : Call) → 0 < numberFor s c → searched (numberFor s c) ≡ false → after s c ≡ s
+refused-keeps s c h e = after-number s c ∙ unsearched-state s (numberFor s c) (rowFor s c) h e

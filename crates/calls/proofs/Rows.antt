@@ -3,8 +3,9 @@
 use Prim.Native.Nat.{ℕ, suc, _≤_, _<_}
 use mathlib.Core.Path.{_≡_, refl}
 use mathlib.Core.Bool.{Bool, true, false, _&&_}
-use mathlib.Core.List.{List, []}
+use mathlib.Core.List.{List, [], _∷_}
 use mathlib.Core.Logic.{_⊎_, inl, inr}
+use native.Mathlib.Omega.{arith}
 use borrow.Author.Tests.{leb-false, eqb-false}
 use lib.Dec.{lit<, lit≤, eqb, leb, ltb}
 use lib.ListN.{length}
@@ -32,17 +33,21 @@ use Rattle.tables.specs.Limits.{between, bookSize, sameRule, maxRules, loadIn, 
 use Rattle.tables.specs.Changes.{hasChildren}
 use Rattle.tables.proofs.Lawful.{inside, lawful}
 use Rattle.tables.proofs.Keeps.{fresh-limits, new-book-keeps, mark-keeps, add-rule-keeps, add-load-keeps, set-figure-keeps, drop-load-keeps, set-budget-keeps}
-use Rattle.meaning.specs.Best.{bestPlan, bestCheck}
+use Rattle.meaning.specs.Best.{bestCheck}
 use Rattle.tables.specs.declared.entry.Entry.{Entry}
 use Rattle.meaning.specs.Claims.{EachLoad}
 use Rattle.meaning.specs.Cells.{cellsOf}
+use Rattle.meaning.specs.Choice.{planEntries}
 use Rattle.meaning.proofs.Claims.{claims}
+use Rattle.runs.specs.Outcome.{Outcome, none, noneFits, planned, isNone, isNoneFits, linesOf, rangeOf, outcomeIn}
+use Rattle.runs.proofs.Stored.{lines-in}
 use Rattle.calls.specs.State.{State, Within}
-use Rattle.calls.specs.Rows.{Changing, Shown, alone, shownText, Row, rule, load, isLoad, noneFits, notAllowed, marking, ruleCauses, adding, setting, changing, refuses, row, lineRow, bytesOf, mostBytes, causesOf, effectOf, shownOf, cellsFor}
+use Rattle.calls.specs.Rows as row-of
+use Rattle.calls.specs.Rows.{_if_, Changing, Shown, alone, showingPlan, shownText, Row, changes, shows, works, rule, load, isLoad, notAllowed, marking, ruleCauses, adding, setting, changing, refuses, row, lineRow, bytesOf, mostBytes, causesOf, effectOf, shownOf, cellsFor}
 use Rattle.calls.specs.Causes.{lowest}
 use Rattle.calls.proofs.Numbers.{passed, passed-not, Ascending}
 use Rattle.calls.proofs.Answers.{positive}
-use Rattle.calls.proofs.Fits.{plan-ranged, check-ranged, planned-fits, checked-fits}
+use Rattle.calls.proofs.Fits.{lines-ranged, lines-fit, plan-in, check-ranged, checked-fits}
 
 -- ---- changes
 pub record Sound (t : Tables) (x : Changing) : Type 0 where
@@ -113,6 +118,12 @@ pub record Showing (t : Tables) (bytes : ℕ) (x : Shown) : Type 0 where
   pub fits : length (shownText x) ≤ bytes
   pub lists : Listing t x
 
+-- what a row that works stores is in range
+abbrev Finds : Tables → Row → Type 0
+Finds t (changes x) = Unit {0}
+Finds t (shows b cs x) = Unit {0}
+Finds t (works b m before after x) = outcomeIn (rangeOf t) (planned (x .entries)) ≡ true
+
 pub record Right (s : State) (cells : ℕ) (r : Row) : Type 0 where
   pub ordered : Ascending 2 (causesOf cells r)
   pub room : freeBytes ≤ bytesOf r
@@ -121,12 +132,30 @@ pub record Right (s : State) (cells : ℕ) (r : Row) : Type 0 where
   pub keeps : Within s → lowest (causesOf cells r) ≡ 0 → Limits (effectOf (s .tables) r)
   pub places : effectOf (s .tables) r .places ≡ s .tables .places
   pub shown : Within s → lowest (causesOf cells r) ≡ 0 → Showing (s .tables) (bytesOf r) (shownOf r)
+  pub finds : Within s → lowest (causesOf cells r) ≡ 0 → Finds (s .tables) r
 
 no-lines : {t : Tables} → Listing t (alone Accepted)
 no-lines = record { entries = inl (λ es cs. refl); changes = inl (λ cs. refl) }
 
 run-lines : {t : Tables} (x : Shown) → OneEach t (x .entries) → ((cs : List Change) → textOf (x .answer) (x .entries) cs ≡ shownText x) → Listing t x
 run-lines x o e = record { entries = inr o; changes = inl e }
+
+-- the lines of a plan that is in range
+plan-showing : (t : Tables) → Limits t → (es : List Entry) → outcomeIn (rangeOf t) (planned es) ≡ true → Showing t freeBytes (showingPlan t es)
+plan-showing t h es e =
+    let l = lines-in (rangeOf t) es e in
+    record {
+      fits = lines-fit t h es l;
+      lists = run-lines _ (record { loads = record { all = l .all; each = l .each }; ranged = lines-ranged t h es l }) (λ cs. refl);
+    }
+
+-- the latest outcome, where it is a plan
+last-showing : (t : Tables) → Limits t → (o : Outcome) → outcomeIn (rangeOf t) o ≡ true
+    → lowest ((no.noneFits if isNoneFits o) ∷ (no.noPlan if isNone o) ∷ []) ≡ 0 → Showing t freeBytes (showingPlan t (linesOf o))
+unfolding lowest
+last-showing t h none e p = absurd (omega arith)
+last-showing t h noneFits e p = absurd (omega arith)
+last-showing t h (planned es) e p = plan-showing t h es e
 
 refuses-right : (s : State) (cells n : ℕ) → no.unusable < n → n ≤ no.greatest → Right s cells (refuses n)
 refuses-right s cells n a b = record {
@@ -137,10 +166,11 @@ refuses-right s cells n a b = record {
   keeps = λ h e. h .tables;
   places = refl;
   shown = λ h e. record { fits = lit≤ tt; lists = no-lines };
+  finds = λ h e. tt;
 }
 
 right : (s : State) (n : ℕ) (c : Command) → Right s n (row s c)
-unfolding row noneFits notAllowed
+unfolding row row-of.noneFits notAllowed
 right s n (line.Change c) =
     let x = sound (s .tables) c in
     record {
@@ -151,9 +181,12 @@ right s n (line.Change c) =
       keeps = λ h. x .keeps (h .tables);
       places = x .places;
       shown = λ h e. record { fits = lit≤ tt; lists = no-lines };
+      finds = λ h e. tt;
     }
 right s n line.Plan =
     let t = s .tables in
+    let in-range : Within s → lowest (causesOf n (row s line.Plan)) ≡ 0 → outcomeIn (rangeOf t) (planned (planEntries t)) ≡ true = λ h e.
+    plan-in t (h .tables) (passed no.noneFits (row-of.noneFits t) [] (lit< tt) (passed no.tooFewCells (ltb n (cellsOf t)) _ (lit< tt) (passed no.noLoads (eqb (length (t .loads)) 0) _ (lit< tt) e .1) .1) .0) in
     record {
       ordered = (lit≤ tt, (lit≤ tt, (lit≤ tt, lit≤ tt)));
       room = lit≤ tt;
@@ -161,10 +194,8 @@ right s n line.Plan =
       accepts = refl;
       keeps = λ h e. h .tables;
       places = refl;
-      shown = λ h e.
-          let some = passed no.noneFits (noneFits t) [] (lit< tt) (passed no.tooFewCells (ltb n (cellsOf t)) _ (lit< tt) (passed no.noLoads (eqb (length (t .loads)) 0) _ (lit< tt) e .1) .1) .0 in
-          let p = claims t (h .tables) .planned (positive (eqb-false (bestPlan t) 0 some)) in
-          record { fits = planned-fits t (h .tables) some; lists = run-lines _ (record { loads = p .loads; ranged = plan-ranged t (h .tables) }) (λ cs. refl) };
+      shown = λ h e. plan-showing t (h .tables) (planEntries t) (in-range h e);
+      finds = in-range;
     }
 right s n (line.Check σ k) =
     let t = s .tables in
@@ -179,6 +210,7 @@ right s n (line.Check σ k) =
           let some = passed no.notAllowed (notAllowed t (markIn σ)) [] (lit< tt) (passed-not no.outOfRange (eqb k (length (t .loads))) _ (lit< tt) (passed no.noLoads (eqb (length (t .loads)) 0) _ (lit< tt) e .1) .1) .0 in
           let p = claims t (h .tables) .checked (markIn σ) (positive (eqb-false (bestCheck t (markIn σ)) 0 some)) in
           record { fits = checked-fits t (h .tables) (markIn σ); lists = run-lines _ (record { loads = p .loads; ranged = check-ranged t (h .tables) (markIn σ) }) (λ cs. refl) };
+      finds = λ h e. tt;
     }
 right s n line.Save = record {
   ordered = lit≤ tt;
@@ -188,6 +220,17 @@ right s n line.Save = record {
   keeps = λ h e. h .tables;
   places = refl;
   shown = λ h e. record { fits = save-fits (s .tables) (h .tables); lists = record { entries = inl (λ es cs. refl); changes = inr refl } };
+  finds = λ h e. tt;
+}
+right s n line.Last = record {
+  ordered = (lit≤ tt, (lit≤ tt, lit≤ tt));
+  room = lit≤ tt;
+  most = lit≤ tt;
+  accepts = refl;
+  keeps = λ h e. h .tables;
+  places = refl;
+  shown = λ h e. last-showing (s .tables) (h .tables) (s .outcome) (h .outcome) e;
+  finds = λ h e. tt;
 }
 right s n line.Broken = refuses-right s n no.broken (lit≤ tt) (lit≤ tt)
 right s n line.TooLong = refuses-right s n no.tooLong (lit≤ tt) (lit≤ tt)
@@ -203,5 +246,6 @@ works-plan s (line.Change c) = inr refl
 works-plan s line.Plan = inl refl
 works-plan s (line.Check σ n) = inr refl
 works-plan s line.Save = inr refl
+works-plan s line.Last = inr refl
 works-plan s line.Broken = inr refl
 works-plan s line.TooLong = inr refl

@@ -34,7 +34,7 @@ use Rattle.calls.proofs.State.{fresh-within}
 use Rattle.calls.proofs.ByCommand.{needed-range}
 use Rattle.calls.proofs.Demand3.{history-right, history-places}
 use Rattle.calls.proofs.Rebuilds.{rebuilds}
-use Rattle.calls.proofs.Saves.{save-writes, fed}
+use Rattle.calls.proofs.Saves.{Fed, save-writes, fed}
 use Rattle.calls.proofs.Program.{exchanges-history, left-append, left-last}
 
 -- ---- lines after whole lines
@@ -130,7 +130,7 @@ module _ (t : Tables) (h : Limits t) (x : Left) (room : saveBytes ≤ length (x 
   past : (last (storedState s) fedBack ≡ storedState (paperFrom s fedBack)) × Within (paperFrom s fedBack) × Right s fedBack
   past = history-right s within fedBack (subst (λ (p : StoredState). History p fedBack) holds (exchanges-history x back))
 
-  taken : Each Accepted fedBack × (paperFrom s fedBack .tables ≡ t)
+  taken : Fed s fedBack t (saved t)
   taken = fed (rebuilds t h (s .tables) as-many) (save-lines t h .back) s refl fedBack (past .2) (exchanges-lines x back ∙ save-lines t h .cut) (exchanges-free x back room)
 
   abbrev reached : State
@@ -140,10 +140,10 @@ module _ (t : Tables) (h : Limits t) (x : Left) (room : saveBytes ≤ length (x 
   ends = left-last x back ∙ ap (λ (p : StoredState). last p fedBack) holds ∙ past .0
 
   left-tables : leftAfter x back .state .tables ≡ stored t
-  left-tables = ap (λ (p : StoredState). p .tables) ends ∙ ap stored (taken .1)
+  left-tables = ap (λ (p : StoredState). p .tables) ends ∙ ap stored (taken .tables)
 
   back-printed : printedBy fedBack ≡ flatten (replicate (length (saved t)) ok)
-  back-printed = accepted-printed (taken .0) ∙ ap (λ (n : ℕ). flatten (replicate n ok)) count
+  back-printed = accepted-printed (taken .accepted) ∙ ap (λ (n : ℕ). flatten (replicate n ok)) count
     where
       count : length fedBack ≡ length (saved t)
       count = sym (length-map fedBack (λ (x : Exchange). x .call .line)) ∙ ap length (exchanges-lines x back ∙ save-lines t h .cut) ∙ length-map (saved t) written
@@ -153,7 +153,7 @@ module _ (t : Tables) (h : Limits t) (x : Left) (room : saveBytes ≤ length (x 
       let y = leftAfter x back in
       let c = callOn y (bytes "save") in
       let k : SaveCall c = record { line = save-parses; free = omega (arith, room, left-length x back) } in
-      ap (λ (p : StoredState). writtenBy c (called p c .reply)) ends ∙ save-writes reached c k (past .1) ∙ ap (λ (u : Tables). saveText u) (taken .1)
+      ap (λ (p : StoredState). writtenBy c (called p c .reply)) ends ∙ save-writes reached c k (past .1) ∙ ap (λ (u : Tables). saveText u) (taken .tables)
 
 -- ---- after any input of whole lines
 module _ (cells : ℕ) {s : List ℕ} (whole : Whole s) (t : Tables) (h : Limits t) (as-many : t .places ≡ maxLoads) where

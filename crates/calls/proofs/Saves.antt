@@ -12,16 +12,18 @@ use Rattle.lines.specs.declared.Command.the-variants as line
 use Rattle.lines.specs.Length.{mostBytes, tooLong}
 use Rattle.lines.specs.Grammar.{parse, lineCommand}
 use Rattle.lines.specs.Written.{written}
-use Rattle.lines.specs.Saved.{saveText}
+use Rattle.lines.specs.Saved.{saved, saveText}
 use Rattle.lines.specs.Answers.{freeBytes, ok}
 use Rattle.lines.specs.Input.{lines}
 use Rattle.lines.specs.ReadBack.{ReadBack}
-use Rattle.lines.proofs.Sizes.{save-short}
+use Rattle.lines.proofs.Sizes.{numbers-short}
 use Rattle.lines.proofs.SaveText.{save-fits}
 use Rattle.lines.proofs.SaveLines.{save-lines}
 use Rattle.tables.specs.Tables.{Tables}
 use Rattle.tables.specs.Limits.{Limits}
 use Rattle.tables.specs.Stored.{stored}
+use Rattle.runs.specs.Outcome as outcome
+use Rattle.runs.specs.Outcome.{Outcome}
 use Rattle.calls.specs.State.{State, StoredState, storedState, stateOf, Within, Kept}
 use Rattle.calls.specs.Rows.{Row, changes, changing, row}
 use Rattle.calls.specs.Causes.{lowest, refusal}
@@ -42,7 +44,7 @@ use Rattle.calls.proofs.Rebuilds.{rebuilds}
 -- ---- a save
 module _ (s : State) (c : Call) (k : SaveCall c) where
   save-row : rowFor s c ≡ row s line.Save
-  save-row = row-is s c line.Save (k .line) (save-short (c .line) (k .line))
+  save-row = row-is s c line.Save (k .line) (numbers-short (c .line) line.Save (k .line) refl)
 
   save-number : numberFor s c ≡ 0
   unfolding row lowest
@@ -94,6 +96,9 @@ module _ (s : State) (x : Call) (c : Change) (on : x .line ≡ written c) (b : R
   line-after : after s x .tables ≡ changing (s .tables) c .after
   line-after = change-after s x c command line-number
 
+  line-outcome : after s x .outcome ≡ outcome.none
+  line-outcome = rw (line-number, change-row s x c command)
+
   line-answer : answer s x ≡ reply x 0 ok (x .work)
   unfolding text workAfter zeroed
   line-answer = answer-at s x 0 (changes (changing (s .tables) c)) line-number (change-row s x c command)
@@ -110,31 +115,55 @@ module _ (s : State) (x : Call) (c : Change) (on : x .line ≡ written c) (b : R
 unlike : {A B : Type 0} {a : A} {l : List A} → _≡_ {A = List A} (a ∷ l) [] → B
 unlike e = absurd (let z : _≡_ {A = ℕ} 0 1 = cc in omega arith)
 
+-- every accepted change wipes the outcome
+abbrev wiped : List Change → Outcome → Outcome
+wiped [] o = o
+wiped (c ∷ cs) o = outcome.none
+
+wiped-none : (cs : List Change) → wiped cs outcome.none ≡ outcome.none
+wiped-none [] = refl
+wiped-none (c ∷ cs) = refl
+
+pub record Fed (s : State) (xs : List Exchange) (u : Tables) (cs : List Change) : Type 0 where
+  pub accepted : Each Accepted xs
+  pub tables : paperFrom s xs .tables ≡ u
+  pub outcome : paperFrom s xs .outcome ≡ wiped cs (s .outcome)
+
 module _ (v : Tables) (cs : List Change) {t u : Tables} {c : Change} (step : Step t c u) (b : ReadBack c) (s : State) (holds : s .tables ≡ t) (x : Exchange) (xs : List Exchange) where
   fed-more : Right s (x ∷ xs) → linesOf (x ∷ xs) ≡ map written (c ∷ cs) → x .call .place + bytesNeeded (x .call .line) ≤ length (x .call .output)
-      → ((s : State) → s .tables ≡ u → Right s xs → linesOf xs ≡ map written cs → Each Accepted xs × (paperFrom s xs .tables ≡ v))
-      → Each Accepted (x ∷ xs) × (paperFrom s (x ∷ xs) .tables ≡ v)
+      → ((s : State) → s .tables ≡ u → Right s xs → linesOf xs ≡ map written cs → Fed s xs v cs)
+      → Fed s (x ∷ xs) v (c ∷ cs)
   fed-more y l f ih =
       let k = x .call in
       let on : k .line ≡ written c = cc in
       let passes : lowest (changing (s .tables) c .causes) ≡ 0 = rw holds (step .accepted) in
       let held : after s k .tables ≡ u = line-after s k c on b f passes ∙ ap (λ (t : Tables). changing t c .after) holds ∙ step .after in
       let r = ih (after s k) held (y .2) (cc) in
-      (each.more (line-accepted s k c on b f passes (x .done) (y .0)) (r .0), r .1)
+      record {
+        accepted = each.more (line-accepted s k c on b f passes (x .done) (y .0)) (r .accepted);
+        tables = r .tables;
+        outcome = r .outcome ∙ ap (wiped cs) (line-outcome s k c on b f passes) ∙ wiped-none cs;
+      }
 
 pub fed : {t u : Tables} {cs : List Change} → Takes t cs u → Each ReadBack cs → (s : State) → s .tables ≡ t
-    → (xs : List Exchange) → Right s xs → linesOf xs ≡ map written cs → AllFree xs → Each Accepted xs × (paperFrom s xs .tables ≡ u)
-fed none b s e [] y l f = (each.none, e)
+    → (xs : List Exchange) → Right s xs → linesOf xs ≡ map written cs → AllFree xs → Fed s xs u cs
+fed none b s e [] y l f = record { accepted = each.none; tables = e; outcome = refl }
 fed none b s e (x ∷ xs) y l f = unlike l
 fed (next p q) b s e [] y l f = unlike (sym l)
 fed (next {v = v} {cs = cs} p q) (each.more b bs) s e (x ∷ xs) y l (each.more f fs) = fed-more v cs p b s e x xs y l f (λ s e y l. fed q bs s e xs y l fs)
 
--- the lines of tables t, fed to any planner within the limits: they are accepted, and it ends with a state that has these tables
+-- a save has a line, and so it leaves no outcome
+save-wipes : (t : Tables) (o : Outcome) → wiped (saved t) o ≡ outcome.none
+unfolding saved
+save-wipes t o = refl
+
+-- the lines of tables t, fed to any planner within the limits: they are accepted, and it ends with a state that has these tables, and no outcome
 pub record Ends (p : StoredState) (xs : List Exchange) (t : Tables) : Type 0 where
   pub accepted : Each Accepted xs
   pub state : State
   pub within : Within state
   pub tables : state .tables ≡ t
+  pub outcome : state .outcome ≡ outcome.none
   pub last : last p xs ≡ storedState state
 
 pub ends : {n : ℕ} (t : Tables) → Limits t → t .places ≡ n → (p : StoredState) → Kept n p → (xs : List Exchange) → History p xs
@@ -145,10 +174,11 @@ ends t h m p hp xs y l f =
     let r = history-right s (kept-within p hp) xs (subst (λ (x : StoredState). History x xs) (kept-stored p hp) y) in
     let g = fed (rebuilds t h (s .tables) (places (p .tables) (hp .tables) ∙ sym m)) (saves .back) s refl xs (r .2) (l ∙ saves .cut) f in
     record {
-      accepted = g .0;
+      accepted = g .accepted;
       state = paperFrom s xs;
       within = r .1;
-      tables = g .1;
+      tables = g .tables;
+      outcome = g .outcome ∙ save-wipes t (s .outcome);
       last = ap (λ (x : StoredState). last x xs) (kept-stored p hp) ∙ r .0;
     }
 

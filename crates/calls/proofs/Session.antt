@@ -22,6 +22,8 @@ use Rattle.meaning.specs.Cell.{cell, _⊕_}
 use Rattle.meaning.specs.Best.{best, bestTree, bestPlan, bestCheck}
 use Rattle.meaning.specs.Choice.{choose, chooseTree, plan, check, find, inOrder, planEntries, checkEntries}
 use Rattle.meaning.specs.Cells.{cellsOf}
+use Rattle.runs.specs.Runs.{markAll, runOf, entriesTo}
+use Rattle.runs.specs.Outcome.{figuresIn, entryIn, outcomeIn, runFree, keepsOutcome}
 use Rattle.calls.specs.Rows.{noneFits, notAllowed, changing, row as rowOf, lineRow}
 use Rattle.calls.specs.Causes.{lowest, allCauses, refusal}
 use Rattle.calls.specs.Effects.{changed}
@@ -31,5 +33,5 @@ use Rattle.calls.specs.Program.{exchanges, printedBy, sessionWith}
 use Rattle.calls.specs.Session.{sessionRight}
 
 pub session-right : sessionRight ≡ true
-unfolding some every everyFrom distinct laid limited argmax hasMark withMark joined hasLoad same decimalTo decimal field fields isNumber valueFrom isBits joinedFrom parse findForm lineCommand lineOf parted markChanges sizeChange bookChanges saved changesText refused planLine entryLine entryLines lines fresh ruleIn sameRule sortIn bookIn loadIn loadsIn limits storedBook stored bookOf tablesOf zeroRule zeroLoad keepsLimits hasChildren remaining row tree sum cell _⊕_ best bestTree bestPlan bestCheck choose chooseTree plan check find inOrder planEntries checkEntries lowest cellsOf noneFits notAllowed changing rowOf lineRow allCauses refusal changed text zeroed workAfter answer called exchanges printedBy sessionWith sessionRight
+unfolding some every everyFrom distinct laid limited argmax hasMark withMark joined hasLoad same decimalTo decimal field fields isNumber valueFrom isBits joinedFrom parse findForm lineCommand lineOf parted markChanges sizeChange bookChanges saved changesText refused planLine entryLine entryLines lines fresh ruleIn sameRule sortIn bookIn loadIn loadsIn limits storedBook stored bookOf tablesOf zeroRule zeroLoad keepsLimits hasChildren remaining row tree sum cell _⊕_ best bestTree bestPlan bestCheck choose chooseTree plan check find inOrder planEntries checkEntries markAll runOf entriesTo figuresIn entryIn outcomeIn runFree keepsOutcome lowest cellsOf noneFits notAllowed changing rowOf lineRow allCauses refusal changed text zeroed workAfter answer called exchanges printedBy sessionWith sessionRight
 session-right = refl

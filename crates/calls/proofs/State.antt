@@ -1,13 +1,21 @@
 -- A state within the limits, stored and read back. Assumes nothing.
 use Prim.Native.Nat.{ℕ, _≤_}
-use mathlib.Core.Path.{_≡_, sym, ap, _∙_}
+use mathlib.Core.Path.{_≡_, refl, sym, ap, _∙_}
 use mathlib.Core.Bool.{true}
+use native.Mathlib.Omega.{arith}
+use lib.ListN.{length}
+use Rattle.lists.proofs.Bools.{and-left, and-right}
 use Rattle.tables.specs.declared.tables.StoredTables.{StoredTables}
 use Rattle.tables.specs.Tables.{Tables}
-use Rattle.tables.specs.Limits.{mostPlaces, Limits}
-use Rattle.tables.specs.Stored.{stored, tablesOf, Holds}
+use Rattle.tables.specs.Limits.{maxLoads, mostPlaces, Limits}
+use Rattle.tables.specs.Stored.{storedBook, stored, tablesOf, keepsLimits, Holds}
+use Rattle.tables.proofs.Lawful as tables
 use Rattle.tables.proofs.Keeps.{fresh-limits}
 use Rattle.tables.proofs.Stored.{tables-stored, stored-keeps, keeps-exactly}
+use Rattle.runs.specs.declared.outcome.StoredOutcome.{StoredOutcome}
+use Rattle.runs.specs.Outcome.{Outcome, storedOutcome, outcomeOf, rangeOf, heldRange, outcomeIn, keepsOutcome}
+use Rattle.runs.proofs.Stored as outcomes
+use Rattle.runs.proofs.Stored.{outcome-stored, stored-in, kept-in}
 use Rattle.calls.specs.State.{State, StoredState, fresh, storedState, stateOf, keeps, Within, Kept, Sized}
 
 -- ---- tables
@@ -21,26 +29,72 @@ module _ {n : ℕ} (u : StoredTables) (h : Holds n u) where
   pub is-stored : u ≡ stored (tablesOf u)
   is-stored = h .2 ∙ ap stored (sym same-tables)
 
+  pub range-held : heldRange u ≡ rangeOf (tablesOf u)
+  unfolding stored storedBook
+  range-held = ap heldRange is-stored
+
   pub places : tablesOf u .places ≡ n
   places = ap (λ (t : Tables). t .places) same-tables ∙ h .3
 
+-- ---- the outcome
+-- there is a place for each load
+pub few-loads : (t : Tables) → Limits t → length (t .loads) ≤ maxLoads
+few-loads t h = let w = tables.lawful t h in omega (arith, w .loads, w .places)
+
+module _ (t : Tables) (h : Limits t) (x : StoredOutcome) (k : (o : Outcome) × (outcomeIn (rangeOf t) o ≡ true) × (x ≡ storedOutcome o)) where
+  same-outcome : outcomeOf (length (t .loads)) x ≡ k .0
+  same-outcome = ap (outcomeOf (length (t .loads))) (k .2) ∙ outcome-stored (rangeOf t) (few-loads t h) (k .0) (k .1)
+
+  in-range : outcomeIn (rangeOf t) (outcomeOf (length (t .loads)) x) ≡ true
+  in-range = rw same-outcome (k .1)
+
+  pub is-outcome : x ≡ storedOutcome (outcomeOf (length (t .loads)) x)
+  is-outcome = k .2 ∙ ap storedOutcome (sym same-outcome)
+
 -- ---- the state
 pub fresh-within : (n : ℕ) → n ≤ mostPlaces → Within (fresh n)
-fresh-within n h = record { tables = fresh-limits n h }
+unfolding outcomeIn
+fresh-within n h = record { tables = fresh-limits n h; outcome = refl }
 
 pub state-stored : (s : State) → Within s → stateOf (storedState s) ≡ s
-state-stored s h = λ i. record { tables = tables-stored (s .tables) (h .tables) i }
+state-stored s h =
+    let e = tables-stored (s .tables) (h .tables) in
+    let q : outcomeOf (length (tablesOf (stored (s .tables)) .loads)) (storedOutcome (s .outcome)) ≡ s .outcome =
+    ap (λ (t : Tables). outcomeOf (length (t .loads)) (storedOutcome (s .outcome))) e
+    ∙ outcome-stored (rangeOf (s .tables)) (few-loads (s .tables) (h .tables)) (s .outcome) (h .outcome) in
+    λ i. record { tables = e i; outcome = q i }
 
 pub keeps-stored : (s : State) → Within s → keeps (storedState s) ≡ true
-keeps-stored s h = stored-keeps (s .tables) (h .tables)
+unfolding stored storedBook
+keeps-stored s h =
+    rw (stored-keeps (s .tables) (h .tables))
+    (stored-in (rangeOf (s .tables)) (few-loads (s .tables) (h .tables)) (s .outcome) (h .outcome))
 
 module _ {n : ℕ} (p : StoredState) where
   -- a planner that keeps the limits holds a state within them
+  pub kept-by : Holds n (p .tables) → length (p .outcome .run .states) ≡ maxLoads → length (p .outcome .run .«load_rules») ≡ maxLoads
+      → length (p .outcome .run .«row_rules») ≡ maxLoads → keepsOutcome (heldRange (p .tables)) (p .outcome) ≡ true → Kept n p
+  kept-by holds a b c test =
+      let t = tablesOf (p .tables) in
+      let e = rw (range-held (p .tables) holds) at test in
+      record {
+        tables = holds;
+        outcome = (
+          outcomeOf (length (t .loads)) (p .outcome),
+          kept-in (rangeOf t) (p .outcome) e,
+          outcomes.kept-stored (rangeOf t) (few-loads t (lawful (p .tables) holds)) (p .outcome) a b c e,
+        );
+      }
+
   pub keeps-kept : Sized n p → keeps p ≡ true → Kept n p
-  keeps-kept len e = record { tables = keeps-exactly (p .tables) (len .tables) n (len .places) .0 e }
+  keeps-kept len e =
+      kept-by (keeps-exactly (p .tables) (len .tables) n (len .places) .0 (and-left (keepsLimits (p .tables)) (keepsOutcome (heldRange (p .tables)) (p .outcome)) e))
+      (len .states) (len .loadRules) (len .rowRules) (and-right (keepsLimits (p .tables)) (keepsOutcome (heldRange (p .tables)) (p .outcome)) e)
 
   pub kept-within : Kept n p → Within (stateOf p)
-  kept-within h = record { tables = lawful (p .tables) (h .tables) }
+  kept-within h = let l = lawful (p .tables) (h .tables) in record { tables = l; outcome = in-range (tablesOf (p .tables)) l (p .outcome) (h .outcome) }
 
   pub kept-stored : Kept n p → p ≡ storedState (stateOf p)
-  kept-stored h = λ i. record { tables = is-stored (p .tables) (h .tables) i }
+  kept-stored h =
+      let o = is-outcome (tablesOf (p .tables)) (lawful (p .tables) (h .tables)) (p .outcome) (h .outcome) in
+      λ i. record { tables = is-stored (p .tables) (h .tables) i; outcome = o i }

@@ -1,11 +1,12 @@
 -- Demand 1: what every call gives and leaves, on any planner, whatever its fields hold, with any line, output, place and work. (The proof
 -- takes the lengths of the planner's arrays, which their types give: `Lengths` of crate tables.)
 -- It stands for "Causes and numbers" of paper 01: "The lowest number that applies is given. Each is given exactly in its case." and the
--- columns "returned" and "left as it was"; for the buffers of "Lines"; and for the free bytes of request Two of paper 02. (That a call ends and
--- does nothing undefined is part of the proof of every function. The judge's part stands in the crate judge.) Assumes nothing.
+-- columns "returned" and "left as it was"; for the buffers of "Lines"; for the free bytes of request Two of paper 02; and for what is left beside
+-- the tables of request Five. (That a call ends and does nothing undefined is part of the proof of every function. The judge's part stands in the
+-- crates judge and planner.) Assumes nothing.
 use Prim.Native.Nat.{ℕ, _+_, _≤_, _<_}
 use mathlib.Core.Path.{_≡_}
-use mathlib.Core.Bool.{true, false, not}
+use mathlib.Core.Bool.{Bool, true, false, not}
 use mathlib.Core.List.{List, _∷_}
 use mathlib.Core.Logic.{_⊎_, _↔_}
 use lib.ListN.{length, take, drop}
@@ -17,7 +18,7 @@ use Rattle.lines.specs.Answers.{refused, freeBytes}
 use Rattle.tables.specs.Refusals as no
 use Rattle.meaning.specs.Cells.{cellsOf}
 use Rattle.calls.specs.State.{StoredState, stateOf, keeps}
-use Rattle.calls.specs.Rows.{Cause, _if_, bytesOf, cellsFor}
+use Rattle.calls.specs.Rows.{Cause, _if_, bytesOf, isChange, isShow, cellsFor}
 use Rattle.calls.specs.Causes.{allCauses, Lowest}
 use Rattle.calls.specs.Printing.{zeroed, searched}
 use Rattle.calls.specs.Calls.{Call, rowFor, Done, writtenBy, turnedAway}
@@ -30,8 +31,12 @@ pub record Demand1 (p : StoredState) (c : Call) (d : Done) : Type 0 where
   -- its answer, or exactly in the paper's case one numbered refusal
   pub number : Lowest (causesOf p c) (d .reply .number)
   pub most : d .reply .number ≤ no.greatest
-  -- a refusal changes nothing that the planner keeps
-  pub state : 0 < d .reply .number → d .state ≡ p
+  -- a refusal changes no table, and but for 9 nothing that the planner keeps
+  pub tables : 0 < d .reply .number → d .state .tables ≡ p .tables
+  pub state : 0 < d .reply .number → searched (d .reply .number) ≡ false → d .state ≡ p
+  -- nor does what is no change, accepted or not; and what only shows leaves the planner as it was
+  pub still : isChange (rowFor (stateOf p) c) ≡ false → d .state .tables ≡ p .tables
+  pub shows : isShow (rowFor (stateOf p) c) ≡ true → d .state ≡ p
   -- 1: "number, 0 bytes", and "everything" is left as it was
   pub one : d .reply .number ≡ no.unusable → d .reply ≡ turnedAway c
   -- from 2 on: "number, `no,N`"
@@ -53,6 +58,7 @@ bytesFor line.Plan = freeBytes
 bytesFor (line.Check σ n) = freeBytes
 -- "It needs 3,000 free bytes, which the line program now lends, and fewer is refusal 1."
 bytesFor line.Save = saveBytes
+bytesFor line.Last = freeBytes
 -- "A line that breaks its form or is too long needs 1,024, its command word notwithstanding."
 bytesFor line.Broken = freeBytes
 bytesFor line.TooLong = freeBytes
@@ -60,10 +66,24 @@ bytesFor line.TooLong = freeBytes
 unfoldable pub bytesNeeded : (line : List ℕ) → ℕ
 bytesNeeded l = bytesFor (lineCommand l)
 
+-- does it leave the planner as it was, whatever its number? A change and a plan may not.
+abbrev pub onlyShows : Command → Bool
+onlyShows (line.Change c) = false
+onlyShows line.Plan = false
+onlyShows (line.Check σ n) = true
+onlyShows line.Save = true
+onlyShows line.Last = true
+onlyShows line.Broken = true
+onlyShows line.TooLong = true
+
 -- the same of tables, output and work, by the command and not by its row
 pub record ByCommand (p : StoredState) (c : Call) (d : Done) : Type 0 where
   -- "an accepted line changes them as its row below says, a refused one not at all"
   pub tables : 0 < d .reply .number → d .state .tables ≡ p .tables
+  -- a plan "leaves only these as they were"
+  pub plan : parse (c .line) ≡ line.Plan → d .state .tables ≡ p .tables
+  -- what only shows leaves the planner
+  pub shows : onlyShows (lineCommand (c .line)) ≡ true → d .state ≡ p
   -- 1 exactly for "fewer free output bytes than needed; place past the end; a planner handed in that breaks a limit"
   pub one : (d .reply .number ≡ no.unusable) ↔ ((keeps p ≡ false) ⊎ (length (c .output) < c .place + bytesNeeded (c .line)))
   -- no answer is longer than the bytes that its line needs

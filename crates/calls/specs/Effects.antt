@@ -1,10 +1,18 @@
--- What an accepted line changes.
--- It stands for "an accepted line changes them as its row below says, a refused one not at all" of paper 01. Assumes nothing.
+-- What a line changes: the tables, and the outcome beside them.
+-- It stands for "an accepted line changes them as its row below says, a refused one not at all" of paper 01, and for "A plan, or its refusal 9,
+-- stores its outcome beside the tables and leaves only these as they were; an accepted change wipes it" of request Five of paper 02.
+-- Assumes nothing.
 use Prim.Native.Nat.{ℕ, zero, suc}
 use mathlib.Core.List.{List}
+use lib.Dec.{eqb}
+use Rattle.lists.specs.Tests.{pick}
+use Rattle.tables.specs.Refusals as no
 use Rattle.tables.specs.Tables.{Tables}
+use Rattle.tables.specs.declared.entry.Entry.{Entry}
 use Rattle.calls.specs.State.{State, plain}
-use Rattle.calls.specs.Rows.{Row, effectOf, lineRow}
+use Rattle.tables.specs.Operations.{accepted}
+use Rattle.runs.specs.Outcome.{Outcome, none, noneFits, planned}
+use Rattle.calls.specs.Rows.{Row, changes, shows, works, effectOf, lineRow}
 use Rattle.calls.specs.Causes.{refusal}
 
 -- a row whose number is 0 acts
@@ -16,6 +24,17 @@ acted t (suc n) r = t
 unfoldable pub changed : Tables → (line : List ℕ) (room place : ℕ) → Tables
 changed t l room place = let r = lineRow (plain t) l in acted t (refusal 0 room place r) r
 
--- the state after a row with this number
+-- the outcome after a row with this number: wiped by "any line that printed `ok`", and stored by a plan and its refusal 9. "Refused commands don't
+-- make it old."
+abbrev pub foundBy : (number : ℕ) → (lines : List Entry) → Outcome → Outcome
+foundBy zero es o = planned es
+foundBy (suc n) es o = pick (eqb (suc n) no.noneFits) noneFits o
+
+abbrev pub outcomeBy : (number : ℕ) → Row → Outcome → Outcome
+outcomeBy n (changes x) o = accepted n none o
+outcomeBy n (shows b cs x) o = o
+outcomeBy n (works b m before after x) o = foundBy n (x .entries) o
+
+-- the state after it
 abbrev pub stateBy : State → (number : ℕ) → Row → State
-stateBy s n r = record { tables = acted (s .tables) n r }
+stateBy s n r = record { tables = acted (s .tables) n r; outcome = outcomeBy n r (s .outcome) }

@@ -1,10 +1,10 @@
 -- What each line of the table asks for: a row a line, with the bytes that it needs, its causes in the order of their numbers, and what it does
 -- where none applies. What a call returns and leaves is read off its row.
--- It stands for the table of "Lines" and rows 2 to 10 of "Causes and numbers" of paper 01, and for the commands `save` and `drop` of requests Two
--- and Three of paper 02.
+-- It stands for the table of "Lines" and rows 2 to 10 of "Causes and numbers" of paper 01, and for the commands `save`, `drop` and `last` of
+-- requests Two, Three and Five of paper 02.
 -- Assumes nothing.
 use Prim.Native.Nat.{ℕ, suc}
-use mathlib.Core.Bool.{Bool, true, _&&_, not}
+use mathlib.Core.Bool.{Bool, true, false, _&&_, not}
 use mathlib.Core.List.{List, [], _∷_, _++_}
 use lib.Dec.{eqb, leb, ltb}
 use lib.ListN.{length}
@@ -35,6 +35,7 @@ use Rattle.meaning.specs.Best.{bestPlan, bestCheck}
 use Rattle.tables.specs.declared.entry.Entry.{Entry}
 use Rattle.meaning.specs.Choice.{planEntries, checkEntries, shownSet}
 use Rattle.meaning.specs.Cells.{cellsOf}
+use Rattle.runs.specs.Outcome.{isNone, isNoneFits, linesOf}
 use Rattle.calls.specs.State.{State}
 
 pub record Cause : Type 0 where
@@ -56,7 +57,8 @@ pub record Shown : Type 0 where
   pub entries : List Entry
   pub changes : List Change
 
--- a row: a change prints `ok`; what shows changes nothing; what works needs cells (8) besides, and leaves them 0 if it looked
+-- a row: a change prints `ok`; what shows changes nothing; what works needs cells (8) besides, and if it looked leaves them 0 and stores what it
+-- found
 pub data Row : Type 0 where
   changes : Changing → Row
   shows : (bytes : ℕ) (causes : List Cause) (shown : Shown) → Row
@@ -164,6 +166,10 @@ row s (line.Check σ n) =
     (showingCheck (checkEntries t (markIn σ)))
 -- "The command `save` writes lines that rebuild the state"; "It needs 3,000 free bytes .. and fewer is refusal 1."
 row s line.Save = shows saveBytes [] (showingSave (s .tables))
+-- "`last` shows the latest outcome of `plan`, refusal 9 included (returned as 9)"; "12, no current plan, tested after 5"
+row s line.Last =
+    let o = s .outcome in
+    shows freeBytes ((no.noneFits if isNoneFits o) ∷ (no.noPlan if isNone o) ∷ []) (showingPlan (s .tables) (linesOf o))
 -- "no command of the table, wrong field count or form"
 row s line.Broken = refuses no.broken
 -- "line over 80 bytes"
@@ -194,6 +200,17 @@ abbrev pub effectOf : Tables → Row → Tables
 effectOf t (changes x) = x .after
 effectOf t (shows b cs x) = t
 effectOf t (works b m before after x) = t
+
+-- can it change the tables, and does it only show?
+abbrev pub isChange : Row → Bool
+isChange (changes x) = true
+isChange (shows b cs x) = false
+isChange (works b m before after x) = false
+
+abbrev pub isShow : Row → Bool
+isShow (changes x) = false
+isShow (shows b cs x) = true
+isShow (works b m before after x) = false
 
 -- "An accepted change prints `ok`."
 abbrev pub shownOf : Row → Shown

@@ -1,26 +1,32 @@
--- What a planner keeps from call to call: on paper, and as the planner holds it. That is the tables.
--- It stands for "Book, marks, rules, loads and budget are the tables" and "A planner handed in keeps these limits when .." of paper 01.
+-- What a planner keeps from call to call: on paper, and as the planner holds it. That is the tables, and the outcome of the latest plan.
+-- It stands for "Book, marks, rules, loads and budget are the tables" and "A planner handed in keeps these limits when .." of paper 01, and for
+-- "stores its outcome beside the tables" of request Five of paper 02.
 -- What is kept beside them goes here: a field on paper, a field in the planner, what `fresh` has there, and its limit. Assumes nothing.
 use Prim.Native.Nat.{ℕ}
 use mathlib.Core.Path.{_≡_}
-use mathlib.Core.Bool.{Bool}
+use mathlib.Core.Bool.{Bool, true, _&&_}
+use lib.ListN.{length}
 use Rattle.tables.specs.declared.tables.StoredTables.{StoredTables}
 use Rattle.tables.specs.Tables as on-paper
 use Rattle.tables.specs.Tables.{Tables}
-use Rattle.tables.specs.Limits.{Limits}
+use Rattle.tables.specs.Limits.{maxLoads, Limits}
 use Rattle.tables.specs.Stored.{stored, placesOf, tablesOf, keepsLimits, Lengths, Holds}
+use Rattle.runs.specs.declared.outcome.StoredOutcome.{StoredOutcome}
+use Rattle.runs.specs.Outcome.{Outcome, none, storedOutcome, outcomeOf, rangeOf, heldRange, outcomeIn, keepsOutcome}
 
 -- on paper
 pub record State : Type 0 where
   pub tables : Tables
+  pub outcome : Outcome
 
 -- as a planner holds it
 pub record StoredState : Type 0 where
   pub tables : StoredTables
+  pub outcome : StoredOutcome
 
 -- the state with these tables and nothing beside them
 abbrev pub plain : Tables → State
-plain t = record { tables = t }
+plain t = record { tables = t; outcome = none }
 
 -- "A fresh planner has 0 states and stages, no rules, no loads and budget 0."
 abbrev pub fresh : (places : ℕ) → State
@@ -28,24 +34,29 @@ fresh n = plain (on-paper.fresh n)
 
 -- where it lies, and what lies there
 abbrev pub storedState : State → StoredState
-storedState s = record { tables = stored (s .tables) }
+storedState s = record { tables = stored (s .tables); outcome = storedOutcome (s .outcome) }
 
 abbrev pub stateOf : StoredState → State
-stateOf p = record { tables = tablesOf (p .tables) }
+stateOf p = let t = tablesOf (p .tables) in record { tables = t; outcome = outcomeOf (length (t .loads)) (p .outcome) }
 
--- does a planner that is handed in keep the limits?
+-- does a planner that is handed in keep the limits? "A stored figure out of range for the tables is refusal 1."
 abbrev pub keeps : StoredState → Bool
-keeps p = keepsLimits (p .tables)
+keeps p = keepsLimits (p .tables) && keepsOutcome (heldRange (p .tables)) (p .outcome)
 
 -- a state within the limits
 pub record Within (s : State) : Type 0 where
   pub tables : Limits (s .tables)
+  pub outcome : outcomeIn (rangeOf (s .tables)) (s .outcome) ≡ true
 
 -- a planner that holds one, with so many places for loads
 pub record Kept (n : ℕ) (p : StoredState) : Type 0 where
   pub tables : Holds n (p .tables)
+  pub outcome : (o : Outcome) × (outcomeIn (rangeOf (tablesOf (p .tables))) o ≡ true) × (p .outcome ≡ storedOutcome o)
 
 -- the arrays have the lengths that their types give them, that of the loads so many places
 pub record Sized (n : ℕ) (p : StoredState) : Type 0 where
   pub tables : Lengths (p .tables)
   pub places : placesOf (p .tables .loads) ≡ n
+  pub states : length (p .outcome .run .states) ≡ maxLoads
+  pub loadRules : length (p .outcome .run .«load_rules») ≡ maxLoads
+  pub rowRules : length (p .outcome .run .«row_rules») ≡ maxLoads

@@ -1,6 +1,5 @@
 pub mod Parts
 pub mod Openers
-pub mod Runs
 pub mod Sums
 pub mod Passing
 pub mod Search

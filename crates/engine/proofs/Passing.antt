@@ -23,13 +23,13 @@ use Rattle.cells.specs.declared.problem.Problem.{Problem}
 use Rattle.cells.specs.Problem.{bookFor, loadsFor, itemsFor, Lawful}
 use Rattle.cells.proofs.Tables.{rule-to}
 use Rattle.cells.proofs.Stretches.{loads-long}
-use Rattle.engine.specs.declared.run.Run.{Run}
+use Rattle.runs.specs.declared.run.Run.{Run}
 use Rattle.engine.specs.declared.pass.Rows.{Rows}
 use Rattle.engine.specs.declared.pass.Pass.{Pass}
-use Rattle.engine.specs.Shown.{runOf, withEntry}
+use Rattle.runs.specs.Runs.{runOf, withEntry}
 use Rattle.engine.specs.Parts.{startBest, loadRule, rowRule}
 use Rattle.engine.specs.Pass.{entriesFor, loadChoice, rowChoice, entered, passedLoad, BranchEntered, RowEntered, Opens, Known, Full, Passed}
-use Rattle.engine.proofs.Runs.{order-length, order-next, run-snoc}
+use Rattle.runs.proofs.Runs.{order-length, order-next, run-snoc}
 use Rattle.engine.proofs.Parts.{load-reached, row-found, share-reached, root-part, below-part, shown-mark, shown-rules, branch-part, later-part}
 use Rattle.engine.proofs.Openers.{opener}
 

@@ -17,8 +17,8 @@ use Rattle.cells.specs.Work.{cellsNeeded, FilledTo, Filled}
 use Rattle.cells.proofs.Filling.{holds-none}
 use Rattle.cells.proofs.Places.{cells-small}
 use Rattle.cells.proofs.Stretches.{loads-long}
-use Rattle.engine.specs.declared.run.Outcome.{Outcome}
-use Rattle.engine.specs.Shown.{outcomeOf}
+use Rattle.runs.specs.declared.outcome.StoredOutcome.{StoredOutcome}
+use Rattle.runs.specs.Outcome.{found, storedOutcome}
 use Rattle.engine.specs.Pass.{bestFor, entriesFor, Complete}
 use Rattle.meaning.specs.Cells.{cellsOf}
 
@@ -32,15 +32,15 @@ complete p ok w v n e f l room = record {
 }
 
 -- what a search of a problem answers
-abbrev answered : Problem → Outcome
-answered p = outcomeOf (bestFor p) (inOrder (entriesFor p) 1 (p .tables .loads .count))
+abbrev answered : Problem → StoredOutcome
+answered p = storedOutcome (found (bestFor p) (inOrder (entriesFor p) 1 (p .tables .loads .count)))
 
 module _ (t : StoredTables) (p : Problem) (ok : Lawful p) where
-  pub plan-is : p ≡ planProblem t → answered p ≡ outcomeOf (bestPlan (tablesOf t)) (planEntries (tablesOf t))
+  pub plan-is : p ≡ planProblem t → answered p ≡ storedOutcome (found (bestPlan (tablesOf t)) (planEntries (tablesOf t)))
   unfolding bestPlan plan planEntries tablesOf
   plan-is e =
-      ap (λ n. outcomeOf (bestFor p) (inOrder (entriesFor p) 1 n)) (sym (loads-long p ok))
-      ∙ ap (λ (p : Problem). outcomeOf (bestFor p) (inOrder (entriesFor p) 1 (length (loadsFor p)))) e
+      ap (λ n. storedOutcome (found (bestFor p) (inOrder (entriesFor p) 1 n))) (sym (loads-long p ok))
+      ∙ ap (λ (p : Problem). storedOutcome (found (bestFor p) (inOrder (entriesFor p) 1 (length (loadsFor p))))) e
 
   pub plan-cells : p ≡ planProblem t → cellsNeeded (shapeOf p) ≡ cellsOf (tablesOf t)
   unfolding cellsOf tablesOf bookOf
@@ -49,11 +49,11 @@ module _ (t : StoredTables) (p : Problem) (ok : Lawful p) where
       ∙ ap (λ (p : Problem). length (loadsFor p) * (p .tables .book .states + p .tables .book .stages) * (p .tables .budget + 1)) e
 
   module _ (σ : LoadSet) where
-    pub check-is : p ≡ checkProblem t σ → answered p ≡ outcomeOf (bestCheck (tablesOf t) (markIn σ)) (checkEntries (tablesOf t) (markIn σ))
+    pub check-is : p ≡ checkProblem t σ → answered p ≡ storedOutcome (found (bestCheck (tablesOf t) (markIn σ)) (checkEntries (tablesOf t) (markIn σ)))
     unfolding bestCheck check checkEntries tablesOf
     check-is e =
-        ap (λ n. outcomeOf (bestFor p) (inOrder (entriesFor p) 1 n)) (sym (loads-long p ok))
-        ∙ ap (λ (p : Problem). outcomeOf (bestFor p) (inOrder (entriesFor p) 1 (length (loadsFor p)))) e
+        ap (λ n. storedOutcome (found (bestFor p) (inOrder (entriesFor p) 1 n))) (sym (loads-long p ok))
+        ∙ ap (λ (p : Problem). storedOutcome (found (bestFor p) (inOrder (entriesFor p) 1 (length (loadsFor p))))) e
 
     -- its cells: one allowance
     pub check-cells : p ≡ checkProblem t σ → cellsNeeded (shapeOf p) ≤ maxLoads * 16

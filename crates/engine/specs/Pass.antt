@@ -20,7 +20,7 @@ use Rattle.engine.specs.declared.pass.Rows.{Rows}
 use Rattle.engine.specs.declared.pass.Pass.{Pass}
 use Rattle.engine.specs.declared.choice.LoadChoice.{LoadChoice}
 use Rattle.engine.specs.declared.choice.RowChoice.{RowChoice}
-use Rattle.engine.specs.Shown.{runOf, withEntry}
+use Rattle.runs.specs.Runs.{runOf, withEntry}
 use Rattle.engine.specs.Parts.{loadBest, loadRule, belowLeft, rowBest, rowRule, shareBest, BranchPart, RowPart}
 
 -- the best cell and the entries of a problem

@@ -4,4 +4,3 @@ mod choice;
 pub mod figures;
 mod pass;
 pub mod plan;
-pub mod run;

@@ -3,17 +3,19 @@ use crate::best::best_start;
 use crate::choice::LoadChoice;
 use crate::choice::load_choice;
 use crate::choice::row_choice;
-use crate::run::Outcome;
-use crate::run::Run;
 use cells::problem::Problem;
 use cells::problem::shape_of;
+use runs::outcome::NO_SET;
+use runs::outcome::PLANNED;
+use runs::outcome::StoredOutcome;
+use runs::run::Run;
 use tables::entry::Entry;
 use tables::load::MAX_LOADS;
 ghost use mathlib.Core.Path.{_≡_};
 ghost use Prim.Native.Nat.{_+_, _≤_, _<_};
 ghost use Rattle.tables.specs.Limits.{maxLoads};
 ghost use Rattle.meaning.specs.Choice.{inOrder};
-ghost use Rattle.engine.specs.Shown.{outcomeOf};
+ghost use Rattle.runs.specs.Outcome.{found, storedOutcome};
 ghost use Rattle.engine.specs.Pass.{bestFor, entriesFor, Complete, entered, passedLoad, Passed};
 
 // The stage and the allowance at which the row from each load onward is entered. Those of a load that no row was led to yet mean nothing.
@@ -89,16 +91,16 @@ fn pass_next(p: Problem, work: &[u32], s: Pass, n: usize) -> Pass
 }
 
 // Reads the run back: nothing where no start state is possible.
-pub(crate) fn trace(p: Problem, work: &[u32]) -> Outcome
+pub(crate) fn trace(p: Problem, work: &[u32]) -> StoredOutcome
     requires { ⌜ Complete p (now work) ⌝ }
     requires { ⌜ 0 < p .tables .loads .count ⌝ }
-    ensures { λ r. ⌜ r ≡ outcomeOf (bestFor p) (inOrder (entriesFor p) 1 (p .tables .loads .count)) ⌝ }
+    ensures { λ r. ⌜ r ≡ storedOutcome (found (bestFor p) (inOrder (entriesFor p) 1 (p .tables .loads .count))) ⌝ }
 {
     let sh = shape_of(p);
     let b = best_start(sh, p.tables.book.starts, work, sh.budget);
     if b.value == 0 {
-        return Outcome {
-            found: false,
+        return StoredOutcome {
+            kind: NO_SET,
             run: Run::EMPTY,
         };
     }
@@ -109,5 +111,5 @@ pub(crate) fn trace(p: Problem, work: &[u32]) -> Outcome
         s = pass_next(p, work, s, i);
     }
     let run = s.run;
-    Outcome { found: true, run }
+    StoredOutcome { kind: PLANNED, run }
 }

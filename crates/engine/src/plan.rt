@@ -1,6 +1,5 @@
 // The whole plan, and the check of a set.
 use crate::pass::trace;
-use crate::run::Outcome;
 use cells::fill::fill;
 use cells::problem::check_problem;
 use cells::problem::plan_problem;
@@ -8,6 +7,7 @@ use cells::problem::shape_of;
 use cells::work::cells_needed;
 use cells::work::clear;
 use marks::LoadSet;
+use runs::outcome::StoredOutcome;
 use tables::load::MAX_LOADS;
 use tables::tables::StoredTables;
 ghost use mathlib.Core.Path.{_≡_};
@@ -19,17 +19,17 @@ ghost use Rattle.tables.specs.Stored.{tablesOf, keepsLimits};
 ghost use Rattle.meaning.specs.Best.{bestPlan, bestCheck};
 ghost use Rattle.meaning.specs.Choice.{planEntries, checkEntries};
 ghost use Rattle.marks.specs.Sets.{markIn};
-ghost use Rattle.engine.specs.Shown.{outcomeOf};
+ghost use Rattle.runs.specs.Outcome.{found, storedOutcome};
 ghost use Rattle.meaning.specs.Cells.{cellsOf};
 
 // The cells of a check: every load with 8 states and 8 stages, one allowance.
 const CHECK_CELLS: usize = MAX_LOADS * 16;
 
 // The plan of the tables, worked out in the lent cells, which are 0 afterwards.
-pub fn plan(t: StoredTables, work: &mut [u32]) -> Outcome
+pub fn plan(t: StoredTables, work: &mut [u32]) -> StoredOutcome
     requires { ⌜ keepsLimits t ≡ true ⌝ }
     requires { ⌜ (0 < t .loads .count) × (cellsOf (tablesOf t) ≤ length (now work)) ⌝ }
-    ensures { λ r. ⌜ r ≡ outcomeOf (bestPlan (tablesOf t)) (planEntries (tablesOf t)) ⌝ }
+    ensures { λ r. ⌜ r ≡ storedOutcome (found (bestPlan (tablesOf t)) (planEntries (tablesOf t))) ⌝ }
     ensures { λ _. ⌜ now (work .exit) ≡ replicate (cellsOf (tablesOf t)) 0 ++ drop (cellsOf (tablesOf t)) (now (work .entry)) ⌝ }
 {
     let p = plan_problem(t);
@@ -41,10 +41,10 @@ pub fn plan(t: StoredTables, work: &mut [u32]) -> Outcome
 }
 
 // The run of a checked set, worked out in cells of its own.
-pub fn check(t: StoredTables, set: LoadSet) -> Outcome
+pub fn check(t: StoredTables, set: LoadSet) -> StoredOutcome
     requires { ⌜ keepsLimits t ≡ true ⌝ }
     requires { ⌜ 0 < t .loads .count ⌝ }
-    ensures { λ r. ⌜ r ≡ outcomeOf (bestCheck (tablesOf t) (markIn set)) (checkEntries (tablesOf t) (markIn set)) ⌝ }
+    ensures { λ r. ⌜ r ≡ storedOutcome (found (bestCheck (tablesOf t) (markIn set)) (checkEntries (tablesOf t) (markIn set))) ⌝ }
 {
     let p = check_problem(t, set);
     let n = cells_needed(shape_of(p));

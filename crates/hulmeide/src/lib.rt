@@ -5,16 +5,16 @@
 use judge::Verdict;
 use planner::Planner;
 ghost use mathlib.Core.Path.{_≡_};
-ghost use Rattle.judge.specs.Verdict.{judged};
 ghost use Rattle.calls.specs.Calls.{called};
 ghost use Rattle.planner.specs.Planner.{held, fresh};
 ghost use Rattle.planner.specs.Calls.{callOf};
+ghost use Rattle.planner.specs.Verdict.{judgedBy};
 ghost use Rattle.hulmeide.specs.Calls.{doneOf};
 ghost use Rattle.hulmeide.specs.Verdict.{verdictNumber};
 ghost use Rattle.hulmeide.specs.Version.{version};
 
 // The version, as HULMEIDE_VERSION of the header has it: major * 10000 + minor * 100 + patch.
-const VERSION: u32 = 10400;
+const VERSION: u32 = 10500;
 
 // The judge's "no". It lies above every number of a refusal.
 const NOT_A_RUN: u32 = 255;
@@ -58,7 +58,7 @@ fn number_of(verdict: Verdict) -> u32
 }
 
 fn judge_run(planner: Planner, run: &[u32]) -> u32
-    ensures { λ r. ⌜ r ≡ verdictNumber (judged (planner .tables) (now (run .entry))) ⌝ }
+    ensures { λ r. ⌜ r ≡ verdictNumber (judgedBy (held planner) (now (run .entry))) ⌝ }
 {
     number_of(planner.judge(run))
 }
@@ -88,7 +88,7 @@ pub extern "C" fn hulmeide_fresh(planner: &mut Planner)
 // Are these numbers, three for each load, a run? 0 for yes, 255 for no, or the number of the refusal.
 #[no_mangle]
 pub extern "C" fn hulmeide_judge(planner: &Planner, run: &[u32]) -> u32
-    ensures { λ r. ⌜ r ≡ verdictNumber (judged (now (planner .entry) .tables) (now (run .entry))) ⌝ }
+    ensures { λ r. ⌜ r ≡ verdictNumber (judgedBy (held (now (planner .entry))) (now (run .entry))) ⌝ }
 {
     judge_run(*planner, run)
 }

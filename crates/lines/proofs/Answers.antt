@@ -56,14 +56,14 @@ unfolding entryLines
 entries-more [] l = append-nil (entryLine l)
 entries-more (m ∷ ls) l = rw (entries-more ls l) (sym (append-assoc (entryLine m) (entryLines ls) (entryLine l)))
 
--- the first line of a plan has at most 20 bytes
-pub plan-line-fits : (v w n : ℕ) → v < 1000000 → w < 1000 → n < 1000 → length (planLine v w n) ≤ 20
+-- the first line of a plan has at most 23 bytes
+pub plan-line-fits : (v w n : ℕ) → v < 1000000 → w < 1000000 → n < 1000 → length (planLine v w n) ≤ 23
 plan-line-fits v w n a b c =
-    omega (arith, plan-length v w n, field-fits 6 v comma (lit≤ tt) (omega arith), field-fits 3 w comma (lit≤ tt) (omega arith), field-fits 3 n lineFeed (lit≤ tt) (omega arith))
+    omega (arith, plan-length v w n, field-fits 6 v comma (lit≤ tt) (omega arith), field-fits 6 w comma (lit≤ tt) (omega arith), field-fits 3 n lineFeed (lit≤ tt) (omega arith))
 
 -- ---- every answer fits the bytes that must be free
-module _ (ls : List Entry) (r : AllRanged ls) (few : 14 * length ls + 20 ≤ freeBytes) where
-  pub plan-fits : (v w n : ℕ) → v < 1000000 → w < 1000 → n < 1000 → length (planLine v w n ++ entryLines ls) ≤ freeBytes
+module _ (ls : List Entry) (r : AllRanged ls) (few : 14 * length ls + 23 ≤ freeBytes) where
+  pub plan-fits : (v w n : ℕ) → v < 1000000 → w < 1000000 → n < 1000 → length (planLine v w n ++ entryLines ls) ≤ freeBytes
   plan-fits v w n a b c = omega (arith, length-append (planLine v w n) (entryLines ls), plan-line-fits v w n a b c, entries-fit r)
 
   pub check-fits : length (yes ++ entryLines ls) ≤ freeBytes

@@ -13,9 +13,8 @@ use Rattle.lists.specs.Tests.{pick, every}
 use Rattle.lists.proofs.Bools.{and-left, and-right}
 use Rattle.marks.specs.declared.LoadSet.{LoadSet}
 use Rattle.marks.specs.Sets.{setWidth}
-use Rattle.lines.specs.declared.Change as change
 use Rattle.lines.specs.declared.Command.{Command}
-use Rattle.lines.specs.declared.Command.the-variants.{Change, Plan, Check, Save, Broken}
+use Rattle.lines.specs.declared.Command.the-variants.{Change, Plan, Check, Save, Last, Broken, TooLong}
 use Rattle.lines.specs.Text.{comma, same}
 use Rattle.lines.specs.Length.{mostBytes, tooLong}
 use Rattle.lines.specs.Grammar.{onFirst, fields, mostDigits, isDigit, isNumber, isBits, loadsOf, Form, numbers, bits, table, findForm, command, parse}
@@ -133,18 +132,21 @@ module _ (s : List ℕ) (c : Command) (p : parse s ≡ c) where
       go (inr (inl l)) = short s (omega (arith, l))
       go (inr (inr (σ, n, k, e))) = short s (omega (arith, e, few σ n (sym p ∙ k)))
 
--- a line that asks for a change, a plan or a save is not too long, and neither is a check of so many bits as loads have room for
-pub change-short : (s : List ℕ) (x : change.Change) → parse s ≡ Change x → tooLong s ≡ false
-change-short s x p =
-    form-short s (Change x) p (λ e. absurd (let z : _≡_ {A = ℕ} 0 1 = cc in omega arith)) (λ σ n e. absurd (let z : _≡_ {A = ℕ} 0 1 = cc in omega arith))
+-- a line with numbers that is in form, whatever it asks for, is not too long, and neither is a check of so many bits as loads have room for
+abbrev withNumbers : Command → Bool
+withNumbers (Change x) = true
+withNumbers Plan = true
+withNumbers (Check σ n) = false
+withNumbers Save = true
+withNumbers Last = true
+withNumbers Broken = false
+withNumbers TooLong = false
 
-pub plan-short : (s : List ℕ) → parse s ≡ Plan → tooLong s ≡ false
-plan-short s p =
-    form-short s Plan p (λ e. absurd (let z : _≡_ {A = ℕ} 0 1 = cc in omega arith)) (λ σ n e. absurd (let z : _≡_ {A = ℕ} 0 1 = cc in omega arith))
-
-pub save-short : (s : List ℕ) → parse s ≡ Save → tooLong s ≡ false
-save-short s p =
-    form-short s Save p (λ e. absurd (let z : _≡_ {A = ℕ} 0 1 = cc in omega arith)) (λ σ n e. absurd (let z : _≡_ {A = ℕ} 0 1 = cc in omega arith))
+pub numbers-short : (s : List ℕ) (c : Command) → parse s ≡ c → withNumbers c ≡ true → tooLong s ≡ false
+numbers-short s c p h = form-short s c p (λ e. unlike (ap withNumbers e)) (λ σ n e. unlike (ap withNumbers e))
+  where
+    unlike : {A : Type 0} → withNumbers c ≡ false → A
+    unlike e = absurd (let z : _≡_ {A = ℕ} 0 1 = cc in omega arith)
 
 pub check-short : (s : List ℕ) (σ : LoadSet) (n : ℕ) → parse s ≡ Check σ n → n ≤ setWidth → tooLong s ≡ false
 check-short s σ n p h =

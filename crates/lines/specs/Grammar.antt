@@ -12,7 +12,7 @@ use Rattle.lists.specs.Tests.{pick, every}
 use Rattle.marks.specs.declared.LoadSet.{LoadSet}
 use Rattle.marks.specs.Sets.{noLoads, joined}
 use Rattle.lines.specs.declared.Command.{Command}
-use Rattle.lines.specs.declared.Command.the-variants.{Change, Plan, Check, Save, Broken, TooLong}
+use Rattle.lines.specs.declared.Command.the-variants.{Change, Plan, Check, Save, Last, Broken, TooLong}
 use Rattle.lines.specs.declared.Change as change
 use Rattle.lines.specs.declared.Change.the-variants.{Clear, Book, Start, End, Rule, Row, Load, Power, Worth, Budget, Drop}
 use Rattle.lines.specs.Text.{bytes, comma, nought, same}
@@ -84,6 +84,7 @@ table =
     ∷ bits (bytes "check") (λ s n. Check s n)
     ∷ numbers (bytes "save") 0 (λ n. Save)
     ∷ numbers (bytes "drop") 1 (λ n. Change (Drop (n 1)))
+    ∷ numbers (bytes "last") 0 (λ n. Last)
     ∷ []
 
 -- has a line with this word and these fields the form?

@@ -53,6 +53,7 @@ pub enum Command {
     // The loads whose bit is 1, as far as a set of loads goes, and the count of all bits.
     Check { set: LoadSet, count: usize },
     Save,
+    Last,
     Broken,
     TooLong,
 }

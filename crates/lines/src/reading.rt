@@ -18,7 +18,7 @@ const MOST_DIGITS: u32 = 5;
 
 // The rows of the table with numbers, each as one number: the bytes of its word in base 256 after a 1, and as one byte more the count of
 // its numbers.
-const ROWS: [u64; 13] = [
+const ROWS: [u64; 14] = [
     0x1_636c656172_00, // clear
     0x1_626f6f6b_02, // book
     0x1_7374617274_01, // start
@@ -32,6 +32,7 @@ const ROWS: [u64; 13] = [
     0x1_706c616e_00, // plan
     0x1_73617665_00, // save
     0x1_64726f70_01, // drop
+    0x1_6c617374_00, // last
 ];
 
 // The word before bits.
@@ -225,6 +226,7 @@ fn command_of(row: usize, v: [u32; MOST_NUMBERS]) -> Command
         10 => Command::Plan,
         11 => Command::Save,
         12 => Command::Change(Change::Drop(a)),
+        13 => Command::Last,
         _ => Command::Broken,
     }
 }

@@ -15,6 +15,10 @@ module _ {A : Type 0} {P : A → Type 0} where
   each-map f d (y ∷ ys) h = more (h 0 (omega arith)) (each-map f d ys (λ j l. h (suc j) (omega arith)))
 
   -- at a place
+  pub each-all : (d : A) (xs : List A) → ((i : ℕ) → i < length xs → P (getD xs i d)) → Each P xs
+  each-all d [] h = none
+  each-all d (x ∷ xs) h = more (h 0 (omega arith)) (each-all d xs (λ i l. h (suc i) (omega arith)))
+
   pub each-at : (d : A) {xs : List A} → Each P xs → (i : ℕ) → i < length xs → P (getD xs i d)
   each-at d none i h = absurd (omega arith)
   each-at d (more h p) zero l = h

@@ -9,6 +9,7 @@ use lib.ListN.{length}
 use Rattle.lists.specs.Tests.{some}
 use Rattle.lists.proofs.Bools.{and-left}
 use Rattle.lines.specs.declared.Change.the-variants as to
+use Rattle.lines.specs.Answers.{answerOf}
 use Rattle.tables.specs.declared.tables.StoredTables.{StoredTables}
 use Rattle.tables.specs.declared.tables.Added as operation
 use Rattle.tables.specs.declared.rule.RuleRange.{RuleRange}
@@ -27,15 +28,18 @@ use Rattle.tables.proofs.Lawful.{inside}
 use Rattle.tables.proofs.Stored.{held-loads}
 use Rattle.tables.proofs.Changes.{rule-added, figure-changed}
 use Rattle.tables.proofs.Removed.{load-dropped}
+use Rattle.runs.specs.Outcome as outcome
+use Rattle.runs.specs.Outcome.{storedOutcome}
 use Rattle.calls.specs.Rows.{Cause, _if_, isLoad, Row, changes, effectOf, unless, adding, setting, changing}
 use Rattle.calls.specs.Causes.{lowest}
 use Rattle.calls.specs.Effects.{acted}
-use Rattle.calls.proofs.State.{is-stored, kept-within}
+use Rattle.calls.specs.State.{StoredState}
+use Rattle.calls.proofs.State.{is-stored, kept-within, kept-stored}
 use Rattle.planner.specs.declared.Planner.{Planner}
 use Rattle.planner.specs.declared.changes.Changed.{Changed}
 use Rattle.planner.specs.declared.changes.NamedRule.{NamedRule}
 use Rattle.planner.specs.declared.changes.NamedLoad.{NamedLoad}
-use Rattle.planner.specs.Planner.{held, stateIn, Lawful}
+use Rattle.planner.specs.Planner.{held, plannerOf, stateIn, Lawful}
 use Rattle.planner.specs.Changes.{namedRule, namedLoad, settled, madeBy, changedBy}
 
 -- ---- numbers: "value out of its range" comes first, then what the list of rules or loads says
@@ -80,6 +84,11 @@ unfolding tablesOf bookOf
 size-held u sort.Load = refl
 size-held u sort.Row = refl
 
+-- the outcome after a change: wiped where it is accepted
+outcome-after : (p : Planner) → Lawful p → (n : ℕ) → accepted n (storedOutcome outcome.none) (p .outcome) ≡ storedOutcome (accepted n outcome.none (stateIn p .outcome))
+outcome-after p h zero = refl
+outcome-after p h (suc n) = ap (λ (k : StoredState). k .outcome) (kept-stored (held p) h)
+
 acted-accepted : (t : Tables) (n : ℕ) (r : Row) → acted t n r ≡ accepted n (effectOf t r) t
 acted-accepted t zero r = refl
 acted-accepted t (suc n) r = refl
@@ -89,13 +98,13 @@ module _ (p : Planner) (h : Lawful p) {r : Changed} (b : Bool) (cs : List Cause)
   -- out of range: its number, and the planner as it was
   pub out-of-range : b ≡ false → r ≡ settled p no.outOfRange (p .tables) → r ≡ madeBy (stateIn p) (unless ((no.outOfRange if not b) ∷ cs) after)
   unfolding madeBy
-  out-of-range e is = is ∙ rw (out b cs e) (ap (settled p no.outOfRange) (is-stored (p .tables) (h .tables)))
+  out-of-range e is = is ∙ rw (out b cs e) (ap (λ (k : StoredState). record { answer = answerOf no.outOfRange; planner = plannerOf k }) (kept-stored (held p) h))
 
   -- in range: the number and the tables that the operation gives
   pub operated : b ≡ true → (d : operation.Added) → d ≡ record { number = lowest cs; tables = stored (accepted (lowest cs) after (tablesOf (p .tables))) }
       → r ≡ settled p (d .number) (d .tables) → r ≡ madeBy (stateIn p) (unless ((no.outOfRange if not b) ∷ cs) after)
   unfolding madeBy
-  operated e d given is = is ∙ rw (given, acted-accepted (tablesOf (p .tables)) (lowest ((no.outOfRange if not b) ∷ cs)) (changes (unless ((no.outOfRange if not b) ∷ cs) after)), not-out b cs e)
+  operated e d given is = is ∙ rw (given, outcome-after p h (lowest cs), acted-accepted (tablesOf (p .tables)) (lowest ((no.outOfRange if not b) ∷ cs)) (changes (unless ((no.outOfRange if not b) ∷ cs) after)), not-out b cs e)
 
 -- in range, where that is the only cause: accepted
 pub accepts : (p : Planner) (h : Lawful p) {r : Changed} (b : Bool) (after : Tables) → b ≡ true → (u : StoredTables) → u ≡ stored after → r ≡ settled p 0 u

@@ -18,11 +18,10 @@ use Rattle.calls.specs.Demand1.{bytesFor}
 use Rattle.calls.proofs.Rows.{Right}
 use Rattle.calls.proofs.Work.{no-cells}
 use Rattle.calls.proofs.ByCommand.{row-bytes}
-use Rattle.engine.specs.Shown.{runOf}
+use Rattle.runs.specs.Runs.{runOf, entriesTo}
 use Rattle.planner.specs.declared.changes.Changed.{Changed}
 use Rattle.planner.specs.declared.search.Decided.{Decided}
 use Rattle.planner.specs.Planner.{plannerOf}
-use Rattle.planner.specs.Answers.{entriesTo}
 use Rattle.planner.specs.Changes.{madeBy, changedBy}
 use Rattle.planner.specs.Decided.{unshown, decidedBy, decided, Decides}
 use Rattle.planner.proofs.RunLines.{shown-lines}

@@ -23,7 +23,10 @@ use Rattle.calls.proofs.Padding.{same-treatment}
 use Rattle.calls.proofs.Saves.{save-right, restores}
 use Rattle.calls.proofs.Drops.{drops}
 use Rattle.planner.specs.declared.Planner.{Planner}
+use Rattle.judge.specs.declared.Verdict.{Verdict}
 use Rattle.planner.specs.Planner.{held, stateIn, fresh, Lawful}
+use Rattle.planner.specs.Verdict.{judgedBy, CaseBy}
+use Rattle.planner.proofs.Judging.{judges-exactly}
 use Rattle.planner.proofs.Calling.{handles}
 
 -- demand 1: on every planner, whatever it holds, a call gives its answer or the one refusal that applies, and leaves what the paper says
@@ -43,9 +46,14 @@ demand2-plan p h c k d is =
     subst (PlanRight (stateIn p .tables) c) (sym (ap (λ (d : Done). d .reply) (is ∙ handles p h c))) (plan-right (stateIn p) c k (kept-within (held p) h))
 
 -- demand 3: after every list of calls from a fresh planner it holds exactly the state that the accepted lines built, and every plan is the
--- paper's for it: the lowest run of a best set
+-- paper's for it: the lowest run of a best set. Request Five: beside the tables it holds the outcome of the latest plan, if no line since printed
+-- `ok`, else none, and every `last` shows it as `plan` would print it there
 pub demand3 : (xs : List Exchange) → History (held fresh) xs → Demand3 maxLoads xs
 demand3 = paper3.demand3 maxLoads (lit≤ tt)
+
+-- the judge: on every planner each answer is given exactly in its case, 1 where it breaks a limit, its outcome's too
+pub judge : (p : Planner) (ns : List ℕ) (v : Verdict) → v ≡ judgedBy (held p) ns → CaseBy (held p) ns v
+judge p ns v is = judges-exactly (held p) ns v .0 (sym is)
 
 -- request One: on every planner, whatever it holds, lists of calls whose lines differ only in leading zeros get the same treatment
 pub padding : (p : Planner) (xs ys : List Exchange) → SameCalls xs ys → History (held p) xs → History (held p) ys → SameTreatment (held p) xs ys

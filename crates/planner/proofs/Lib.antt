@@ -5,4 +5,5 @@ pub mod Writing
 pub mod Searching
 pub mod Deciding
 pub mod Calling
+pub mod Judging
 pub mod Demands

@@ -25,10 +25,9 @@ use Rattle.meaning.specs.Choice.{noEntry}
 use Rattle.meaning.specs.Claims.{Numbered}
 use Rattle.calls.specs.Rows.{Shown, shownText}
 use Rattle.calls.proofs.Rows.{OneEach, Listing}
-use Rattle.engine.specs.declared.run.Run.{Run}
-use Rattle.engine.specs.Shown.{runOf}
-use Rattle.engine.proofs.Answers.{shown-at}
-use Rattle.planner.specs.Answers.{entryAt, entriesTo}
+use Rattle.runs.specs.declared.run.Run.{Run}
+use Rattle.runs.specs.Runs.{runOf, entryAt, entriesTo}
+use Rattle.runs.proofs.Entries.{entries-read}
 
 -- ---- the lines of one load more
 pub lines-none : (l : List ℕ) (at : ℕ) (r : Run) → Wrote l l at at (entryLines (entriesTo r 0))
@@ -38,36 +37,6 @@ lines-none l at r = wrote-none l at
 pub lines-more : (r : Run) (i : ℕ) → entryLines (entriesTo r (i + 1)) ≡ entryLines (entriesTo r i) ++ entryLine (entryAt r i)
 unfolding entriesTo
 lines-more r i = rw (add-one i) (entries-more (entriesTo r i) (entryAt r i))
-
--- ---- entries in load order
-number-at : (es : List Entry) (k i : ℕ) → Numbered k es → i < length es → getD es i noEntry .number ≡ k + i
-number-at [] k i o h = absurd (omega arith)
-number-at (e ∷ es) k zero o h = omega (arith, o .0)
-number-at (e ∷ es) k (suc i) o h = let j : k + suc i ≡ suc k + i = omega arith in number-at es (suc k) i (o .1) (omega arith) ∙ sym j
-
-one-or-none : (x : ℕ) → x ≤ 1 → guard (eqb x 1) 1 ≡ x
-one-or-none zero l = refl
-one-or-none (suc zero) l = refl
-one-or-none (suc (suc x)) l = absurd (omega arith)
-
-module _ (es : List Entry) (o : Numbered 1 es) (few : length es ≤ maxLoads) (r : AllRanged es) where
-  line-at : (i : ℕ) → i < length es → entryAt (runOf es) i ≡ getD es i noEntry
-  line-at i h =
-      let s = shown-at es o few i h in
-      let number : suc i ≡ getD es i noEntry .number = omega (arith, number-at es 1 i o h) in
-      let mark = ap (λ (b : Bool). guard b 1) (s .mark) ∙ one-or-none (getD es i noEntry .mark) (each-at noEntry r i h .mark) in
-      λ j. record { number = number j; mark = mark j; state = s .state j; rule = s .rule j; row = s .row j }
-
-  lines-to : (n : ℕ) → n ≤ length es → entriesTo (runOf es) n ≡ take n es
-  unfolding entriesTo
-  lines-to zero h = refl
-  lines-to (suc n) h =
-      ap (λ (ls : List Entry). ls ++ (entryAt (runOf es) n ∷ [])) (lines-to n (omega arith))
-      ∙ ap (λ (l : Entry). take n es ++ (l ∷ [])) (line-at n (omega arith))
-      ∙ sym (take-suc es n noEntry (omega arith))
-
-  lines-shown : entriesTo (runOf es) (length es) ≡ es
-  lines-shown = lines-to (length es) (le-refl (length es)) ∙ take-all (length es) es (omega arith)
 
 -- ---- what a row shows: its text with the lines of the run and of a save of the tables is its own
 pub shown-lines : (t : Tables) → Limits t → t .places ≡ maxLoads → (x : Shown) → Listing t x
@@ -80,7 +49,7 @@ shown-lines t h places x l = entries (l .entries) ∙ changes (l .changes)
     entries (inr o) =
         let n = o .loads .all in
         ap (λ (es : List Entry). textOf (x .answer) es (saved t))
-        (ap (entriesTo (runOf (x .entries))) (sym n) ∙ lines-shown (x .entries) (o .loads .each) (omega (arith, n, places, lawful t h .loads)) (o .ranged))
+        (ap (entriesTo (runOf (x .entries))) (sym n) ∙ entries-read (x .entries) (o .loads .each) (omega (arith, n, places, lawful t h .loads)) (λ i b. each-at noEntry (o .ranged) i b .mark))
 
     changes : ((cs : List Change) → textOf (x .answer) (x .entries) cs ≡ shownText x) ⊎ (x .changes ≡ saved t)
         → textOf (x .answer) (x .entries) (saved t) ≡ shownText x

@@ -1,40 +1,45 @@
--- The ways out of `plan` and `check`: a refusal, or what was found. Assumes nothing.
+-- The ways out of `plan`, `check` and `last`: a refusal, or what was found. Assumes nothing.
 use Prim.Native.Nat.{ℕ, zero, suc, _+_, _*_, _≤_, _<_}
 use mathlib.Core.Path.{_≡_, refl, sym, ap, _∙_}
 use mathlib.Core.Bool.{true, false}
-use mathlib.Core.List.{List, []}
+use mathlib.Core.List.{List, [], _∷_}
 use native.Mathlib.Omega.{arith}
 use borrow.Author.Tests.{eq-eqb, ne-eqb, lt-ltb, le-ltb}
 use lib.ListN.{length}
 use Rattle.marks.specs.declared.LoadSet.{LoadSet}
 use Rattle.marks.specs.Sets.{sizeOf, markIn}
-use Rattle.lines.specs.declared.Command.the-variants.{Plan, Check}
+use Rattle.lines.specs.declared.Command.the-variants.{Plan, Check, Last}
 use Rattle.lines.specs.declared.answer.Answer.the-variants.{Planned, Allowed, Refused}
 use Rattle.lines.specs.Answers.{numberOf}
 use Rattle.tables.specs.declared.tables.StoredTables.{StoredTables}
 use Rattle.tables.specs.Refusals as no
-use Rattle.tables.specs.Limits.{maxLoads}
+use Rattle.tables.specs.Tables.{Tables}
+use Rattle.tables.specs.Limits.{maxLoads, Limits}
 use Rattle.tables.specs.Stored.{bookOf, tablesOf, keepsLimits, Holds}
-use Rattle.tables.proofs.Lawful.{lawful}
 use Rattle.tables.proofs.Stored.{stored-keeps}
 use Rattle.meaning.specs.Sets.{power, worth}
 use Rattle.meaning.specs.Best.{bestPlan, bestCheck}
 use Rattle.tables.specs.declared.entry.Entry.{Entry}
 use Rattle.meaning.specs.Choice.{planEntries, checkEntries}
-use Rattle.meaning.proofs.Ordered.{loads-ordered}
+use Rattle.meaning.specs.Claims.{EachLoad}
 use Rattle.meaning.specs.Cells.{cellsOf}
-use Rattle.calls.specs.State.{State, storedState}
-use Rattle.calls.specs.Rows.{Row, noneFits, notAllowed, row, causesOf, cellsFor}
+use Rattle.runs.specs.declared.run.Run.{Run}
+use Rattle.runs.specs.declared.outcome.StoredOutcome.{StoredOutcome}
+use Rattle.runs.specs.Runs.{runOf, entriesTo}
+use Rattle.runs.specs.Outcome.{Outcome, planned, isNone, isNoneFits, linesOf, found, storedOutcome, ofKind, outcomeOf, rangeOf, outcomeIn}
+use Rattle.runs.proofs.Stored.{lines-in, outcome-stored}
+use Rattle.calls.specs.State.{State, StoredState, storedState}
+use Rattle.calls.specs.Rows.{_if_, Row, showingPlan, noneFits, notAllowed, row, causesOf, cellsFor}
 use Rattle.calls.specs.Causes.{lowest}
+use Rattle.calls.specs.Effects.{stateBy}
 use Rattle.calls.specs.Printing.{zeroed, searched}
-use Rattle.calls.proofs.State.{places, kept-within, kept-stored}
+use Rattle.calls.proofs.State.{few-loads, kept-within, kept-stored}
 use Rattle.calls.proofs.Work.{unsearched, row-zeroed}
+use Rattle.calls.proofs.Fits.{plan-in}
+use Rattle.calls.proofs.Refusals.{unsearched-state}
 use Rattle.cells.specs.Problem.{planProblem, shapeOf}
 use Rattle.cells.specs.Work.{cellsNeeded}
-use Rattle.engine.specs.declared.run.Run.{Run}
-use Rattle.engine.specs.declared.run.Outcome.{Outcome}
-use Rattle.engine.specs.Shown.{runOf, outcomeOf}
-use Rattle.engine.proofs.Answers.{plan-set, plan-size}
+use Rattle.engine.proofs.Answers.{lines-set, lines-size}
 use Rattle.planner.specs.declared.Planner.{Planner}
 use Rattle.planner.specs.declared.search.Decided.{Decided}
 use Rattle.planner.specs.Planner.{held, plannerOf, stateIn, Lawful}
@@ -42,15 +47,13 @@ use Rattle.planner.specs.Decided.{unshown, decidedBy, decided, Decides}
 use Rattle.planner.proofs.Commands.{tables-count}
 
 -- ---- what a search found
-pub none-found : (v : ℕ) (es : List Entry) {o : Outcome} → o ≡ outcomeOf v es → o .found ≡ false → v ≡ 0
-unfolding outcomeOf
+pub none-found : (v : ℕ) (es : List Entry) {o : StoredOutcome} → o ≡ storedOutcome (found v es) → o .kind ≡ 1 → v ≡ 0
 none-found zero es is e = refl
-none-found (suc v) es is e = absurd (let z : _≡_ {A = ℕ} 0 1 = cc in omega arith)
+none-found (suc v) es is e = absurd (omega (arith, ap (λ (o : StoredOutcome). o .kind) is))
 
-pub some-found : (v : ℕ) (es : List Entry) {o : Outcome} → o ≡ outcomeOf v es → o .found ≡ true → (v ≡ 0 → ⊥) × (o .run ≡ runOf es)
-unfolding outcomeOf
-some-found zero es is e = absurd (let z : _≡_ {A = ℕ} 0 1 = cc in omega arith)
-some-found (suc v) es is e = (λ z. omega arith, ap (λ (o : Outcome). o .run) is)
+pub some-found : (v : ℕ) (es : List Entry) {o : StoredOutcome} → o ≡ storedOutcome (found v es) → (o .kind ≡ 1 → ⊥) → (v ≡ 0 → ⊥) × (o .run ≡ runOf es)
+some-found zero es is d = absurd (d (ap (λ (o : StoredOutcome). o .kind) is))
+some-found (suc v) es is d = (λ z. omega arith, ap (λ (o : StoredOutcome). o .run) is)
 
 -- ---- the numbers of `plan`
 module _ (s : State) (cells : ℕ) where
@@ -103,43 +106,129 @@ module _ (p : Planner) (h : Lawful p) where
   is-held : p ≡ plannerOf (storedState (stateIn p))
   is-held = ap plannerOf (kept-stored (held p) h)
 
-  -- refused: the planner is as it was
-  pub refuses : (r : Row) (n k : ℕ) {d : Decided} → 0 < k → d ≡ unshown (Refused k) p → n ≡ k → d ≡ decidedBy (stateIn p) n r
+  -- refused, where the state is as it was, and so where nothing was searched
+  pub refuses-so : (r : Row) (n k : ℕ) {d : Decided} → 0 < k → stateBy (stateIn p) k r ≡ stateIn p → d ≡ unshown (Refused k) p → n ≡ k → d ≡ decidedBy (stateIn p) n r
   unfolding decidedBy
-  refuses r n zero l is e = absurd (omega arith)
-  refuses r n (suc m) l is e = is ∙ rw e (λ i. record { answer = Refused (suc m); run = runOf []; planner = is-held i })
+  refuses-so r n zero l same is e = absurd (omega arith)
+  refuses-so r n (suc m) l same is e =
+      let left = is-held ∙ ap (λ (x : State). plannerOf (storedState x)) (sym same) in
+      is ∙ rw e (λ i. record { answer = Refused (suc m); run = runOf []; planner = left i })
 
-  -- before anything was searched: the work is as it was
+  pub refuses : (r : Row) (n k : ℕ) {d : Decided} → 0 < k → searched k ≡ false → d ≡ unshown (Refused k) p → n ≡ k → d ≡ decidedBy (stateIn p) n r
+  refuses r n k l e = refuses-so r n k l (unsearched-state (stateIn p) k r l e)
+
+  -- the work is as it was too
   pub turns-down : (r : Row) (k : ℕ) (w : List ℕ) {d : Decided} → 0 < k → searched k ≡ false → d ≡ unshown (Refused k) p
       → lowest (causesOf (length w) r) ≡ k → Decides (stateIn p) r w w d
   turns-down r k w l e is n = record {
-    answer = refuses r (lowest (causesOf (length w) r)) k l is n;
+    answer = refuses r (lowest (causesOf (length w) r)) k l e is n;
     work = sym (unsearched _ r w (ap (λ (d : Decided). searched (numberOf (d .answer))) is ∙ e));
   }
 
-  -- after a search: its cells are 0
-  pub has-searched : (r : Row) (k : ℕ) (w v : List ℕ) {d : Decided} → searched k ≡ true → numberOf (d .answer) ≡ k → v ≡ zeroed (cellsFor r) w
-      → d ≡ decided (stateIn p) (length w) r → Decides (stateIn p) r w v d
-  has-searched r k w v e n is a = record { answer = a; work = is ∙ sym (row-zeroed _ r w (ap searched n ∙ e)) }
+  -- the latest outcome: none, that none fits, or a plan
+  pub last-none : p .outcome .kind ≡ 0 → lowest (causesOf 0 (row (stateIn p) Last)) ≡ no.noPlan
+  unfolding row lowest
+  last-none e = rw e
 
-  -- a plan was found
-  pub plans : (n : ℕ) → n ≡ 0 → (r : Run) → r ≡ runOf (planEntries (stateIn p .tables)) → (v w k : ℕ)
-      → v ≡ worth (stateIn p .tables) (markIn (r .set)) → w ≡ power (stateIn p .tables) (markIn (r .set)) → k ≡ sizeOf (r .set)
-      → record { answer = Planned v w k; run = r; planner = p } ≡ decidedBy (stateIn p) n (row (stateIn p) Plan)
-  unfolding decidedBy row
-  plans n z r is v w k a b d =
-      let t = stateIn p .tables in
-      let l = lawful t (kept-within (held p) h .tables) in
-      let tree = loads-ordered (t .loads) (l .load) in
-      let most : length (t .loads) ≤ maxLoads = omega (arith, places (p .tables) (h .tables), l .loads) in
-      let set : markIn (r .set) ≡ _ = ap (λ (x : Run). markIn (x .set)) is ∙ plan-set t tree most in
-      let worths = a ∙ ap (worth t) set in
-      let powers = b ∙ ap (power t) set in
-      let on = d ∙ ap (λ (x : Run). sizeOf (x .set)) is ∙ plan-size t tree most in
-      rw z (λ i. record { answer = Planned (worths i) (powers i) (on i); run = is i; planner = is-held i })
+  pub last-none-fits : p .outcome .kind ≡ 1 → lowest (causesOf 0 (row (stateIn p) Last)) ≡ no.noneFits
+  unfolding row lowest
+  last-none-fits e = rw e
+
+  shown-lines : List Entry
+  shown-lines = entriesTo (p .outcome .run) (length (stateIn p .tables .loads))
+
+  module _ (some : p .outcome .kind ≡ 0 → ⊥) (fits : p .outcome .kind ≡ 1 → ⊥) where
+    planned-is : stateIn p .outcome ≡ planned shown-lines
+    unfolding shown-lines
+    planned-is = go (p .outcome .kind) some fits
+      where
+        go : (k : ℕ) → (k ≡ 0 → ⊥) → (k ≡ 1 → ⊥) → ofKind k shown-lines ≡ planned shown-lines
+        go zero a b = absurd (a refl)
+        go (suc zero) a b = absurd (b refl)
+        go (suc (suc k)) a b = refl
+
+    last-accepted : lowest (causesOf 0 (row (stateIn p) Last)) ≡ 0
+    unfolding row lowest
+    last-accepted = ap (λ (o : Outcome). lowest ((no.noneFits if isNoneFits o) ∷ (no.noPlan if isNone o) ∷ [])) planned-is
+
+    -- a plan is shown, with the figures of its set
+    pub shows-last : (r : Run) → r ≡ p .outcome .run → (v w k : ℕ)
+        → v ≡ worth (stateIn p .tables) (markIn (r .set)) → w ≡ power (stateIn p .tables) (markIn (r .set)) → k ≡ sizeOf (r .set)
+        → record { answer = Planned v w k; run = r; planner = p } ≡ decided (stateIn p) 0 (row (stateIn p) Last)
+    unfolding decidedBy row
+    shows-last r is v w k a b d =
+        let t = stateIn p .tables in
+        let inside = kept-within (held p) h in
+        let l = lines-in (rangeOf t) shown-lines (rw planned-is at (inside .outcome)) in
+        let each : EachLoad t shown-lines = record { all = l .all; each = l .each } in
+        let run : r ≡ runOf shown-lines = is ∙ ap (λ (x : StoredState). x .outcome .run) (kept-stored (held p) h) ∙ ap (λ (o : Outcome). runOf (linesOf o)) planned-is in
+        let set : markIn (r .set) ≡ _ = ap (λ (x : Run). markIn (x .set)) run ∙ lines-set t shown-lines each (few-loads t (inside .tables)) in
+        let worths = a ∙ ap (worth t) set in
+        let powers = b ∙ ap (power t) set in
+        let on = d ∙ ap (λ (x : Run). sizeOf (x .set)) run ∙ lines-size t shown-lines each (few-loads t (inside .tables)) in
+        let shown : _≡_ {A = Decided} (record { answer = Planned v w k; run = r; planner = p }) (record { answer = showingPlan t shown-lines .answer; run = runOf shown-lines; planner = plannerOf (storedState (stateIn p)) }) = λ i. record { answer = Planned (worths i) (powers i) (on i); run = run i; planner = is-held i } in
+        shown ∙ rw (last-accepted, planned-is)
 
   -- a run of a checked set was found
   pub allows : (σ : LoadSet) (m n : ℕ) → n ≡ 0 → (r : Run) → r ≡ runOf (checkEntries (stateIn p .tables) (markIn σ))
       → record { answer = Allowed; run = r; planner = p } ≡ decidedBy (stateIn p) n (row (stateIn p) (Check σ m))
   unfolding decidedBy row
   allows σ m n z r is = rw z (λ i. record { answer = Allowed; run = is i; planner = is-held i })
+
+-- ---- a plan stores what it found, and shows it as `last` does
+plan-numbered : (s : State) (n : ℕ) → numberOf (decidedBy s n (row s Plan) .answer) ≡ n
+unfolding decidedBy row
+plan-numbered s zero = refl
+plan-numbered s (suc n) = refl
+
+module _ (p : Planner) (h : Lawful p) (o : StoredOutcome) (is : o ≡ storedOutcome (found (bestPlan (stateIn p .tables)) (planEntries (stateIn p .tables)))) where
+  abbrev t : Tables
+  t = stateIn p .tables
+
+  -- the planner with it
+  abbrev pub storing : Planner
+  storing = record { tables = p .tables; outcome = o }
+
+  limits : Limits t
+  limits = kept-within (held p) h .tables
+
+  found-in : outcomeIn (rangeOf t) (found (bestPlan t) (planEntries t)) ≡ true
+  unfolding outcomeIn noneFits
+  found-in = go (bestPlan t) refl
+    where
+      go : (v : ℕ) → bestPlan t ≡ v → outcomeIn (rangeOf t) (found v (planEntries t)) ≡ true
+      go zero e = refl
+      go (suc v) e = plan-in t limits (ne-eqb (bestPlan t) 0 (λ z. absurd (omega (arith, e, z))))
+
+  pub storing-lawful : Lawful storing
+  storing-lawful = record { tables = h .tables; outcome = (found (bestPlan t) (planEntries t), found-in, is) }
+
+  storing-state : stateIn storing ≡ record { tables = t; outcome = found (bestPlan t) (planEntries t) }
+  storing-state =
+      let read = ap (outcomeOf (length (t .loads))) is ∙ outcome-stored (rangeOf t) (few-loads t limits) (found (bestPlan t) (planEntries t)) found-in in
+      λ i. record { tables = t; outcome = read i }
+
+  module _ (some : length (t .loads) ≡ 0 → ⊥) (w v : List ℕ) (enough : cellsOf t ≤ length w) (cleared : v ≡ zeroed (cellsFor (row (stateIn p) Plan)) w) where
+    -- it searched
+    searches : searched (lowest (causesOf (length w) (row (stateIn p) Plan))) ≡ true
+    searches = go (bestPlan t) refl
+      where
+        go : (x : ℕ) → bestPlan t ≡ x → searched (lowest (causesOf (length w) (row (stateIn p) Plan))) ≡ true
+        go zero e = rw (plan-none-fits (stateIn p) (length w) some enough e)
+        go (suc x) e = rw (plan-accepted (stateIn p) (length w) some enough (λ z. absurd (omega (arith, e, z))))
+
+    as-last : decided (record { tables = t; outcome = found (bestPlan t) (planEntries t) }) 0 (row (record { tables = t; outcome = found (bestPlan t) (planEntries t) }) Last)
+        ≡ decided (stateIn p) (length w) (row (stateIn p) Plan)
+    unfolding decidedBy row lowest
+    as-last = go (bestPlan t) refl
+      where
+        go : (x : ℕ) → bestPlan t ≡ x → decided (record { tables = t; outcome = found x (planEntries t) }) 0 (row (record { tables = t; outcome = found x (planEntries t) }) Last)
+            ≡ decided (stateIn p) (length w) (row (stateIn p) Plan)
+        go zero e = rw (plan-none-fits (stateIn p) (length w) some enough e)
+        go (suc x) e = rw (plan-accepted (stateIn p) (length w) some enough (λ z. absurd (omega (arith, e, z))))
+
+    pub plans : {d : Decided} → d ≡ decided (stateIn storing) 0 (row (stateIn storing) Last) → Decides (stateIn p) (row (stateIn p) Plan) w v d
+    plans {d} shown =
+        let answer = shown ∙ ap (λ (s : State). decided s 0 (row s Last)) storing-state ∙ as-last in
+        let number : numberOf (d .answer) ≡ lowest (causesOf (length w) (row (stateIn p) Plan)) = ap (λ (d : Decided). numberOf (d .answer)) answer ∙ plan-numbered (stateIn p) _ in
+        record { answer = answer; work = cleared ∙ sym (row-zeroed (numberOf (d .answer)) (row (stateIn p) Plan) w (ap searched number ∙ searches)) }

@@ -10,6 +10,8 @@ use Rattle.tables.specs.declared.rule.Transition.{Transition}
 use Rattle.tables.specs.declared.load.Load.{Load}
 use Rattle.tables.specs.Tables.{noRule, noLoad}
 use Rattle.tables.specs.Limits.{ruleIn, loadIn}
+use Rattle.tables.specs.Operations.{accepted}
+use Rattle.runs.specs.Outcome.{none, storedOutcome}
 use Rattle.calls.specs.State.{State, storedState}
 use Rattle.calls.specs.Rows.{Changing, changes, changing}
 use Rattle.calls.specs.Causes.{lowest}
@@ -27,9 +29,9 @@ namedRule m r = let fits = ruleIn m r in record { fits = fits; rule = pick fits 
 unfoldable pub namedLoad : (number : ℕ) → Load → NamedLoad
 namedLoad k l = let fits = loadIn k l in record { fits = fits; load = pick fits l noLoad }
 
--- the answer of a change with this number, and the planner with the tables after it
+-- the answer of a change with this number, and the planner with the tables after it: "an accepted change wipes" the outcome
 abbrev pub settled : Planner → (number : ℕ) → StoredTables → Changed
-settled p n u = record { answer = answerOf n; planner = record { tables = u } }
+settled p n u = record { answer = answerOf n; planner = record { tables = u; outcome = accepted n (storedOutcome none) (p .outcome) } }
 
 -- what a change answers, and the planner after it. (No change's number depends on the cells.)
 unfoldable pub madeBy : State → Changing → Changed

@@ -12,7 +12,7 @@ use Rattle.calls.specs.Rows.{Row, causesOf}
 use Rattle.calls.specs.Causes.{lowest}
 use Rattle.calls.specs.Effects.{stateBy}
 use Rattle.calls.specs.Printing.{shownBy, workAfter}
-use Rattle.engine.specs.Shown.{runOf}
+use Rattle.runs.specs.Runs.{runOf}
 use Rattle.planner.specs.declared.Planner.{Planner}
 use Rattle.planner.specs.declared.search.Decided.{Decided}
 use Rattle.planner.specs.Planner.{plannerOf}

@@ -42,6 +42,7 @@ fn bytes_for(c: Command) -> usize
         Command::Plan => FREE_BYTES,
         Command::Check { set: _, count: _ } => FREE_BYTES,
         Command::Save => SAVE_BYTES,
+        Command::Last => FREE_BYTES,
         Command::Broken => FREE_BYTES,
         Command::TooLong => FREE_BYTES,
     }
@@ -67,6 +68,7 @@ impl Planner {
             Command::Plan => self.plan(work),
             Command::Check { set, count } => self.check(set, count),
             Command::Save => unshown(Answer::Saved, self),
+            Command::Last => self.last(),
             Command::Broken => self.refused(BROKEN),
             Command::TooLong => self.refused(TOO_LONG),
         }
@@ -77,7 +79,7 @@ impl Planner {
         ensures test { λ r. ⌜ r ≡ keeps (held self) ⌝ }
         ensures kept { λ r. ⌜ (r ≡ true → Lawful self) ⌝ }
     {
-        self.tables.keeps_limits()
+        self.tables.keeps_limits() & self.keeps_outcome()
     }
 
     // Nothing is written, and everything is left as it was.

@@ -2,6 +2,7 @@
 use crate::Planner;
 use lines::Change;
 use lines::answer::Answer;
+use runs::outcome::StoredOutcome;
 use tables::limits::MAX_BUDGET;
 use tables::limits::MAX_STATES;
 use tables::load::Figure;
@@ -94,13 +95,17 @@ fn named_load(number: usize, parent: u32, power: u32, worth: u32) -> NamedLoad
 }
 
 impl Planner {
-    // The answer of a change with this number, and the planner with the tables after it.
+    // The answer of a change with this number, and the planner with the tables after it. An accepted one wipes the outcome.
     fn settled(self, number: u8, tables: StoredTables) -> Changed
         ensures { λ r. ⌜ r ≡ settled self number tables ⌝ }
     {
+        let mut outcome = self.outcome;
+        if number == 0 {
+            outcome = StoredOutcome::NONE;
+        }
         Changed {
             answer: Answer::of_change(number),
-            planner: Planner { tables },
+            planner: Planner { tables, outcome },
         }
     }
 

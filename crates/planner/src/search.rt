@@ -1,13 +1,16 @@
-// The commands that search: `plan` and `check`.
+// The commands that show a run: `plan` and `check`, which search, and `last`.
 use crate::Planner;
 use cells::problem::plan_problem;
 use cells::problem::shape_of;
 use cells::work::cells_needed;
 use engine::figures::figures_of;
-use engine::run::Run;
 use lines::answer::Answer;
 use marks::LoadSet;
+use runs::outcome::NO_SET;
+use runs::outcome::NOTHING;
+use runs::run::Run;
 use tables::refusal::NO_LOADS;
+use tables::refusal::NO_PLAN;
 use tables::refusal::NONE_FITS;
 use tables::refusal::NOT_ALLOWED;
 use tables::refusal::OUT_OF_RANGE;
@@ -55,6 +58,33 @@ impl Planner {
         unshown(Answer::Refused { number }, self)
     }
 
+    // The latest outcome is shown, with the figures of its set.
+    pub(crate) fn last(self) -> Decided
+        requires { ⌜ Lawful self ⌝ }
+        ensures { λ r. ⌜ r ≡ decided (stateIn self) 0 (row (stateIn self) line.Last) ⌝ }
+    {
+        if self.outcome.kind == NOTHING {
+            return self.refused(NO_PLAN);
+        }
+        if self.outcome.kind == NO_SET {
+            return self.refused(NONE_FITS);
+        }
+        let run = self.outcome.run;
+        let set = run.set;
+        let figures = figures_of(self.tables.loads, set);
+        let answer = Answer::Planned {
+            worth: figures.worth,
+            power: figures.power,
+            on: set.count(),
+        };
+        Decided {
+            answer,
+            run,
+            planner: self,
+        }
+    }
+
+    // A plan stores its outcome, and shows it as `last` does.
     pub(crate) fn plan(self, work: &mut [u32]) -> Decided
         requires { ⌜ Lawful self ⌝ }
         ensures { λ r. ⌜ Decides (stateIn self) (row (stateIn self) line.Plan) (now (work .entry)) (now (work .exit)) r ⌝ }
@@ -67,22 +97,8 @@ impl Planner {
             return self.refused(TOO_FEW_CELLS);
         }
         let outcome = engine::plan::plan(tables, work);
-        if !outcome.found {
-            return self.refused(NONE_FITS);
-        }
-        let run = outcome.run;
-        let set = run.set;
-        let figures = figures_of(tables.loads, set);
-        let answer = Answer::Planned {
-            worth: figures.worth,
-            power: figures.power,
-            on: set.count(),
-        };
-        Decided {
-            answer,
-            run,
-            planner: self,
-        }
+        let planner = Planner { tables, outcome };
+        planner.last()
     }
 
     pub(crate) fn check(self, set: LoadSet, count: usize) -> Decided
@@ -96,14 +112,14 @@ impl Planner {
         if count != tables.loads.count {
             return self.refused(OUT_OF_RANGE);
         }
-        let outcome = engine::plan::check(tables, set);
-        if !outcome.found {
+        let found = engine::plan::check(tables, set);
+        if found.kind == NO_SET {
             return self.refused(NOT_ALLOWED);
         }
-        let shown = outcome.run;
+        let run = found.run;
         Decided {
             answer: Answer::Allowed,
-            run: shown,
+            run,
             planner: self,
         }
     }

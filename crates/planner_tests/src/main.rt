@@ -1,8 +1,8 @@
 // The tests of the planner's calls and of its judge. Standard input is the script of the tests; what is written is the report on them.
 // The report is held to the file `stdout`, which tests/expected.py derives from the same script by plain enumeration.
 mod call;
+mod judging;
 mod printing;
-mod runs;
 mod script;
 mod text;
 

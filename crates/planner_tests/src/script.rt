@@ -2,8 +2,8 @@
 use crate::call::Lent;
 use crate::call::ROOM;
 use crate::call::called_on_each;
+use crate::judging::judged;
 use crate::printing::print_line;
-use crate::runs::judged;
 use crate::text::end_of;
 use crate::text::numbers;
 use crate::text::past;

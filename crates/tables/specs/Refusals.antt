@@ -45,6 +45,10 @@ notAllowed = 10
 abbrev pub hasChildren : ℕ
 hasChildren = 11
 
+-- request Five: "12, no current plan"
+abbrev pub noPlan : ℕ
+noPlan = 12
+
 -- no refusal has a greater number
 abbrev pub greatest : ℕ
-greatest = hasChildren
+greatest = noPlan

@@ -20,3 +20,5 @@ pub const NONE_FITS: u8 = 9;
 pub const NOT_ALLOWED: u8 = 10;
 
 pub const HAS_CHILDREN: u8 = 11;
+
+pub const NO_PLAN: u8 = 12;

@@ -36,7 +36,8 @@ use denote.Triple.Spec.{tripleOf}
 use denote.Triple.Table.{cited}
 use denote.Triple.Walked.{says, Stays, stay-dropped, walkOf, goes-dropped, ends-at, walked}
 use denote.Exit.{yes}
-use Rattle.judge.specs.Verdict.{judged}
+use Rattle.planner.specs.Planner.{held}
+use Rattle.planner.specs.Verdict.{judgedBy}
 use Rattle.planner.specs.declared.Planner.{Planner}
 use Rattle.planner.proofs.Planner as T
 use Rattle.planner.proofs.Planner.Laws as T′
@@ -68,7 +69,7 @@ module _ {M : Type 1} (𝓤 : URA M) (H : Heap 𝓤) (A : Atoms 𝓤) (W : Given
   at = (vptr b o ∷ [], (slice ns ∷ [], tt))
 
   abbrev answer : ℕ
-  answer = verdictNumber (judged (p .tables) (ns .now))
+  answer = verdictNumber (judgedBy (held p) (ns .now))
 
   abbrev Post : Val → SProp 𝓤
   Post = walkOf 𝓤 H A f.ended stayed (f.clauses 𝓤 H A at-mem run) .post (((κ, (κ′, tt)), (q, (q′, tt)), tt, x, at), tt)

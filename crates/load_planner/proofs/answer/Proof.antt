@@ -1,11 +1,16 @@
 -- `answer` meets its contract: it leaves what the call leaves, and what the call wrote is part of the output. Assumes nothing.
 use mathlib.Core.Path.{_≡_, refl, ap}
-use mathlib.Core.List.{[]}
+use mathlib.Core.List.{List, []}
 use borrow.Author.Needs.{needs}
+use denote.Shadow.{shadow}
+use mir.Val.{Val}
 use native.Mathlib.Omega.{arith}
 use lib.ListN.{length, take}
 use Rattle.tables.specs.declared.rule.Sort.the-variants as sort
+use Rattle.tables.specs.declared.tables.StoredTables.{StoredTables}
 use Rattle.tables.specs.Limits.{maxLoads}
+use Rattle.tables.specs.Stored.{placesOf, Lengths}
+use Rattle.tables.proofs.tables.StoredTables.{the-type, the-field}
 use Rattle.calls.specs.State.{Sized}
 use Rattle.calls.specs.Rows.{mostBytes}
 use Rattle.calls.specs.Calls.{Done}
@@ -17,8 +22,14 @@ use Rattle.lists.proofs.Arrays.{of-map}
 use Rattle.load_planner.proofs.answer.Statement.{statement}
 use Rattle.load_planner.proofs.answer.Tie as tie
 
+-- the lengths of the arrays, from what owning the tables tells
+lengths : (u : StoredTables) (vs : List Val) → shadow (the-field .row .own (the-type .to u) vs) → Lengths u × (placesOf (u .loads) ≡ maxLoads)
+lengths u vs g = (record { rules = elim [ sort.Load ↦ search (needs, of-map) | sort.Row ↦ search (needs, of-map) ] }, search (needs, of-map))
+
 sized : (c : tie.Start) → Sized maxLoads (held (c .args .s .planner))
-sized c = record { tables = record { rules = elim [ sort.Load ↦ search (needs, of-map) | sort.Row ↦ search (needs, of-map) ] }; places = search (needs, of-map) }
+sized c =
+    let l = lengths (c .args .s .planner .tables) _ (c .good .0 .1 .1 .0 .1 .1 .0) in
+    record { tables = l .0; places = l .1; states = search needs; loadRules = search needs; rowRules = search needs }
 
 -- no answer is longer than the output
 show-requires : tie.Need-show-requires

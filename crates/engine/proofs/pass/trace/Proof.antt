@@ -11,11 +11,11 @@ use Rattle.lists.specs.Arrays.{laid}
 use Rattle.tables.specs.Limits.{maxStates, maxLoads}
 use Rattle.meaning.specs.Choice.{inOrder}
 use Rattle.cells.specs.declared.problem.Shape.{Shape}
-use Rattle.engine.specs.declared.run.Run.{Run}
+use Rattle.runs.specs.declared.run.Run.{Run}
 use Rattle.engine.specs.declared.pass.Pass.{Pass}
-use Rattle.engine.specs.Shown.{markAll, runOf}
-use Rattle.engine.specs.Pass.{entriesFor, loadChoice, passedLoad, Passed}
-use Rattle.engine.proofs.Runs.{outcome-none, outcome-some}
+use Rattle.runs.specs.Runs.{markAll, runOf}
+use Rattle.engine.specs.Pass.{bestFor, entriesFor, loadChoice, passedLoad, Passed}
+use Rattle.runs.proofs.Stored.{none-found, some-found}
 use Rattle.engine.proofs.Passing.{child-in, pass-root}
 use Rattle.engine.proofs.Reading.{start-index, start-value, start-pos, start-used, start-possible}
 use Rattle.engine.proofs.pass.trace.Statement.{statement}
@@ -36,7 +36,7 @@ returns c =
     let b = c .before .before in
     let h = b .before in
     let s = h .before .before in
-    outcome-none _ _
+    none-found _ _
     (sym (start-value (s .args .p) (s .args .work .now) (s .pre .0) (s .pre .1) _ (h .shape-of .ensures) (b .best-start .result) (b .best-start .ensures)) ∙ c .if1 .taken)
 
 -- the state that is found is one of the book
@@ -107,8 +107,8 @@ returns-2 c =
     let n : l .loop .i ≡ s .args .p .tables .loads .count = omega (arith, l .loop .inv .1, c .before .loop-test .left, ap (λ (sh : Shape). sh .loads) (h .shape-of .ensures)) in
     let value = start-value (s .args .p) (s .args .work .now) (s .pre .0) (s .pre .1) _ (h .shape-of .ensures) (b .best-start .result) (b .best-start .ensures) in
     let found = l .before .before .before .before .if1 .left in
-    ap (λ (r : Run). record { found = true; run = r }) (l .loop .inv .2 .run ∙ ap (λ k. runOf (inOrder (entriesFor (s .args .p)) 1 k)) n)
-    ∙ outcome-some _ _ (omega (arith, value))
+    ap (λ (r : Run). record { kind = 2; run = r }) (l .loop .inv .2 .run ∙ ap (λ k. runOf (inOrder (entriesFor (s .args .p)) 1 k)) n)
+    ∙ some-found (bestFor (s .args .p)) (inOrder (entriesFor (s .args .p)) 1 (s .args .p .tables .loads .count)) (omega (arith, value))
 
 pub trace-spec : {M : Type 1} → statement M
 trace-spec =

@@ -24,4 +24,5 @@ command-of-spec =
     (λ c. rw (c .match .keys11))
     (λ c. rw (c .match .keys12))
     (λ c. rw (c .match .keys13))
+    (λ c. rw (c .match .keys14))
     (λ c. command-rest _ _ (c .match .rest)))

@@ -1,7 +1,6 @@
 -- `Planner::check` meets its contract. Assumes nothing.
-use mathlib.Core.Path.{_≡_, sym, _∙_}
+use mathlib.Core.Path.{_≡_, refl, sym, _∙_}
 use borrow.Author.Needs.{needs}
-use borrow.Author.Tests.{not-true, not-false}
 use lib.ListN.{length}
 use lib.Dec.{lit<}
 use Rattle.tables.specs.Refusals as no
@@ -29,7 +28,7 @@ returns : tie.Need-returns
 returns c =
     let e = c .before .before .before .before in
     let s = e .args .self .tables in
-    refuses (e .args .self) (e .pre) (row (stateIn (e .args .self)) (Check (e .args .set) (e .args .count))) _ no.noLoads (lit< tt) (c .refused .ensures)
+    refuses (e .args .self) (e .pre) (row (stateIn (e .args .self)) (Check (e .args .set) (e .args .count))) _ no.noLoads (lit< tt) refl (c .refused .ensures)
     (check-no-loads (stateIn (e .args .self)) (e .args .set) (e .args .count) (sym (load-count (e .args .self) (e .pre)) ∙ c .before .if1 .taken))
 
 returns-2 : tie.Need-returns-2
@@ -37,7 +36,7 @@ returns-2 c =
     let k = c .before .before .before in
     let e = k .before .before .before in
     let s = e .args .self .tables in
-    refuses (e .args .self) (e .pre) (row (stateIn (e .args .self)) (Check (e .args .set) (e .args .count))) _ no.outOfRange (lit< tt) (c .refused2 .ensures)
+    refuses (e .args .self) (e .pre) (row (stateIn (e .args .self)) (Check (e .args .set) (e .args .count))) _ no.outOfRange (lit< tt) refl (c .refused2 .ensures)
     (check-out-of-range (stateIn (e .args .self)) (e .args .set) (e .args .count) (some-loads k) (λ q. c .before .if2 .taken (q ∙ sym (load-count (e .args .self) (e .pre)))))
 
 check-requires : tie.Need-check-requires
@@ -52,8 +51,8 @@ returns-3 c =
     let k = o .before .before .before in
     let e = k .before .before .before in
     let s = e .args .self .tables in
-    refuses (e .args .self) (e .pre) (row (stateIn (e .args .self)) (Check (e .args .set) (e .args .count))) _ no.notAllowed (lit< tt) (c .refused3 .ensures)
-    (check-not-allowed (stateIn (e .args .self)) (e .args .set) (e .args .count) (some-loads k) (each-load (o .before)) (none-found (bestCheck (tablesOf s) (markIn (e .args .set))) (checkEntries (tablesOf s) (markIn (e .args .set))) (o .check .ensures) (not-true _ (c .before .if3 .taken))))
+    refuses (e .args .self) (e .pre) (row (stateIn (e .args .self)) (Check (e .args .set) (e .args .count))) _ no.notAllowed (lit< tt) refl (c .refused3 .ensures)
+    (check-not-allowed (stateIn (e .args .self)) (e .args .set) (e .args .count) (some-loads k) (each-load (o .before)) (none-found (bestCheck (tablesOf s) (markIn (e .args .set))) (checkEntries (tablesOf s) (markIn (e .args .set))) (o .check .ensures) (c .before .if3 .taken)))
 
 returns-4 : tie.Need-returns-4
 returns-4 c =
@@ -61,7 +60,7 @@ returns-4 c =
     let k = o .before .before .before in
     let e = k .before .before .before in
     let s = e .args .self .tables in
-    let f = some-found (bestCheck (tablesOf s) (markIn (e .args .set))) (checkEntries (tablesOf s) (markIn (e .args .set))) (o .check .ensures) (not-false _ (c .before .if3 .left)) in
+    let f = some-found (bestCheck (tablesOf s) (markIn (e .args .set))) (checkEntries (tablesOf s) (markIn (e .args .set))) (o .check .ensures) (c .before .if3 .left) in
     allows (e .args .self) (e .pre) (e .args .set) (e .args .count) _ (check-accepted (stateIn (e .args .self)) (e .args .set) (e .args .count) (some-loads k) (each-load (o .before)) (f .0)) _ (f .1)
 
 pub check-spec : {M : Type 1} → statement M

@@ -38,18 +38,22 @@ returns-4 x =
     rw (x .before .enum-told2 .given .1) (works-in-none (stateIn p) (row (stateIn p) Save) (e .args .work .now) refl (x .unshown .ensures ∙ ap (λ (k : StoredState). unshown Saved (plannerOf k)) (kept-stored (held p) (e .pre))))
 
 returns-5 : tie.Need-returns-5
-unfolding row lowest
-returns-5 x =
-    let e = x .before .before .before .before in
-    let p = e .args .self in
-    rw (x .before .enum-told3 .given .1) (turns-down p (e .pre) (row (stateIn p) Broken) no.broken (e .args .work .now) (lit< tt) refl (x .refused .ensures) refl)
+unfolding row
+returns-5 x = rw (x .before .enum-told3 .given .1) (works-in-none _ _ _ refl (x .last .ensures))
 
 returns-6 : tie.Need-returns-6
 unfolding row lowest
 returns-6 x =
     let e = x .before .before .before .before in
     let p = e .args .self in
-    rw (x .before .enum-told4 .given .1) (turns-down p (e .pre) (row (stateIn p) TooLong) no.tooLong (e .args .work .now) (lit< tt) refl (x .refused2 .ensures) refl)
+    rw (x .before .enum-told4 .given .1) (turns-down p (e .pre) (row (stateIn p) Broken) no.broken (e .args .work .now) (lit< tt) refl (x .refused .ensures) refl)
+
+returns-7 : tie.Need-returns-7
+unfolding row lowest
+returns-7 x =
+    let e = x .before .before .before .before in
+    let p = e .args .self in
+    rw (x .before .enum-told5 .given .1) (turns-down p (e .pre) (row (stateIn p) TooLong) no.tooLong (e .args .work .now) (lit< tt) refl (x .refused2 .ensures) refl)
 
 pub decide-spec : {M : Type 1} → statement M
 decide-spec =
@@ -68,10 +72,13 @@ decide-spec =
     (λ c κs. search needs)
     (λ c. search needs)
     (λ c κs. search needs)
+    (λ c. search needs)
+    (λ c κs. search needs)
     returns
     (λ c. search needs)
     returns-2
     returns-3
     returns-4
     returns-5
-    returns-6)
+    returns-6
+    returns-7)

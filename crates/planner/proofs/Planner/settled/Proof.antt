@@ -1,10 +1,31 @@
 -- `Planner::settled` meets its contract. Assumes nothing.
+use Prim.Native.Nat.{ℕ, zero, suc}
+use mathlib.Core.Path.{_≡_, refl, _∙_}
+use mathlib.Core.Logic.{⊎-elim}
 use borrow.Author.Needs.{needs}
+use Rattle.lists.specs.Arrays.{laid}
+use Rattle.tables.specs.Operations.{accepted}
+use Rattle.runs.specs.declared.outcome.StoredOutcome.{StoredOutcome}
+use Rattle.runs.specs.Runs.{markAll, runOf}
+use Rattle.runs.specs.Outcome.{none, storedOutcome}
 use Rattle.planner.proofs.Planner.settled.Statement.{statement}
 use Rattle.planner.proofs.Planner.settled.Tie as tie
 
+kept : (n : ℕ) (o : StoredOutcome) → (n ≡ 0 → ⊥) → o ≡ accepted n (storedOutcome none) o
+kept zero o d = absurd (d refl)
+kept (suc n) o d = refl
+
+wiped : (n : ℕ) (o : StoredOutcome) → n ≡ 0 → storedOutcome none ≡ accepted n (storedOutcome none) o
+wiped n o e = rw e
+
 returns : tie.Need-returns
-returns c = rw (c .of-change .ensures)
+unfolding runOf laid markAll
+returns c =
+    let f = c .before .if1 in
+    let a = c .before .before .before .args in
+    let w : f .outcome ≡ accepted (a .number) (storedOutcome none) (a .self .outcome) =
+    ⊎-elim (λ x. x .1 ∙ wiped (a .number) (a .self .outcome) (x .0 .taken)) (λ x. x .1 ∙ kept (a .number) (a .self .outcome) (x .0 .left)) (f .came) in
+    rw (c .of-change .ensures, w)
 
 pub settled-spec : {M : Type 1} → statement M
 settled-spec = tie.close (tie.spec (λ c κs. search needs) returns)

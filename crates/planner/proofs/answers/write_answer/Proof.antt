@@ -8,7 +8,7 @@ use Rattle.tables.specs.declared.entry.Entry.{Entry}
 use Rattle.tables.specs.Limits.{maxLoads}
 use Rattle.tables.specs.Stored.{tablesOf}
 use Rattle.tables.proofs.Stored.{held-loads}
-use Rattle.planner.specs.Answers.{entriesTo}
+use Rattle.runs.specs.Runs.{entriesTo}
 use Rattle.planner.proofs.Writing.{plan-room, plan-rest, plan-wrote, check-room, check-rest, check-wrote}
 use Rattle.planner.proofs.answers.write_answer.Statement.{statement}
 use Rattle.planner.proofs.answers.write_answer.Tie as tie

@@ -4,8 +4,8 @@ use mathlib.Core.List.{List}
 use native.Mathlib.Omega.{arith}
 use Rattle.lines.specs.Answers.{entryLine, entryLines, Wrote}
 use Rattle.lines.proofs.Wrote.{wrote-length, part-room, part-more, part-all}
-use Rattle.engine.specs.declared.run.Run.{Run}
-use Rattle.planner.specs.Answers.{entryAt, entriesTo}
+use Rattle.runs.specs.declared.run.Run.{Run}
+use Rattle.runs.specs.Runs.{entryAt, entriesTo}
 use Rattle.planner.proofs.RunLines.{lines-none, lines-more}
 use Rattle.planner.proofs.answers.write_run.Statement.{statement}
 use Rattle.planner.proofs.answers.write_run.Tie as tie
@@ -26,8 +26,8 @@ abbrev μ-loop : tie.MeasureT-loop
 loop-holds : tie.Need-loop-holds Inv-loop μ-loop
 loop-holds c = (omega arith, lines-none _ _ _)
 
-entry-at-requires : tie.Need-entry-at-requires Inv-loop μ-loop
-entry-at-requires c κs = omega (arith, c .before .loop-test .taken, c .before .before .before .before .pre .0)
+entry-requires : tie.Need-entry-requires Inv-loop μ-loop
+entry-requires c κs = omega (arith, c .before .loop-test .taken, c .before .before .before .before .pre .0)
 
 write-entry-requires : tie.Need-write-entry-requires Inv-loop μ-loop
 write-entry-requires c κs =
@@ -35,7 +35,7 @@ write-entry-requires c κs =
     let l = t .before in
     let s = l .before .before in
     let r = s .args .run in
-    rw (c .entry-at .ensures) (part-room (text r) (part r) (s .args .n) (λ i h. lines-more r i) (l .loop .i) (t .loop-test .taken) (l .loop .inv .1) (s .pre .1))
+    rw (c .entry .ensures) (part-room (text r) (part r) (s .args .n) (λ i h. lines-more r i) (l .loop .i) (t .loop-test .taken) (l .loop .inv .1) (s .pre .1))
 
 loop-again : tie.Need-loop-again Inv-loop μ-loop
 loop-again c =
@@ -46,7 +46,7 @@ loop-again c =
     let a = l .before .before .args in
     let less = t .loop-test .taken in (
       omega (arith, less),
-      part-more (text (a .run)) (part (a .run)) (a .n) (λ i h. lines-more (a .run) i) (l .loop .i) less (l .loop .inv .1) (rw (e .entry-at .ensures) at (w .write-entry .ensures)),
+      part-more (text (a .run)) (part (a .run)) (a .n) (λ i h. lines-more (a .run) i) (l .loop .i) less (l .loop .inv .1) (rw (e .entry .ensures) at (w .write-entry .ensures)),
     )
 
 same-length : tie.Need-same-length Inv-loop μ-loop
@@ -65,7 +65,7 @@ write-run-spec =
     Inv-loop
     μ-loop
     loop-holds
-    entry-at-requires
+    entry-requires
     write-entry-requires
     (λ c. omega arith)
     (λ c. omega arith)

@@ -1,7 +1,7 @@
 -- `unshown` meets its contract: the empty run is that of no entries. Assumes nothing.
 use mathlib.Core.Path.{refl}
 use Rattle.lists.specs.Arrays.{laid}
-use Rattle.engine.specs.Shown.{markAll, runOf}
+use Rattle.runs.specs.Runs.{markAll, runOf}
 use Rattle.planner.proofs.search.unshown.Statement.{statement}
 use Rattle.planner.proofs.search.unshown.Tie as tie
 

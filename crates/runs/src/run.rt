@@ -1,13 +1,15 @@
-// A run with the set of its loads, and what a search finds.
+// A run with the set of its loads.
 use marks::LoadSet;
 use tables::entry::Entry;
 use tables::load::MAX_LOADS;
 ghost use mathlib.Core.Path.{_≡_};
 ghost use Prim.Native.Nat.{_≤_, _<_};
+ghost use Rattle.marks.specs.Sets.{markIn};
 ghost use Rattle.tables.specs.Limits.{maxLoads};
-ghost use Rattle.engine.specs.Shown.{withEntry};
+ghost use Rattle.runs.specs.Runs.{entryAt, withEntry};
 
 // A state, a load rule and a row rule for each load, in load order, and the loads that are on. Unused places hold 0.
+#[repr(C)]
 pub struct Run {
     pub states: [u8; MAX_LOADS],
     pub load_rules: [u8; MAX_LOADS],
@@ -15,10 +17,11 @@ pub struct Run {
     pub set: LoadSet,
 }
 
-// What a search finds. Where it finds nothing, the run is empty.
-pub struct Outcome {
-    pub found: bool,
-    pub run: Run,
+// The mark of a load in a set.
+fn mark_in(set: LoadSet, number: usize) -> u8
+    ensures { λ r. ⌜ r ≡ markIn set number ⌝ }
+{
+    if set.has(number) { 1 } else { 0 }
 }
 
 impl Run {
@@ -29,8 +32,22 @@ impl Run {
         set: LoadSet::EMPTY,
     };
 
+    // The entry of the load at place i.
+    pub fn entry(self, i: usize) -> Entry
+        requires { ⌜ i < maxLoads ⌝ }
+        ensures { λ r. ⌜ r ≡ entryAt self i ⌝ }
+    {
+        Entry {
+            number: (i + 1) as u8,
+            mark: mark_in(self.set, i + 1),
+            state: self.states[i],
+            rule: self.load_rules[i],
+            row: self.row_rules[i],
+        }
+    }
+
     // The run with the line of a load.
-    pub(crate) fn with(self, e: Entry) -> Run
+    pub fn with(self, e: Entry) -> Run
         requires { ⌜ (0 < e .number) × (e .number ≤ maxLoads) ⌝ }
         ensures { λ r. ⌜ r ≡ withEntry self e ⌝ }
     {

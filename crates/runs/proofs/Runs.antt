@@ -19,8 +19,8 @@ use Rattle.tables.specs.Limits.{maxLoads}
 use Rattle.tables.specs.declared.entry.Entry.{Entry}
 use Rattle.meaning.specs.Choice.{noEntry, find, inOrder, marksOf, shownSet}
 use Rattle.meaning.specs.Claims.{Numbered}
-use Rattle.engine.specs.declared.run.Run.{Run}
-use Rattle.engine.specs.Shown.{joinedIfOn, markAll, runOf, withEntry, outcomeOf}
+use Rattle.runs.specs.declared.run.Run.{Run}
+use Rattle.runs.specs.Runs.{joinedIfOn, markAll, runOf, withEntry}
 
 -- ---- entries in load order
 pub order-length : (es : List Entry) (k n : ℕ) → length (inOrder es k n) ≡ n
@@ -43,11 +43,11 @@ order-numbered es k zero h = tt
 order-numbered es k (suc n) h = (h k (omega arith) (omega arith), order-numbered es (suc k) n (λ i a b. h i (omega arith) (omega arith)))
 
 -- ---- a load more
-map-snoc : (f : Entry → ℕ) (es : List Entry) (e : Entry) → map f (es ++ (e ∷ [])) ≡ map f es ++ (f e ∷ [])
+pub map-snoc : (f : Entry → ℕ) (es : List Entry) (e : Entry) → map f (es ++ (e ∷ [])) ≡ map f es ++ (f e ∷ [])
 map-snoc f [] e = refl
 map-snoc f (x ∷ es) e = ap (λ (l : List ℕ). f x ∷ l) (map-snoc f es e)
 
-mark-snoc : (s : LoadSet) (es : List Entry) (e : Entry) → markAll s (es ++ (e ∷ [])) ≡ joinedIfOn (markAll s es) e
+pub mark-snoc : (s : LoadSet) (es : List Entry) (e : Entry) → markAll s (es ++ (e ∷ [])) ≡ joinedIfOn (markAll s es) e
 unfolding markAll
 mark-snoc s [] e = refl
 mark-snoc s (x ∷ es) e = mark-snoc (joinedIfOn s x) es e
@@ -120,13 +120,3 @@ module _ (es : List Entry) (o : Numbered 1 es) (few : length es ≤ maxLoads) wh
   -- none of them is past the last
   pub shown-within : (n : ℕ) → length es < n → hasLoad (runOf es .set) n ≡ false
   shown-within n h = has-shown n ∙ ap (λ (e : Entry). eqb (e .mark) 1) (find-past es 1 n o (omega arith))
-
--- ---- what a search answers
-pub outcome-none : (v : ℕ) (es : List Entry) → v ≡ 0 → record { found = false; run = runOf [] } ≡ outcomeOf v es
-unfolding outcomeOf
-outcome-none v es e = rw e
-
-pub outcome-some : (v : ℕ) (es : List Entry) → 0 < v → record { found = true; run = runOf es } ≡ outcomeOf v es
-unfolding outcomeOf
-outcome-some zero es h = absurd (omega arith)
-outcome-some (suc v) es h = refl

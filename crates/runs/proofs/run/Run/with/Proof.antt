@@ -1,9 +1,9 @@
 -- `Run::with` meets its contract. Assumes nothing.
 use borrow.Author.Needs.{needs}
 use borrow.Author.Tests.{eq-eqb, ne-eqb}
-use Rattle.engine.specs.Shown.{withEntry}
-use Rattle.engine.proofs.run.Run.with.Statement.{statement}
-use Rattle.engine.proofs.run.Run.with.Tie as tie
+use Rattle.runs.specs.Runs.{withEntry}
+use Rattle.runs.proofs.run.Run.with.Statement.{statement}
+use Rattle.runs.proofs.run.Run.with.Tie as tie
 
 returns : tie.Need-returns
 unfolding withEntry

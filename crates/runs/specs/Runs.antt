@@ -2,18 +2,16 @@
 -- They stand for "then for each load number,mark,state,load rule,row rule" and "chosen set held as a u64 of marks" of paper 01.
 -- Assumes nothing.
 use Prim.Native.Nat.{ℕ, zero, suc, _-_}
-use mathlib.Core.Bool.{true, false}
-use mathlib.Core.List.{List, [], _∷_, map}
+use mathlib.Core.List.{List, [], _∷_, _++_, map}
 use lib.Dec.{eqb}
-use lib.ListN.{set}
+use lib.ListN.{getD, set}
 use Rattle.lists.specs.Tests.{pick}
 use Rattle.lists.specs.Arrays.{laid}
 use Rattle.marks.specs.declared.LoadSet.{LoadSet}
-use Rattle.marks.specs.Sets.{noLoads, joined}
+use Rattle.marks.specs.Sets.{noLoads, joined, markIn}
 use Rattle.tables.specs.Limits.{maxLoads}
 use Rattle.tables.specs.declared.entry.Entry.{Entry}
-use Rattle.engine.specs.declared.run.Run.{Run}
-use Rattle.engine.specs.declared.run.Outcome.{Outcome}
+use Rattle.runs.specs.declared.run.Run.{Run}
 
 -- a set with the load of an entry, if it is on
 abbrev pub joinedIfOn : LoadSet → Entry → LoadSet
@@ -42,7 +40,16 @@ withEntry r e = record {
   set = joinedIfOn (r .set) e;
 }
 
--- what a search answers: its best cell is 0 where it finds nothing
-unfoldable pub outcomeOf : ℕ → List Entry → Outcome
-outcomeOf zero es = record { found = false; run = runOf [] }
-outcomeOf (suc v) es = record { found = true; run = runOf es }
+-- the entry of the load at place i of a run, and those of its first n loads
+abbrev pub entryAt : Run → ℕ → Entry
+entryAt r i = record {
+  number = suc i;
+  mark = markIn (r .set) (suc i);
+  state = getD (r .states) i 0;
+  rule = getD (r .«load_rules») i 0;
+  row = getD (r .«row_rules») i 0;
+}
+
+unfoldable pub entriesTo : Run → ℕ → List Entry
+entriesTo r zero = []
+entriesTo r (suc n) = entriesTo r n ++ (entryAt r n ∷ [])

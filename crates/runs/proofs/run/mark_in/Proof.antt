@@ -3,8 +3,8 @@ use mathlib.Core.Path.{sym, ap, _∙_}
 use mathlib.Core.Bool.{Bool}
 use borrow.Author.Needs.{needs}
 use Rattle.lists.specs.Argmax.{guard}
-use Rattle.planner.proofs.answers.mark_in.Statement.{statement}
-use Rattle.planner.proofs.answers.mark_in.Tie as tie
+use Rattle.runs.proofs.run.mark_in.Statement.{statement}
+use Rattle.runs.proofs.run.mark_in.Tie as tie
 
 returns : tie.Need-returns
 returns c = ap (λ (b : Bool). guard b 1) (sym (c .if1 .taken) ∙ c .before .has .ensures)

@@ -1,0 +1,169 @@
+-- An outcome within its range, stored and read back, and the test of one that is handed in. Assumes nothing.
+use Prim.Native.Nat.{ℕ, zero, suc, _%_, _^_, _≤_, _<_, zero-le}
+use mathlib.Core.Path.{_≡_, refl, sym, ap, subst, _∙_}
+use mathlib.Core.Bool.{Bool, true, false, _&&_}
+use mathlib.Core.List.{List, [], _∷_, map}
+use native.Mathlib.Nat.{mod-lt}
+use native.Mathlib.Numerals.{one-add}
+use native.Mathlib.Omega.{arith}
+use borrow.Author.Tests.{eqb-true, eq-eqb, leb-true, le-leb, lt-ltb}
+use lib.Dec.{eqb, leb}
+use lib.ListN.{length, getD, length-map}
+use lib.Pow.{pow-pos}
+use Rattle.lists.specs.Tests.{every, everyFrom}
+use Rattle.lists.specs.Arrays.{laid}
+use Rattle.lists.proofs.Bools.{and-left, and-right}
+use Rattle.lists.proofs.Tests.{from-each, from-at}
+use Rattle.lists.proofs.Places.{laid-free}
+use Rattle.marks.specs.declared.LoadSet.{LoadSet}
+use Rattle.marks.specs.Sets.{noLoads, loadsUpTo}
+use Rattle.tables.specs.Tables.{Tables}
+use Rattle.tables.specs.Limits.{between, maxLoads}
+use Rattle.tables.specs.Lawful.{Lawful}
+use Rattle.tables.specs.declared.entry.Entry.{Entry}
+use Rattle.meaning.specs.Runs.{TreeRun, rowRuleIn}
+use Rattle.meaning.specs.Sets.{treeOf}
+use Rattle.meaning.specs.Choice.{noEntry, find, assignedBy}
+use Rattle.meaning.specs.Claims.{Numbered, EachLoad}
+use Rattle.meaning.proofs.Named.{run-names}
+use Rattle.runs.specs.declared.run.Run.{Run}
+use Rattle.runs.specs.declared.outcome.StoredOutcome.{StoredOutcome}
+use Rattle.runs.specs.declared.outcome.RunRange.{RunRange}
+use Rattle.runs.specs.Runs.{markAll, runOf, entriesTo}
+use Rattle.runs.specs.Outcome.{Outcome, none, noneFits, planned, found, storedOutcome, ofKind, outcomeOf, rangeOf, figuresIn, entryIn, outcomeIn, usedBy, zeroFrom, runFree, keepsOutcome}
+use Rattle.runs.proofs.Entries.{number-at, find-at, entries-read, set-to, run-read}
+
+-- ---- the lines of a plan that is in range
+pub record LinesIn (m : RunRange) (es : List Entry) : Type 0 where
+  pub all : length es ≡ m .loads
+  pub each : Numbered 1 es
+  pub figures : (i : ℕ) → i < length es → figuresIn m (getD es i noEntry) ≡ true
+
+numbered-from : (m : RunRange) (k : ℕ) (es : List Entry) → everyFrom (entryIn m) k es ≡ true → Numbered k es
+unfolding everyFrom entryIn
+numbered-from m k [] h = tt
+numbered-from m k (e ∷ es) h =
+    let here = and-left (eqb (e .number) k && figuresIn m e) (everyFrom (entryIn m) (suc k) es) h in (
+      eqb-true (e .number) k (and-left (eqb (e .number) k) (figuresIn m e) here),
+      numbered-from m (suc k) es (and-right (eqb (e .number) k && figuresIn m e) (everyFrom (entryIn m) (suc k) es) h),
+    )
+
+pub lines-in : (m : RunRange) (es : List Entry) → outcomeIn m (planned es) ≡ true → LinesIn m es
+unfolding outcomeIn entryIn
+lines-in m es h =
+    let each = and-right (eqb (length es) (m .loads)) (everyFrom (entryIn m) 1 es) h in
+    record {
+      all = eqb-true (length es) (m .loads) (and-left (eqb (length es) (m .loads)) (everyFrom (entryIn m) 1 es) h);
+      each = numbered-from m 1 es each;
+      figures = λ i b. and-right (eqb (getD es i noEntry .number) (suc i)) _ (from-at noEntry (entryIn m) 1 es each i b (suc i) (omega arith));
+    }
+
+-- a mark is 0 or 1
+pub mark-in : (m : RunRange) (e : Entry) → figuresIn m e ≡ true → e .mark ≤ 1
+unfolding figuresIn
+mark-in m e h = leb-true (e .mark) 1 (and-left (leb (e .mark) 1) _ h)
+
+-- a state, a load rule and a row rule are no more than there are
+pub record Few (m : RunRange) (e : Entry) : Type 0 where
+  pub state : e .state ≤ m .states
+  pub rule : e .rule ≤ m .«load_rules»
+  pub row : e .row ≤ m .«row_rules»
+
+row-few : (rules k r : ℕ) → rowRuleIn rules k r ≡ true → r ≤ rules
+row-few m zero r h = absurd (let z : _≡_ {A = ℕ} 0 1 = cc in omega arith)
+row-few m (suc zero) r h = omega (arith, eqb-true r 0 h)
+row-few m (suc (suc k)) r h = leb-true r m (and-right (leb 1 r) (leb r m) h)
+
+pub named-in : (m : RunRange) (e : Entry) → figuresIn m e ≡ true → Few m e
+unfolding figuresIn
+named-in m e h =
+    let named = and-right (leb (e .mark) 1) _ h in
+    let s = between 1 (m .states) (e .state) in
+    let l = between 1 (m .«load_rules») (e .rule) in
+    let two = and-left (s && l) (rowRuleIn (m .«row_rules») (e .number) (e .row)) named in
+    record {
+      state = leb-true (e .state) (m .states) (and-right (leb 1 (e .state)) _ (and-left s l two));
+      rule = leb-true (e .rule) (m .«load_rules») (and-right (leb 1 (e .rule)) _ (and-right s l two));
+      row = row-few (m .«row_rules») (e .number) (e .row) (and-right (s && l) (rowRuleIn (m .«row_rules») (e .number) (e .row)) named);
+    }
+
+-- ---- stored, and read back
+module _ (m : RunRange) (few : m .loads ≤ maxLoads) where
+  lines-read : (es : List Entry) → LinesIn m es → entriesTo (runOf es) (m .loads) ≡ es
+  lines-read es l =
+      subst (λ (n : ℕ). entriesTo (runOf es) n ≡ es) (l .all)
+      (entries-read es (l .each) (omega (arith, l .all)) (λ i b. mark-in m (getD es i noEntry) (l .figures i b)))
+
+  pub outcome-stored : (o : Outcome) → outcomeIn m o ≡ true → outcomeOf (m .loads) (storedOutcome o) ≡ o
+  outcome-stored none h = refl
+  outcome-stored noneFits h = refl
+  outcome-stored (planned es) h = ap planned (lines-read es (lines-in m es h))
+
+  -- what is stored keeps the limits: past the loads all is 0
+  column-free : (f : Entry → ℕ) (es : List Entry) → length es ≤ maxLoads → zeroFrom (length es) (laid 0 maxLoads (map f es)) ≡ true
+  column-free f es h =
+      let n = length-map es f in
+      let free = laid-free 0 (λ x. eqb x 0) refl (λ a q. eqb-true a 0 q) maxLoads (map f es) (omega arith) in
+      subst (λ (k : ℕ). zeroFrom k (laid 0 maxLoads (map f es)) ≡ true) n (and-right (leb (length (map f es)) maxLoads) _ free)
+
+  set-free : (es : List Entry) → LinesIn m es → loadsUpTo (length es) (markAll noLoads es) ≡ true
+  unfolding runOf
+  set-free es l =
+      let n = length es in
+      let same : markAll noLoads es ≡ record { 0 = markAll noLoads es .0 % 2 ^ n } =
+      sym (ap (markAll noLoads) (ap (entriesTo (runOf es)) (l .all) ∙ lines-read es l)) ∙ set-to (runOf es) n (omega (arith, l .all)) in
+      let below = mod-lt (markAll noLoads es .0) (pow-pos n) in
+      lt-ltb (markAll noLoads es .0) (2 ^ n) (omega (arith, below, ap (λ (s : LoadSet). s .0) same))
+
+  run-free : (es : List Entry) → LinesIn m es → runFree (m .loads) (runOf es) ≡ true
+  unfolding runOf runFree
+  run-free es l =
+      let h : length es ≤ maxLoads = omega (arith, l .all) in
+      rw (← (l .all), column-free (λ e. e .state) es h, column-free (λ e. e .rule) es h, column-free (λ e. e .row) es h) (set-free es l)
+
+  pub stored-in : (o : Outcome) → outcomeIn m o ≡ true → keepsOutcome m (storedOutcome o) ≡ true
+  unfolding keepsOutcome runOf runFree markAll laid every outcomeIn
+  stored-in none h = refl
+  stored-in noneFits h = refl
+  stored-in (planned es) h = rw (run-free es (lines-in m es h), lines-read es (lines-in m es h)) h
+
+  -- what keeps the limits is stored so
+  as-stored : (k : ℕ) (r : Run) → length (r .states) ≡ maxLoads → length (r .«load_rules») ≡ maxLoads → length (r .«row_rules») ≡ maxLoads
+      → leb k 2 ≡ true → runFree (usedBy (m .loads) k) r ≡ true → record { kind = k; run = r } ≡ storedOutcome (ofKind k (entriesTo r (m .loads)))
+  unfolding entriesTo
+  as-stored zero r a b c l f = let e = run-read r a b c 0 zero-le f in λ i. record { kind = 0; run = sym e i }
+  as-stored (suc zero) r a b c l f = let e = run-read r a b c 0 zero-le f in λ i. record { kind = 1; run = sym e i }
+  as-stored (suc (suc zero)) r a b c l f = let e = run-read r a b c (m .loads) few f in λ i. record { kind = 2; run = sym e i }
+  as-stored (suc (suc (suc k))) r a b c l f = absurd (omega (arith, leb-true (suc (suc (suc k))) 2 l))
+
+  pub kept-stored : (o : StoredOutcome) → length (o .run .states) ≡ maxLoads → length (o .run .«load_rules») ≡ maxLoads → length (o .run .«row_rules») ≡ maxLoads
+      → keepsOutcome m o ≡ true → o ≡ storedOutcome (outcomeOf (m .loads) o)
+  unfolding keepsOutcome
+  kept-stored o a b c h =
+      let front = and-left _ (outcomeIn m (outcomeOf (m .loads) o)) h in
+      as-stored (o .kind) (o .run) a b c (and-left (leb (o .kind) 2) _ front) (and-right (leb (o .kind) 2) _ front)
+
+pub kept-in : (m : RunRange) (o : StoredOutcome) → keepsOutcome m o ≡ true → outcomeIn m (outcomeOf (m .loads) o) ≡ true
+unfolding keepsOutcome
+kept-in m o h = and-right (leb (o .kind) 2 && runFree (usedBy (m .loads) (o .kind)) (o .run)) (outcomeIn m (outcomeOf (m .loads) o)) h
+
+-- ---- what a search found
+pub none-found : (v : ℕ) (es : List Entry) → v ≡ 0 → record { kind = 1; run = runOf [] } ≡ storedOutcome (found v es)
+none-found v es e = rw e
+
+pub some-found : (v : ℕ) (es : List Entry) → 0 < v → record { kind = 2; run = runOf es } ≡ storedOutcome (found v es)
+some-found zero es h = absurd (omega arith)
+some-found (suc v) es h = refl
+
+-- the lines of a run of the tables are in range for them
+pub run-in : (t : Tables) → Lawful t → (es : List Entry) → EachLoad t es → ((i : ℕ) → i < length es → getD es i noEntry .mark ≤ 1)
+    → (σ : ℕ → ℕ) → TreeRun (t .book) σ (assignedBy es) (treeOf t) → outcomeIn (rangeOf t) (planned es) ≡ true
+unfolding outcomeIn entryIn figuresIn
+run-in t w es l marks σ run =
+    rw (eq-eqb (length es) (length (t .loads)) (l .all))
+    (from-each noEntry (entryIn (rangeOf t)) 1 es (λ i b k e.
+    let number : getD es i noEntry .number ≡ suc i = omega (arith, number-at es 1 i (l .each) b) in
+    let s : k ≡ suc i = omega arith in
+    let at : find es (suc i) ≡ getD es i noEntry = ap (find es) (sym (one-add i)) ∙ find-at es 1 i (l .each) b in
+    let named = run-names t w σ (assignedBy es) run (suc i) (omega arith) (omega (arith, l .all)) in
+    rw (s, number, eq-eqb (suc i) (suc i) refl, le-leb (getD es i noEntry .mark) 1 (marks i b)) (rw at at named)))
