@@ -24,7 +24,7 @@ use Rattle.meaning.specs.Best.{bestPlan}
 use Rattle.meaning.specs.Choice.{planEntries}
 use Rattle.meaning.specs.Cells.{cellsOf}
 use Rattle.runs.specs.Outcome as outcome
-use Rattle.runs.specs.Outcome.{Outcome, found, isNone, isNoneFits, linesOf}
+use Rattle.runs.specs.Outcome.{Outcome, found, isNone, isNoneFits, entriesOf}
 use Rattle.calls.specs.State.{State, storedState, Within}
 use Rattle.calls.specs.Rows.{_if_, Row, changes, noneFits, showingPlan, shownText, row, lineRow, bytesOf, causesOf, isChange, isShow, cellsFor}
 use Rattle.calls.specs.Causes.{lowest, allCauses, refusal}
@@ -47,9 +47,6 @@ not-ok : (n : ℕ) (r : Row) → same (text (suc n) r) ok ≡ false
 unfolding text same refused
 not-ok zero r = refl
 not-ok (suc n) r = refl
-
-refused-not : (n : ℕ) → 0 < n → n ≡ 0 → ⊥
-refused-not n l e = absurd (omega arith)
 
 -- a save begins with `clear`
 save-not : (t : Tables) → same (changesText (saved t)) ok ≡ false
@@ -122,9 +119,6 @@ module _ (b : Bool) (s : State) (h : Current b s) (m : ℕ) where
       record { outcome = found-some (bestPlan t) (planEntries t) some; loads = λ _. positive (eqb-false (length (t .loads)) 0 (p .0)) }
   plan-left (suc n) e f = rw (ne-eqb (suc n) 0 (λ z. absurd (omega arith))) (go (eqb (suc n) no.noneFits) refl)
     where
-      t : Tables
-      t = s .tables
-
       go : (i : Bool) → eqb (suc n) no.noneFits ≡ i → Current (pick i true b) (record { tables = s .tables; outcome = pick i outcome.noneFits (s .outcome) })
       go true q =
           let g = nine-given _ _ _ (f (eqb-true (suc n) no.noneFits q)) in
@@ -214,20 +208,20 @@ module _ (s : State) (h : Within s) (x : Exchange) (is : x .done .reply ≡ answ
       unfolding noneFits text row
       plan-text-is true q = refl
       plan-text-is false q =
-          ap (λ (o : Outcome). shownText (showingPlan (s .tables) (linesOf o)))
+          ap (λ (o : Outcome). shownText (showingPlan (s .tables) (entriesOf o)))
           (same-outcome ∙ sym (found-some (bestPlan (s .tables)) (planEntries (s .tables)) (positive (eqb-false (bestPlan (s .tables)) 0 q))))
 
       module _ (d : Call) (q : Enough (s .tables) d) where
-        p : PlanCall (s .tables) d
-        p = record { line = q .line; loads = cur .loads e; free = q .free; cells = q .cells }
+        plan-call : PlanCall (s .tables) d
+        plan-call = record { line = q .line; loads = cur .loads e; free = q .free; cells = q .cells }
 
         same-number : numberFor s c ≡ numberFor s d
-        same-number = plan-number-is (noneFits (s .tables)) refl ∙ sym (plan-number s d p (noneFits (s .tables)) refl)
+        same-number = plan-number-is (noneFits (s .tables)) refl ∙ sym (plan-number s d plan-call (noneFits (s .tables)) refl)
 
         same-text : text (numberFor s c) (rowFor s c) ≡ text (numberFor s d) (rowFor s d)
         same-text =
             ap₂ text (plan-number-is (noneFits (s .tables)) refl) last-row ∙ plan-text-is (noneFits (s .tables)) refl
-            ∙ sym (ap₂ text (plan-number s d p (noneFits (s .tables)) refl) (plan-row s d p))
+            ∙ sym (ap₂ text (plan-number s d plan-call (noneFits (s .tables)) refl) (plan-row s d plan-call))
 
         as-plan : (answer s c .number ≡ answer s d .number) × (answer s c .count ≡ answer s d .count) × (writtenBy c (answer s c) ≡ writtenBy d (answer s d))
         unfolding answer

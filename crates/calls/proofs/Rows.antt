@@ -39,7 +39,7 @@ use Rattle.meaning.specs.Claims.{EachLoad}
 use Rattle.meaning.specs.Cells.{cellsOf}
 use Rattle.meaning.specs.Choice.{planEntries}
 use Rattle.meaning.proofs.Claims.{claims}
-use Rattle.runs.specs.Outcome.{Outcome, none, noneFits, planned, isNone, isNoneFits, linesOf, rangeOf, outcomeIn}
+use Rattle.runs.specs.Outcome.{Outcome, none, noneFits, planned, isNone, isNoneFits, entriesOf, rangeOf, outcomeIn}
 use Rattle.runs.proofs.Stored.{lines-in}
 use Rattle.calls.specs.State.{State, Within}
 use Rattle.calls.specs.Rows as row-of
@@ -151,7 +151,7 @@ plan-showing t h es e =
 
 -- the latest outcome, where it is a plan
 last-showing : (t : Tables) → Limits t → (o : Outcome) → outcomeIn (rangeOf t) o ≡ true
-    → lowest ((no.noneFits if isNoneFits o) ∷ (no.noPlan if isNone o) ∷ []) ≡ 0 → Showing t freeBytes (showingPlan t (linesOf o))
+    → lowest ((no.noneFits if isNoneFits o) ∷ (no.noPlan if isNone o) ∷ []) ≡ 0 → Showing t freeBytes (showingPlan t (entriesOf o))
 unfolding lowest
 last-showing t h none e p = absurd (omega arith)
 last-showing t h noneFits e p = absurd (omega arith)

@@ -26,7 +26,7 @@ use Rattle.meaning.specs.Cells.{cellsOf}
 use Rattle.runs.specs.declared.run.Run.{Run}
 use Rattle.runs.specs.declared.outcome.StoredOutcome.{StoredOutcome}
 use Rattle.runs.specs.Runs.{runOf, entriesTo}
-use Rattle.runs.specs.Outcome.{Outcome, planned, isNone, isNoneFits, linesOf, found, storedOutcome, ofKind, outcomeOf, rangeOf, outcomeIn}
+use Rattle.runs.specs.Outcome.{Outcome, planned, isNone, isNoneFits, entriesOf, found, storedOutcome, ofKind, outcomeOf, rangeOf, outcomeIn}
 use Rattle.runs.proofs.Stored.{lines-in, outcome-stored}
 use Rattle.calls.specs.State.{State, StoredState, storedState}
 use Rattle.calls.specs.Rows.{_if_, Row, showingPlan, noneFits, notAllowed, row, causesOf, cellsFor}
@@ -161,7 +161,7 @@ module _ (p : Planner) (h : Lawful p) where
         let inside = kept-within (held p) h in
         let l = lines-in (rangeOf t) shown-lines (rw planned-is at (inside .outcome)) in
         let each : EachLoad t shown-lines = record { all = l .all; each = l .each } in
-        let run : r ≡ runOf shown-lines = is ∙ ap (λ (x : StoredState). x .outcome .run) (kept-stored (held p) h) ∙ ap (λ (o : Outcome). runOf (linesOf o)) planned-is in
+        let run : r ≡ runOf shown-lines = is ∙ ap (λ (x : StoredState). x .outcome .run) (kept-stored (held p) h) ∙ ap (λ (o : Outcome). runOf (entriesOf o)) planned-is in
         let set : markIn (r .set) ≡ _ = ap (λ (x : Run). markIn (x .set)) run ∙ lines-set t shown-lines each (few-loads t (inside .tables)) in
         let worths = a ∙ ap (worth t) set in
         let powers = b ∙ ap (power t) set in

@@ -116,10 +116,10 @@ impl Planner {
         if found.kind == NO_SET {
             return self.refused(NOT_ALLOWED);
         }
-        let run = found.run;
+        let shown = found.run;
         Decided {
             answer: Answer::Allowed,
-            run,
+            run: shown,
             planner: self,
         }
     }

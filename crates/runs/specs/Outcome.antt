@@ -36,10 +36,10 @@ isNoneFits noneFits = true
 isNoneFits (planned es) = false
 
 -- the load lines
-abbrev pub linesOf : Outcome → List Entry
-linesOf none = []
-linesOf noneFits = []
-linesOf (planned es) = es
+abbrev pub entriesOf : Outcome → List Entry
+entriesOf none = []
+entriesOf noneFits = []
+entriesOf (planned es) = es
 
 -- what a search found: its best is 0 where it found nothing
 abbrev pub found : (best : ℕ) → List Entry → Outcome
@@ -53,7 +53,7 @@ kindOf noneFits = 1
 kindOf (planned es) = 2
 
 abbrev pub storedOutcome : Outcome → StoredOutcome
-storedOutcome o = record { kind = kindOf o; run = runOf (linesOf o) }
+storedOutcome o = record { kind = kindOf o; run = runOf (entriesOf o) }
 
 -- what lies there, with so many loads
 abbrev pub ofKind : (kind : ℕ) → List Entry → Outcome
