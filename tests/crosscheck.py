@@ -4,21 +4,22 @@
   crosscheck.py PROGRAM [--cases N] [--seed S]
 
 Each case is a session on a fresh book and tree. Every printed line is compared. Each session is run again with other zeros in front of its
-numbers, and must print the same. The save that each ends with is fed to another process, after other lines, which must take it line by line
-and save the same bytes; so must those of a fresh planner and of the fullest cabinet. The sessions of edges.py have answers written by hand,
-which the program and the oracle must both give. Then the lines, but for those of the largest trees, are given to oracles that are wrong on
-purpose (wrong_oracles.py), and each must be told apart from the program: a comparison that cannot fail would show nothing.
+numbers, and must print the same. It is run once more with `plan` in the place of each `last` that shows an outcome, and must print the same.
+The save that each ends with is fed to another process, after other lines, which must take it line by line and save the same bytes; so must
+those of a fresh planner and of the fullest cabinet. The sessions of edges.py have answers written by hand, which the program and the oracle
+must both give. Then the lines, but for those of the largest trees, are given to oracles that are wrong on purpose (wrong_oracles.py), and each
+must be told apart from the program: a comparison that cannot fail would show nothing.
 The last line is 'N passed, M failed'.
 """
 import argparse
 import random
 import subprocess
 import sys
-from collections import namedtuple
+from collections import Counter, namedtuple
 from itertools import compress
 
-from edges import BELOW, EDGES, EVERY_OTHER, LARGEST_EDGES, NEAR_DROPS, ON_BY_ROW, ON_FIRST
-from limits import LINE_BYTES, MAX_BUDGET, MAX_DIGITS, MAX_LOADS, MAX_POWER, MAX_RULES, MAX_STAGES, MAX_STATES, MAX_WORTH
+from edges import BELOW, EDGES, EVERY_OTHER, LARGEST_EDGES, NEAR_DROPS, NEAR_LASTS, ON_BY_ROW, ON_FIRST
+from limits import LINE_BYTES, MAX_BUDGET, MAX_DIGITS, MAX_LOADS, MAX_POWER, MAX_RULES, MAX_STAGES, MAX_STATES, MAX_WORTH, NOTHING
 from oracle import WORDS, Oracle
 from wrong_oracles import WRONG, with_fields
 
@@ -26,10 +27,12 @@ MOST_RUNS = 1500  # a tree with more runs is left out: plain enumeration would b
 BATCH = 100  # sessions that are given to one run of the program
 TRIED, ENOUGH = 400, 20  # sessions that a wrong oracle is given at most, and those that tell it apart till no more are
 
-# The powers and the worths of a session's loads, and its greatest budget. Of the second sort many sets are equal in worth, and some in both.
-Figures = namedtuple('Figures', 'powers worths most_budget')
-MIXED = Figures((0, 1, 2, 3, 5, 8), (0, 1, 1, 2, 3), 20)
-EQUALS = Figures((0, 1, 2, 3), (0, 1), 6)
+# The powers and the worths of a session's loads, and its budgets. Of the second sort many sets are equal in worth, and some in both. Of the
+# third sort the book is the largest, so that three loads and more have too few cells for the greatest budget.
+Figures = namedtuple('Figures', 'powers worths budgets')
+MIXED = Figures((0, 1, 2, 3, 5, 8), (0, 1, 1, 2, 3), range(21))
+EQUALS = Figures((0, 1, 2, 3), (0, 1), range(7))
+FEW_CELLS = Figures(MIXED.powers, MIXED.worths, (0, 5, 20, MAX_BUDGET, MAX_BUDGET))
 FREE_BOOKS = [book.split() for book in (BELOW, EVERY_OTHER, ON_FIRST, ON_BY_ROW)]  # these leave most loads the choice
 
 
@@ -64,7 +67,8 @@ def book_lines(rng):
 
 def any_book(rng, figures):
     """The lines of a book: by chance, but half of the books for many equals leave a choice between them."""
-    return rng.choice(FREE_BOOKS) if figures is EQUALS and rng.random() < 0.5 else book_lines(rng)
+    lines = rng.choice(FREE_BOOKS) if figures is EQUALS and rng.random() < 0.5 else book_lines(rng)
+    return ['book,%d,%d' % (MAX_STATES, MAX_STAGES), *lines[1:]] if figures is FEW_CELLS else lines
 
 
 def load_line(rng, count, figures):
@@ -77,7 +81,7 @@ def tree_lines(rng, figures=MIXED):
 
 
 def budget_line(rng, figures):
-    return 'budget,%d' % rng.randint(0, figures.most_budget)
+    return 'budget,%d' % rng.choice(figures.budgets)
 
 
 def field(rng):
@@ -90,16 +94,16 @@ def field(rng):
 def damaged(rng):
     """A line that may break its form, its range or its length in any way."""
     kind = rng.randrange(8)
-    word = rng.choice((*WORDS, 'check', 'Plan', 'plans', 'Save', 'saves', ''))
+    word = rng.choice((*WORDS, 'check', 'Plan', 'plans', 'Save', 'saves', 'Last', 'lasts', ''))
     if kind == 7:
-        return rng.choice(NEAR_DROPS)
+        return rng.choice(rng.choice((NEAR_DROPS, NEAR_LASTS)))
     if kind < 4 and word != 'clear':
         return ','.join([word] + [field(rng) for _ in range(rng.randint(0, 4))]).encode()
     if kind == 4:
         return bytes(rng.choice((0, 9, 13, 32, 44, 48, 49, 57, 99, 112, 128, 255)) for _ in range(rng.randint(0, 12)))
     if kind == 5:
         return b'check,' + rng.choice((b'0', b'1')) * rng.randint(1, LINE_BYTES)
-    return rng.choice((b'budget,', b'save,', b'save')) + b'0' * rng.randint(LINE_BYTES - 20, LINE_BYTES + 10)
+    return rng.choice((b'budget,', b'save,', b'save', b'last')) + b'0' * rng.randint(LINE_BYTES - 20, LINE_BYTES + 10)
 
 
 def drop_line(rng, oracle):
@@ -109,11 +113,20 @@ def drop_line(rng, oracle):
     return b'drop,%d' % rng.choice(leaves if leaves and rng.random() < 0.6 else numbers)
 
 
+def same_again(rng, oracle):
+    """A line that leaves every table equal, if the planner takes it: a mark, a rule or a figure that is there, or an empty book."""
+    marks = [b'start,%d' % state for state in oracle.starts] + [b'end,%d' % stage for stage in oracle.ends]
+    rules = [b'rule,%d,%d,%d' % rule for rule in oracle.rules] + [b'row,%d,%d,%d' % row for row in oracle.rows]
+    loads = [b'%s,%d,%d' % (word, k, load[at]) for k, load in enumerate(oracle.loads, 1) for word, at in ((b'power', 1), (b'worth', 2))]
+    book = [] if marks or rules else [b'book,%d,%d' % (oracle.states, oracle.stages)]
+    return rng.choice(rng.choice([lines for lines in (marks, rules, loads, book) if lines] + [[b'budget,%d' % oracle.budget]]))
+
+
 def question(rng, oracle, figures):
     """A line of a session whose book and tree stand: mostly plans and what changes them."""
     loads = len(oracle.loads)
     return rng.choice((
-        lambda: budget_line(rng, figures).encode(), *4 * [lambda: b'plan'], lambda: b'save',
+        lambda: budget_line(rng, figures).encode(), *4 * [lambda: b'plan'], lambda: b'save', lambda: b'last', lambda: same_again(rng, oracle),
         lambda: b'check,' + bytes(rng.choice(b'01') for _ in range(loads)),
         lambda: b'power,%d,%d' % (rng.randint(1, loads + 1), rng.choice(figures.powers)),
         lambda: b'worth,%d,%d' % (rng.randint(1, loads + 1), rng.choice(figures.worths)),
@@ -121,30 +134,46 @@ def question(rng, oracle, figures):
         lambda: damaged(rng)))()
 
 
+class Said:
+    """What is said in a session: its lines, and the oracle's answers."""
+
+    def __init__(self, rng):
+        self.rng = rng
+        self.oracle = Oracle()
+        self.lines = []
+        self.answers = []
+
+    def add(self, line):
+        self.lines.append(line)
+        self.answers.append(self.oracle.answer(line))
+
+    def say(self, line):
+        """A line, now and then with other zeros, and often `last` after it if an outcome is or was stored. Are there few runs then?"""
+        stored = self.oracle.outcome != NOTHING
+        self.add(padded(self.rng, line) if self.rng.random() < 0.4 else line)
+        if self.rng.random() < (0.4 if stored or self.oracle.outcome != NOTHING else 0.05):
+            self.add(b'last')
+        return few_runs(self.oracle)
+
+
 def session(rng):
     """The lines of a session that starts with `clear`, and the oracle's answers; or nothing where there are too many runs."""
-    oracle, lines, answers, figures = Oracle(), [], [], rng.choice((MIXED, EQUALS))
-
-    def say(line):
-        line = padded(rng, line) if rng.random() < 0.4 else line
-        lines.append(line)
-        answers.append(oracle.answer(line))
-        return few_runs(oracle)
+    said, (figures,) = Said(rng), rng.choices((MIXED, EQUALS, FEW_CELLS), (4, 5, 1))
     book, tree = any_book(rng, figures), tree_lines(rng, figures)
     for line in ['clear', budget_line(rng, figures)] + rng.choice((book + tree, tree + book)):
-        if not say(line.encode()):
+        if not said.say(line.encode()):
             return None
         if rng.random() < 0.05:
-            say(b'save')
+            said.say(rng.choice((b'save', b'plan')))
     for _ in range(rng.randint(4, 14)):
-        line = question(rng, oracle, figures)
+        line = question(rng, said.oracle, figures)
         if line.startswith((b'load,', b'book', b'rule', b'row', b'start')) and rng.random() < 0.5:
             continue  # half of what would change the book or the tree is left out, so that more plans are of the cabinet built
-        if not say(line):
+        if not said.say(line):
             return None
-    say(b'plan')
-    say(b'save')
-    return lines, answers
+    for line in (b'plan', b'last', b'save'):
+        said.add(line)
+    return said.lines, said.answers
 
 
 def sessions(rng, count):
@@ -202,6 +231,12 @@ def differing(cases, outs):
 def again(rng, cases):
     """The sessions with other zeros in front of their numbers, and the same answers."""
     return [([padded(rng, line) for line in lines], answers) for lines, answers in cases]
+
+
+def planned_anew(case):
+    """The session with `plan` in the place of each `last` that shows an outcome, and the same answers: "equals what `plan` .. would print"."""
+    lines, answers = case
+    return [b'plan' if line == b'last' and answer != ['no,12'] else line for line, answer in zip(lines, answers)], answers
 
 
 def fed_back(case, out, other):
@@ -264,10 +299,10 @@ def edge_right(case, out):
 def sessions_differ(wrong, cases):
     for lines, first in wrong[:3]:
         print('DIFFERS at %r: expected %r, printed %r, in the session %r' % (*first, lines))
-    firsts = [answer[0] for _, answers in cases for answer in answers]
-    plans = sum(first.startswith('plan') for first in firsts)
-    print('%d sessions with %d plans shown, %d refusals 9, %d sets allowed, %d not'
-          % (len(cases), plans, firsts.count('no,9'), firsts.count('yes'), firsts.count('no,10')))
+    said = Counter((line == b'last', 'plan' if answer[0].startswith('plan') else answer[0]) for case in cases for line, answer in zip(*case))
+    counts = [said[False, first] for first in ('plan', 'no,9', 'no,8', 'yes', 'no,10')]
+    print('%d sessions with %d plans shown, %d refusals 9, %d refusals 8, %d sets allowed, %d not' % (len(cases), *counts))
+    print('last: %d plans shown, %d refusals 9, %d refusals 12' % tuple(said[True, first] for first in ('plan', 'no,9', 'no,12')))
     return len(wrong)
 
 
@@ -302,7 +337,8 @@ def main():
     rng = random.Random(args.seed)
     cases, edges = sessions(rng, args.cases), list(EDGES.values())
     outs, edge_outs = all_printed(args.program, cases), [printed(args.program, lines) for lines, _ in edges]
-    others = again(rng, cases) + [fed_back(*three) for three in zip(cases, outs, cases[1:] + cases[:1])]
+    others = again(rng, cases) + [planned_anew(case) for case in cases]
+    others += [fed_back(*three) for three in zip(cases, outs, cases[1:] + cases[:1])]
     wrong = differing(cases, outs) + differing(others, all_printed(args.program, others))
     failed = sessions_differ(wrong, cases) + saves_differ(args.program) + edges_differ(edge_outs)
     quick = [name not in LARGEST_EDGES for name in EDGES]

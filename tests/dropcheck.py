@@ -4,8 +4,9 @@
   dropcheck.py PROGRAM [--sessions N] [--seed S]
 
 In some sessions hundreds of loads come and go; in others the fullest tree is emptied leaf by leaf, in any order, and filled again. After each
-drop a save, a plan and checks are asked for. Another process is fed the tree without that load: the lines of the save before the drop,
-without the line of the load and with the parents above it one less. It must take them all, and answer the same questions the same.
+drop a save, a plan and checks are asked for, and the last plan: none is current before the plan, and then it is that. Another process is fed
+the tree without that load: the lines of the save before the drop, without the line of the load and with the parents above it one less. It
+must take them all, and answer the same questions the same.
 Sessions on small trees are given to the oracle too, and to oracles that are wrong on purpose (wrong_oracles.py), in the program's place. Each
 wrong one must be told apart.
 The last line is 'N passed, M failed'.
@@ -15,18 +16,17 @@ import random
 import sys
 
 from crosscheck import book_lines, printed
-from edges import BELOW, EVERY_OTHER
+from edges import BELOW, EVERY_OTHER, TOGETHER
 from limits import CELLS, MAX_LOADS
 from oracle import Oracle
 from texts import entered_without, grouped
-from wrong_oracles import WRONG_DROPS
+from wrong_oracles import WRONG_DROPS, keeping
 
-# The loads that are on hang together.
-TOGETHER = 'book,3,3 start,1 end,1 end,2 rule,1,0,3 rule,1,1,2 rule,2,0,1 rule,2,1,2 rule,3,0,1 row,1,3,1 row,2,2,2 row,3,3,3 row,3,1,1'
 BOOKS = [book.split() for book in (BELOW, EVERY_OTHER, TOGETHER)]
 MOST_WAYS = 6  # states and stages of a book
 STEPS = 400  # loads that enter or leave, in a session in which they come and go
 SMALL, SMALL_STEPS, SMALL_SESSIONS = 6, 200, 6  # the most loads, the steps and the sessions that an oracle is given
+WRONG = [*WRONG_DROPS, keeping('drop'), keeping('load')]
 
 
 class Question:
@@ -96,23 +96,25 @@ class Session:
         return 'budget,%d' % self.rng.randint(0, min(40, most))
 
     def leave(self):
-        """A load without children leaves, after a save, and is asked about."""
+        """A load without children leaves, after a plan and a save, and is asked about."""
         load = self.rng.choice(sorted({*range(1, len(self.loads) + 1)} - {*self.parents()}))
         self.say(self.budget(), 'ok')
+        self.say('plan')
         self.say('save')
         self.say('drop,' + str(load).zfill(self.rng.choice((1, 1, 5))), 'ok')
         self.loads = entered_without(self.loads, load)
-        question = Question(load, len(self.lines) - 2, ['save', 'plan', *self.checks()])
+        question = Question(load, len(self.lines) - 2, ['save', 'last', 'plan', 'last', *self.checks()])
         self.questions.append(question)
         for line in question.asked:
             self.say(line)
 
     def refused(self):
-        """Drops that are refused, and change nothing."""
+        """Drops that are refused, and change nothing, the last plan neither."""
         for number in (0, len(self.loads) + 1):
             self.say('drop,%d' % number, 'no,5')
         if len(self.loads) > 1:
             self.say('drop,%d' % self.rng.choice(self.parents()[1:]), 'no,11')
+        self.say('last')
 
     # ---- all of them
 
@@ -126,6 +128,7 @@ class Session:
             self.leave()
         self.say('drop,1', 'no,5')
         self.say('plan', 'no,4')
+        self.say('last')
 
 
 # ---- the two sorts of sessions
@@ -190,12 +193,21 @@ def unlike(session, answers, ask):
     return None
 
 
+def latest_after(line, answer, latest):
+    """What `last` is to be answered after a line: the answer of a plan that was asked for since the last change, or that none was."""
+    if answer == ['ok']:
+        return ['no,12']
+    return answer if line == 'plan' and answer not in (['no,4'], ['no,8']) else latest
+
+
 def fault(session, ask):
     """What is wrong with the answers to a session, or None. No answer is taken after a wrong one."""
-    answers = []
+    answers, latest = [], ['no,12']
     for place, answer in enumerate(ask(session.lines)):
-        if answer != session.known.get(place, answer):
-            return '%s is answered %s' % (session.lines[place], answer)
+        line = session.lines[place]
+        if answer != session.known.get(place, latest if line == 'last' else answer):
+            return '%s is answered %s' % (line, answer)
+        latest = latest_after(line, answer, latest)
         answers.append(answer)
     if len(answers) != len(session.lines):
         return '%d answers to %d lines' % (len(answers), len(session.lines))
@@ -239,11 +251,11 @@ def main():
     for what in wrong[:3]:
         print('DIFFERS: ' + what)
     print_counts(made + small, of_program(args.program))
-    untold = [oracle for oracle in WRONG_DROPS if not faults(small, of_oracle(oracle))]
+    untold = [oracle for oracle in WRONG if not faults(small, of_oracle(oracle))]
     for oracle in untold:
         print('%s: not told apart' % oracle.__name__)
     failed = len(wrong) + len(untold)
-    print('%d passed, %d failed' % (len(made) + 2 * len(small) + len(WRONG_DROPS) - failed, failed))
+    print('%d passed, %d failed' % (len(made) + 2 * len(small) + len(WRONG) - failed, failed))
     return 1 if failed else 0
 
 

@@ -1,5 +1,6 @@
-"""Sessions by name, each with its answers as paper 02 has them: of loads that leave (request Three), and of equal plans, of which the
-cooler one wins (request Four). The answers are written by hand but for the listings of the fullest trees, which a formula makes.
+"""Sessions by name, each with its answers as paper 02 has them: of loads that leave (request Three), of equal plans, of which the cooler one
+wins (request Four), and of the last plan, shown again (request Five). The answers are written by hand but for the listings of the fullest
+trees, which a formula makes.
 
 In the text of a session a row is `LINE LINE .. -> ANSWER`: each of the lines has this answer, and an answer's lines are parted by blanks.
 """
@@ -24,6 +25,15 @@ FIRST_FREE = 'book,3,2 start,3 end,2 rule,3,1,1 rule,2,0,2 rule,2,1,2 rule,1,1,2
 # Of the children of the root the first is off by row rule 1, or the second by row rules 2 and 3. Every other load is on.
 ONE_OF_TWO = 'book,3,3 start,3 end,2 rule,3,1,1 rule,1,1,2 rule,2,0,2 row,1,2,2 row,1,1,3 row,3,2,2 row,2,1,2'
 
+# The loads that are on hang together, and there are some.
+TOGETHER = 'book,3,3 start,1 end,1 end,2 rule,1,0,3 rule,1,1,2 rule,2,0,1 rule,2,1,2 rule,3,0,1 row,1,3,1 row,2,2,2 row,3,3,3 row,3,1,1'
+
+# The cabinet of paper 01: its loads, its lines but for the budget, and its plans with a budget of 30 and of 32.
+CABINET = 'load,0,10,0 load,1,15,40 load,1,5,30 load,2,7,50'
+WORKED = f'{BELOW} {CABINET}'
+PLAN_30 = 'plan,70,30,3 1,1,1,2,0 2,1,1,2,1 3,1,1,2,1 4,0,1,1,1'
+PLAN_32 = 'plan,90,32,3 1,1,1,2,0 2,1,1,2,1 3,0,1,1,1 4,1,1,2,1'
+
 # Lines that are nearly drops of a load: each breaks its form, and is answered with 3.
 NEAR_DROPS = (
     b'drop', b'drop,', b'drop,,', b'drop,,2', b'drop,2,', b'drop,1,2', b'drop,2,2', b'Drop,2', b'DROP,2', b'drops,2', b'dro,2', b'drop2',
@@ -31,6 +41,14 @@ NEAR_DROPS = (
     b'drop,2.0', b'drop,0x2', b'drop,x', b'drop,000002', b'drop,100000', b'drop,'.ljust(LINE_BYTES, b'0'),
 )
 LONG_DROP = b'drop,'.ljust(LINE_BYTES + 1, b'0')
+
+# Lines that are nearly `last`: each breaks its form, and is answered with 3.
+NEAR_LASTS = (
+    b'last,', b'last,,', b'last,0', b'last,1', b'last,00001', b'last,1,1', b'last,plan', b'plan,last', b'Last', b'LAST', b'lasts', b'last1',
+    b'las', b'las,', b'latest', b'last;', b' last', b'last ', b'last\t', b'last\r', b'last\0', b'\0last', b',last', b'\xefast', b'last\xff',
+    b'last'.ljust(LINE_BYTES, b't'), b'last,'.ljust(LINE_BYTES, b'0'),
+)
+LONG_LAST = b'last,'.ljust(LINE_BYTES + 1, b'0')
 
 
 def steps(text):
@@ -58,6 +76,16 @@ def near_drops():
         *((line, ['no,3']) for line in NEAR_DROPS),
         (LONG_DROP, ['no,2']),
         *steps('save -> clear load,0,1,1 load,1,2,2 budget,0\ndrop,00002 -> ok\nsave -> clear load,0,1,1 budget,0'),
+    ])
+
+
+def near_lasts():
+    """The lines that are nearly `last`, with no current plan and with one, which stays as it is."""
+    near = [*((line, ['no,3']) for line in (b'', *NEAR_LASTS)), (LONG_LAST, ['no,2'])]
+    return parted([
+        *steps(f'clear {WORKED} budget,30 -> ok'), *near,
+        *steps(f'last -> no,12\nplan -> {PLAN_30}'), *near,
+        *steps(f'last -> {PLAN_30}'),
     ])
 
 
@@ -402,6 +430,295 @@ plan -> plan,2,3,2 1,0,1,2,0 2,1,1,1,1 3,0,1,2,1 4,1,1,1,1
 '''),
 }
 
+LAST_EDGES = {
+    'near lasts': near_lasts(),
+    # "The display polls many times between changes."
+    'polled many times': session(f'''
+{WORKED} budget,30 -> ok
+plan -> {PLAN_30}
+last last last last last last last -> {PLAN_30}
+plan -> {PLAN_30}
+last last -> {PLAN_30}
+'''),
+    # "refusal 9 included"
+    'no allowed set fits': session(f'''
+{TOGETHER} {CABINET} budget,4 -> ok
+plan -> no,9
+last last last -> no,9
+plan last -> no,9
+check,0000 -> no,10
+check,0010 -> yes 1,0,1,1,0 2,0,3,5,3 3,1,1,2,4 4,0,3,5,1
+last -> no,9
+budget,501 -> no,5
+last -> no,9
+budget,4 -> ok
+last -> no,12
+plan last -> no,9
+'''),
+    # "the latest outcome"
+    'a plan, then none, then a plan': session(f'''
+{TOGETHER} {CABINET} budget,5 -> ok
+plan last -> plan,30,5,1 1,0,1,1,0 2,0,3,5,3 3,1,1,2,4 4,0,3,5,1
+budget,4 -> ok
+last -> no,12
+plan last last -> no,9
+budget,5 -> ok
+last -> no,12
+plan last last -> plan,30,5,1 1,0,1,1,0 2,0,3,5,3 3,1,1,2,4 4,0,3,5,1
+'''),
+    'the budget raised and lowered': session(f'''
+{WORKED} budget,30 -> ok
+plan last -> {PLAN_30}
+budget,32 -> ok
+last last -> no,12
+plan last -> {PLAN_32}
+budget,30 -> ok
+last -> no,12
+plan last -> {PLAN_30}
+'''),
+    # "Any line that printed `ok` counts as a change": each word that can, between two plans. The rules that are added allow no further set.
+    'each word that can change': session(f'''
+{WORKED} budget,30 -> ok
+plan last -> {PLAN_30}
+rule,1,1,2 -> ok
+last -> no,12
+plan last -> {PLAN_30}
+row,1,2,1 -> ok
+last -> no,12
+plan last -> {PLAN_30}
+power,4,8 -> ok
+last -> no,12
+plan last -> {PLAN_30}
+worth,3,29 -> ok
+last -> no,12
+plan last -> plan,69,30,3 1,1,1,2,0 2,1,1,2,1 3,1,1,2,1 4,0,1,1,1
+load,4,1,1 -> ok
+last -> no,12
+plan last -> plan,69,30,3 1,1,1,2,0 2,1,1,2,1 3,1,1,2,1 4,0,1,1,1 5,0,2,3,2
+drop,5 -> ok
+last -> no,12
+plan last -> plan,69,30,3 1,1,1,2,0 2,1,1,2,1 3,1,1,2,1 4,0,1,1,1
+budget,29 -> ok
+last -> no,12
+plan last -> plan,40,25,2 1,1,1,2,0 2,1,1,2,1 3,0,1,1,1 4,0,1,1,1
+book,2,2 -> ok
+last -> no,12
+plan last -> no,9
+start,1 -> ok
+last -> no,12
+plan last -> no,9
+end,1 -> ok
+last -> no,12
+plan last -> no,9
+clear -> ok
+last -> no,12
+'''),
+    # ".. even if every table stayed equal."
+    'changes that leave every table equal': session(f'''
+{WORKED} budget,30 -> ok
+plan last -> {PLAN_30}
+start,1 -> ok
+last -> no,12
+plan last -> {PLAN_30}
+start,00002 -> ok
+last -> no,12
+plan last -> {PLAN_30}
+end,2 -> ok
+last -> no,12
+plan last -> {PLAN_30}
+power,1,10 -> ok
+last -> no,12
+plan last -> {PLAN_30}
+worth,4,50 -> ok
+last -> no,12
+plan last -> {PLAN_30}
+budget,30 -> ok
+last -> no,12
+plan last -> {PLAN_30}
+budget,00030 -> ok
+last -> no,12
+save -> clear {BELOW} {CABINET} budget,30
+last -> no,12
+plan last -> {PLAN_30}
+'''),
+    'a book anew that was as empty': session('''
+load,0,1,1 budget,5 book,2,3 -> ok
+plan last -> no,9
+book,2,3 -> ok
+last -> no,12
+plan last -> no,9
+book,2,9 -> no,5
+last -> no,9
+'''),
+    # Tables that come back are no tables that stayed.
+    'a figure changed and changed back': session(f'''
+{WORKED} budget,30 -> ok
+plan last -> {PLAN_30}
+budget,31 budget,30 -> ok
+last -> no,12
+plan last -> {PLAN_30}
+load,4,1,1 drop,5 -> ok
+last -> no,12
+plan last -> {PLAN_30}
+power,2,14 power,2,15 worth,2,41 worth,2,40 -> ok
+last -> no,12
+plan last -> {PLAN_30}
+{BELOW} -> ok
+last -> no,12
+plan last -> {PLAN_30}
+clear {WORKED} budget,30 -> ok
+last -> no,12
+plan last -> {PLAN_30}
+'''),
+    # "Refused commands don't make it old."
+    'refused commands': session(f'''
+{WORKED} budget,30 -> ok
+plan last -> {PLAN_30}
+budget,501 load,5,1,1 load,0,1,1 power,5,1 power,1,501 worth,0,1 worth,1,1001 book,9,1 book,0,0 -> no,5
+last -> {PLAN_30}
+start,3 end,0 rule,3,0,1 rule,1,2,1 row,1,1,3 drop,0 drop,5 check,111 check,00000 -> no,5
+last -> {PLAN_30}
+rule,1,0,2 row,2,2,2 -> no,7
+last -> {PLAN_30}
+drop,1 drop,2 -> no,11
+last -> {PLAN_30}
+check,0100 check,0001 -> no,10
+last -> {PLAN_30}
+plan, Plan clear, budget,-1 check,012 save,1 drop rules,1,1,1 -> no,3
+last -> {PLAN_30}
+{LONG_DROP.decode()} {'clear'.ljust(LINE_BYTES + 1, ',')} -> no,2
+last last -> {PLAN_30}
+save -> clear {BELOW} {CABINET} budget,30
+'''),
+    'lists that are full': session(f'''
+{ALL_ON} {' '.join(STAR)} -> ok
+plan last -> plan,{sum(range(MAX_LOADS + 1))},0,{MAX_LOADS} {' '.join(STAR_RUN)}
+load,1,0,0 load,{MAX_LOADS},500,1000 -> no,6
+last -> plan,{sum(range(MAX_LOADS + 1))},0,{MAX_LOADS} {' '.join(STAR_RUN)}
+drop,{MAX_LOADS} -> ok
+last -> no,12
+'''),
+    # "and no other": what prints something else than `ok`, and is not refused.
+    'checks and saves': session(f'''
+{WORKED} budget,30 -> ok
+check,1110 -> yes 1,1,1,2,0 2,1,1,2,1 3,1,1,2,1 4,0,1,1,1
+last -> no,12
+save -> clear {BELOW} {CABINET} budget,30
+last -> no,12
+plan last -> {PLAN_30}
+check,1111 -> yes 1,1,1,2,0 2,1,1,2,1 3,1,1,2,1 4,1,1,2,1
+last -> {PLAN_30}
+check,0000 -> yes 1,0,1,1,0 2,0,2,3,2 3,0,2,3,2 4,0,2,3,2
+last -> {PLAN_30}
+check,1110 -> yes 1,1,1,2,0 2,1,1,2,1 3,1,1,2,1 4,0,1,1,1
+last -> {PLAN_30}
+save -> clear {BELOW} {CABINET} budget,30
+last -> {PLAN_30}
+'''),
+    # "leaves only these as they were": the tables.
+    'a plan leaves the tables': session(f'''
+{WORKED} budget,30 -> ok
+save -> clear {BELOW} {CABINET} budget,30
+plan last -> {PLAN_30}
+save -> clear {BELOW} {CABINET} budget,30
+last -> {PLAN_30}
+save -> clear {BELOW} {CABINET} budget,30
+budget,32 -> ok
+last -> no,12
+save -> clear {BELOW} {CABINET} budget,32
+plan last -> {PLAN_32}
+'''),
+    # A save holds no plan.
+    'a save that is fed back': session(f'''
+{WORKED} budget,30 -> ok
+plan last -> {PLAN_30}
+save -> clear {BELOW} {CABINET} budget,30
+last -> {PLAN_30}
+clear {BELOW} {CABINET} budget,30 -> ok
+last -> no,12
+save -> clear {BELOW} {CABINET} budget,30
+last -> no,12
+plan last -> {PLAN_30}
+'''),
+    # "12, no current plan": with no loads it is no 4.
+    'no plan of no loads': session(f'''
+last last -> no,12
+plan check,1 -> no,4
+last -> no,12
+clear -> ok
+last -> no,12
+{BELOW} budget,30 -> ok
+last -> no,12
+plan -> no,4
+last -> no,12
+last, -> no,3
+load,0,10,5 -> ok
+last -> no,12
+plan last -> plan,5,10,1 1,1,1,2,0
+drop,1 -> ok
+last -> no,12
+plan -> no,4
+last -> no,12
+save -> clear {BELOW} budget,30
+last -> no,12
+'''),
+    'loads and no book': session('''
+load,0,10,5 load,1,1,1 budget,30 -> ok
+last -> no,12
+plan last last -> no,9
+drop,2 -> ok
+last -> no,12
+'''),
+    'no plan was asked for': session(f'''
+{WORKED} budget,30 -> ok
+last last -> no,12
+check,0100 -> no,10
+last -> no,12
+budget,501 -> no,5
+last -> no,12
+'''),
+    'loads that leave': session(f'''
+{WORKED} budget,30 -> ok
+plan last -> {PLAN_30}
+drop,2 -> no,11
+drop,5 -> no,5
+last -> {PLAN_30}
+drop,4 -> ok
+last -> no,12
+drop,4 -> no,5
+last -> no,12
+plan last -> plan,70,30,3 1,1,1,2,0 2,1,1,2,1 3,1,1,2,1
+drop,3 -> ok
+last -> no,12
+plan last -> plan,40,25,2 1,1,1,2,0 2,1,1,2,1
+drop,2 drop,1 -> ok
+last -> no,12
+'''),
+    # Three loads, eight states and eight stages have cells for a budget of 300, and not for one of 500.
+    'too few cells': session('''
+book,8,8 start,1 end,1 rule,1,1,1 row,1,1,1 load,0,1,1 load,1,2,2 load,1,3,3 budget,500 -> ok
+plan plan -> no,8
+last -> no,12
+plan, -> no,3
+last -> no,12
+budget,300 -> ok
+last -> no,12
+plan last -> plan,6,6,3 1,1,1,1,0 2,1,1,1,1 3,1,1,1,1
+budget,500 -> ok
+last -> no,12
+plan -> no,8
+last -> no,12
+check,111 -> yes 1,1,1,1,0 2,1,1,1,1 3,1,1,1,1
+last -> no,12
+'''),
+    'the empty set is a plan': session(f'''
+{WORKED} budget,9 -> ok
+plan last last -> plan,0,0,0 1,0,1,1,0 2,0,2,3,2 3,0,2,3,2 4,0,2,3,2
+budget,9 -> ok
+last -> no,12
+'''),
+}
+
 # As many loads as there may be, of the greatest worth, that draw nothing.
 RICHEST = ['load,0,0,%d' % MAX_WORTH] + ['load,1,0,%d' % MAX_WORTH] * (MAX_LOADS - 1)
 WORTH_OF_ALL = MAX_WORTH * MAX_LOADS
@@ -432,7 +749,7 @@ plan -> no,9
 '''),
     'the greatest worth': session(f'''
 {ALL_ON} {' '.join(RICHEST)} -> ok
-plan -> plan,{WORTH_OF_ALL},0,{MAX_LOADS} 1,1,1,1,0 {listing(2, 1, 1)}
+plan last -> plan,{WORTH_OF_ALL},0,{MAX_LOADS} 1,1,1,1,0 {listing(2, 1, 1)}
 power,2,{WIDE_BUDGET} budget,{WIDE_BUDGET} -> ok
 plan -> plan,{WORTH_OF_ALL},{WIDE_BUDGET},{MAX_LOADS} 1,1,1,1,0 {listing(2, 1, 1)}
 budget,{WIDE_BUDGET - 1} -> ok
@@ -455,4 +772,6 @@ worth,2,{MAX_WORTH - 1} power,2,5 -> ok
 plan -> plan,{WORTH_OF_ALL - MAX_WORTH},6,{MAX_LOADS - 1} 1,1,3,1,0 2,0,2,3,1 {listing(3, 2, 4)}
 '''),
 }
-EDGES = {**DROP_EDGES, **COOLER_EDGES, **LARGEST_EDGES}
+SORTS = DROP_EDGES, COOLER_EDGES, LAST_EDGES, LARGEST_EDGES
+EDGES = {name: case for edges in SORTS for name, case in edges.items()}
+assert len(EDGES) == sum(map(len, SORTS)), 'two sessions have one name'

@@ -6,7 +6,8 @@
 The input holds sessions of valid and damaged lines, lines of every length around the most that a line may have, lines far longer than any
 buffer, bytes of every value, large cabinets, and a last line with and without its line feed. Each program must also answer a line as soon as
 it is complete, while its input stays open, and print the same where every other read and write is interrupted (a library that is loaded
-before it: interrupted.c). A program that switches ports must have switched them as its plans and its drops say.
+before it: interrupted.c). A program that switches ports must have switched them as its plans and its drops say, and its display must have shown
+the latest plan, and none after a change.
 The last line is 'N passed, M failed'.
 """
 import argparse
@@ -32,7 +33,7 @@ def joined(lines):
 def long_lines(rng):
     """Lines around the most bytes, and far beyond it."""
     lengths = [0, 1, *range(LINE_BYTES - 1, LINE_BYTES + 3), 2 * LINE_BYTES, 255, 256, 257, 4095, 4096, 4097, 20000]
-    lines = [word + b'1' * length for length in lengths for word in (b'check,', b'save', b'drop,')]
+    lines = [word + b'1' * length for length in lengths for word in (b'check,', b'save', b'drop,', b'last')]
     lines += [bytes(rng.choice(b'01,plan\r\x00\xff') for _ in range(length)) for length in lengths]
     return joined(lines + [b'plan'])
 
@@ -40,7 +41,7 @@ def long_lines(rng):
 def every_byte():
     """Each byte alone, before and after a command, but for the line feed that ends a line."""
     bytes_but_feed = [bytes([b]) for b in range(256) if b != 10]
-    commands = (b'plan', b'save', b'budget,1', b'drop,1', b'drop')
+    commands = (b'plan', b'save', b'budget,1', b'drop,1', b'drop', b'last')
     return joined([line for b in bytes_but_feed for line in (b, b + b'plan', *(command + b for command in commands))])
 
 
@@ -53,8 +54,8 @@ def come_and_go(rng):
     """On the fullest cabinet: drops of any loads, of which those without children leave, more loads, and plans between them."""
     lines = []
     for _ in range(3):
-        lines += [b'drop,%d' % rng.randint(0, MAX_LOADS + 1) for _ in range(20)] + [b'plan']
-        lines += [any_load(rng, MAX_LOADS - 20) for _ in range(20)] + [b'plan', b'drop,%d' % (MAX_LOADS - 20), b'save']
+        lines += [b'drop,%d' % rng.randint(0, MAX_LOADS + 1) for _ in range(20)] + [b'last', b'plan', b'last', b'last']
+        lines += [any_load(rng, MAX_LOADS - 20) for _ in range(20)] + [b'last', b'plan', b'drop,%d' % (MAX_LOADS - 20), b'last', b'save']
     return lines
 
 
@@ -65,7 +66,7 @@ def large_cabinet(rng):
     lines += [any_load(rng, count) for count in range(MAX_LOADS + 1)]
     last = CELLS // (4 * MAX_LOADS) - 1
     for budget in (0, 1, 20, last - 1, last, last + 1, MAX_BUDGET):
-        lines += [b'budget,%d' % budget, b'plan', b'check,' + bytes(rng.choice(b'01') for _ in range(MAX_LOADS))]
+        lines += [b'budget,%d' % budget, b'last', b'plan', b'check,' + bytes(rng.choice(b'01') for _ in range(MAX_LOADS)), b'last']
     lines += [b'check,' + b'0' * MAX_LOADS, b'check,' + b'1' * MAX_LOADS, b'save', b'budget,%d' % last]
     return joined(lines + come_and_go(rng))
 
@@ -108,8 +109,8 @@ def endures(program, library):
 
 
 def ports_after(line, answer, on):
-    """The ports that are on after a plan or a drop, those before being these; None after any other line."""
-    if answer[0].startswith('plan,'):
+    """The ports that are on after a plan or a drop, those before being these; None after any other line, `last` among them."""
+    if line == b'plan' and answer[0].startswith('plan,'):
         return [number for number, row in enumerate(answer[1:], 1) if row.split(',')[1] == '1']
     if line.startswith(b'drop,') and answer == ['ok']:
         load = int(line[len(b'drop,'):])
@@ -117,22 +118,36 @@ def ports_after(line, answer, on):
     return None
 
 
-def ports_switched(data, output):
-    """The ports that are on after each plan and each drop of an input, by what was printed for it."""
-    on, found = [], []
+def display_after(line, answer, shown):
+    """What the display shows after a line, if it showed this: what `plan` found, until a change is accepted."""
+    if answer == ['ok']:
+        return 'no current plan'
+    if line == b'plan' and answer == ['no,9']:
+        return 'no set fits'
+    if line == b'plan' and answer[0].startswith('plan,'):
+        return 'worth %s, %s W, %s on' % (*answer[0].split(',')[1:],)
+    return shown
+
+
+def logged_for(data, output):
+    """What is to be logged for an input, by what was printed for it: the ports that are on after each plan and each drop, and what is new on
+    the display."""
+    on, shown, log = [], 'no current plan', []
     for line, answer in zip(data.split(b'\n'), grouped(output.decode().split('\n')[:-1])):
-        after = ports_after(line, answer, on)
-        if after is not None:
-            on = after
-            found.append(on)
-    return found
+        ports, display = ports_after(line, answer, on), display_after(line, answer, shown)
+        if ports is not None:
+            on = ports
+            log.append(' '.join(['ports on:', *map(str, on)]))
+        if display != shown:
+            shown = display
+            log.append('display: ' + shown)
+    return log
 
 
 def switches_ports(program, data):
-    """Are the ports that a program logs those of its plans and drops?"""
+    """Does a program log the ports of its plans and drops, and the latest plan on its display?"""
     ended = subprocess.run([program], input=data, capture_output=True, env={**os.environ, 'SWITCH_LOG': '1'})
-    logged = [[int(port) for port in line.split(b':')[1].split()] for line in ended.stderr.splitlines()]
-    return ended.returncode == 0 and logged == ports_switched(data, ended.stdout)
+    return ended.returncode == 0 and ended.stderr.decode().splitlines() == logged_for(data, ended.stdout)
 
 
 def compared(programs, expected, data, name):
@@ -161,7 +176,7 @@ def main():
     if args.interrupted:
         tests += [('goes on when interrupted', program, endures(program, args.interrupted)) for program in [args.line_program] + args.programs]
     if args.ports:
-        tests += [('switches ports, ' + name, args.ports, switches_ports(args.ports, data)) for name, data in made]
+        tests += [('switches ports and shows plans, ' + name, args.ports, switches_ports(args.ports, data)) for name, data in made]
     for what, program, held in tests:
         if not held:
             print('%s: not so of %s' % (what, program))

@@ -1,7 +1,8 @@
 /*
  * The header against the archive: their versions; the layout, for which the planner's fields are read by their names after the lines of
- * paper 01's session, and the memory after the planner must be as it was; what the header's helpers answer; the session's save, with the
- * free bytes that the header names; and the places of the loads when one leaves and another comes. It is C99, C11 and C++11.
+ * paper 01's session, and the memory after the planner must be as it was; what the header's helpers answer; the outcome of the session's plan,
+ * as it is stored, shown by `last`, wiped, and out of range; the session's save, with the free bytes that the header names; and the places of
+ * the loads when one leaves and another comes. It is C99, C11 and C++11.
  * The last line printed is 'N passed, M failed'.
  */
 #include "hulmeide.h"
@@ -88,6 +89,100 @@ static void expect_helpers(void)
     expect_reply("no output", hulmeide_call_bytes(planner, NULL, 0, NULL, 0, 0, NULL, 0), HULMEIDE_TURNED_AWAY, 0);
 }
 
+/* What is stored of load k: its state, its load rule and its row rule. */
+static void expect_entry(const char *what, size_t load, size_t state, size_t load_rule, size_t row_rule)
+{
+    const struct hulmeide_run *run = &kept.planner.outcome.run;
+    expect(what, run->states[load - 1], state);
+    expect(what, run->load_rules[load - 1], load_rule);
+    expect(what, run->row_rules[load - 1], row_rule);
+}
+
+/* No run: each place of the outcome holds 0, and so does its set. */
+static void expect_no_run(const char *what, size_t kind)
+{
+    const struct hulmeide_outcome *outcome = &kept.planner.outcome;
+    size_t used = 0;
+    for (size_t i = 0; i < HULMEIDE_MAX_LOADS; i++) {
+        used += outcome->run.states[i] != 0 || outcome->run.load_rules[i] != 0 || outcome->run.row_rules[i] != 0;
+    }
+    expect(what, outcome->kind, kind);
+    expect(what, used, 0);
+    expect(what, outcome->run.set, 0);
+}
+
+static void expect_plan(const char *what)
+{
+    const struct hulmeide_outcome *outcome = &kept.planner.outcome;
+    expect(what, outcome->kind, HULMEIDE_OUTCOME_PLANNED);
+    expect_entry("load 1 of a plan", 1, 1, 2, 0);
+    expect_entry("load 2 of a plan", 2, 1, 2, 1);
+    expect_entry("load 3 of a plan", 3, 1, 2, 1);
+    expect_entry("load 4 of a plan", 4, 1, 1, 1);
+    expect_entry("the place after the last load", 5, 0, 0, 0);
+    expect_entry("the last place", HULMEIDE_MAX_LOADS, 0, 0, 0);
+    expect("the set of a plan", outcome->run.set, 7);
+}
+
+/* The session's plan is stored and shown, with no cells, until a change is accepted. A budget of 30 is no other budget, but a change. */
+static void expect_last(void)
+{
+    struct hulmeide_planner *planner = &kept.planner;
+    char planned[HULMEIDE_FREE_BYTES];
+    expect_line("last", HULMEIDE_NO_PLAN, 6);
+    expect_no_run("nothing stored", HULMEIDE_OUTCOME_NOTHING);
+    expect_reply("plan", hulmeide_call_text(planner, "plan", out, sizeof out, 0, work, SESSION_CELLS), HULMEIDE_ACCEPTED, 53);
+    expect_plan("a plan");
+    memcpy(planned, out, 53);
+    memset(out, 0, sizeof out);
+    expect_reply("last", hulmeide_call_text(planner, "last", out, HULMEIDE_FREE_BYTES, 0, NULL, 0), HULMEIDE_ACCEPTED, 53);
+    expect("last is another text", memcmp(out, planned, 53) != 0, 0);
+    expect_reply("one byte less", hulmeide_call_text(planner, "last", out, HULMEIDE_FREE_BYTES - 1, 0, NULL, 0), HULMEIDE_TURNED_AWAY, 0);
+    expect_line("last,1", HULMEIDE_BAD_FORM, 5);
+    expect_line("budget,501", HULMEIDE_OUT_OF_RANGE, 5);
+    expect_line("plan", HULMEIDE_FEW_CELLS, 5);
+    expect_plan("a plan after what was refused");
+    expect_line("budget,30", HULMEIDE_ACCEPTED, 3);
+    expect_no_run("nothing stored after a change", HULMEIDE_OUTCOME_NOTHING);
+    expect_line("last", HULMEIDE_NO_PLAN, 6);
+}
+
+/* That no allowed set fits is stored too: with no start state none is allowed. */
+static void expect_last_of_none(void)
+{
+    struct hulmeide_planner *planner = &kept.planner;
+    planner->book.starts = 0;
+    expect_reply("plan of none", hulmeide_call_text(planner, "plan", out, sizeof out, 0, work, SESSION_CELLS), HULMEIDE_NONE_FITS, 5);
+    expect_no_run("no set stored", HULMEIDE_OUTCOME_NO_SET);
+    expect_line("last", HULMEIDE_NONE_FITS, 5);
+    planner->book.starts = 3;
+    expect_line("last", HULMEIDE_NONE_FITS, 5);
+    expect_line("start,1", HULMEIDE_ACCEPTED, 3);
+    expect_line("last", HULMEIDE_NO_PLAN, 6);
+}
+
+/* An outcome out of range turns every call away, and one in range is shown as it is. Bytes of 0 are no current plan. */
+static void expect_outcome_tested(void)
+{
+    const uint32_t run[] = {1, 2, 0, 1, 2, 1, 1, 2, 1, 1, 1, 1};
+    struct hulmeide_planner *planner = &kept.planner;
+    expect_reply("plan", hulmeide_call_text(planner, "plan", out, sizeof out, 0, work, SESSION_CELLS), HULMEIDE_ACCEPTED, 53);
+    planner->outcome.run.set = 15;
+    expect_line("last", HULMEIDE_ACCEPTED, 54);
+    expect("last of all loads", memcmp(out, "plan,120,37,4\n", 14) != 0, 0);
+    planner->outcome.run.set = 16;
+    expect_line("last", HULMEIDE_TURNED_AWAY, 0);
+    expect_line("save", HULMEIDE_TURNED_AWAY, 0);
+    expect_line("budget,30", HULMEIDE_TURNED_AWAY, 0);
+    expect("judge", hulmeide_judge(planner, run, sizeof run / sizeof *run), HULMEIDE_TURNED_AWAY);
+    planner->outcome.run.set = 7;
+    expect("judge", hulmeide_judge(planner, run, sizeof run / sizeof *run), HULMEIDE_ACCEPTED);
+    expect_line("last", HULMEIDE_ACCEPTED, 53);
+    memset(&planner->outcome, 0, sizeof planner->outcome);
+    expect_line("last", HULMEIDE_NO_PLAN, 6);
+    expect_line("budget,30", HULMEIDE_ACCEPTED, 3);
+}
+
 /* The session's save, with just the free bytes that it needs, and with one less. The session's lines stand in the order of a save. */
 static void expect_save(void)
 {
@@ -148,6 +243,9 @@ int main(void)
     expect_load("load 4", kept.planner.loads.items[3], 2, 7, 50);
     expect_load("load 64", kept.planner.loads.items[HULMEIDE_MAX_LOADS - 1], 0, 0, 0);
     expect("budget", kept.planner.budget, 30);
+    expect_last();
+    expect_last_of_none();
+    expect_outcome_tested();
     expect_helpers();
     expect_save();
     expect_drop();

@@ -5,7 +5,8 @@
 
 Each case is a book and a tree, built line by line, and proposed runs of every sort: runs, what would be runs but for one rule of the paper,
 runs with one number changed, numbers that name nothing, numbers of another width, and too few or too many of them. Numbers are a run exactly
-if the enumeration has them. Then the same numbers are given to oracles that are wrong on purpose, and each must be told apart from the judge.
+if the enumeration has them, whatever outcome the planner stores: none, that of its plan, or any other in range. One with an outcome out of
+range is refusal 1. Then the same numbers are given to oracles that are wrong on purpose, and each must be told apart from the judge.
 The last line is 'N passed, M failed'.
 """
 import argparse
@@ -13,13 +14,22 @@ import random
 import sys
 
 from crosscheck import book_lines, few_runs, tree_lines
-from library import Library, Planner
-from limits import MAX_RULES, MAX_STATES, NOT_A_RUN
+from library import Library, Planner, content_with, held
+from limits import MAX_RULES, MAX_STATES, NOT_A_RUN, NOTHING
 from oracle import Oracle
+from outcomes import with_any_outcome
+from script import keeps_limits
 from wrong_oracles import LeafAlwaysEnds, StageRestarts
 
 
-class AnyRoot(Oracle):
+class Judge(Oracle):
+    """The oracle, asked for its runs and for the planners that it does not turn away."""
+
+    def keeps(self, p):
+        return keeps_limits(p)
+
+
+class AnyRoot(Judge):
     """The root may have any state."""
 
     def tree_runs(self):
@@ -27,7 +37,29 @@ class AnyRoot(Oracle):
             yield from self.branch_runs(1, q)
 
 
-WRONG = [AnyRoot, LeafAlwaysEnds, StageRestarts]
+class LeafEnds(LeafAlwaysEnds, Judge):
+    """The last stage reached need not be an end stage."""
+
+
+class RowRestarts(StageRestarts, Judge):
+    """A row starts its stage anew at each child."""
+
+
+class OutcomeNotTested(Judge):
+    """An outcome out of range is not turned away."""
+
+    def keeps(self, p):
+        return keeps_limits(p.without_outcome())
+
+
+class OutcomeTurnedAway(Judge):
+    """A planner that stores an outcome is turned away."""
+
+    def keeps(self, p):
+        return super().keeps(p) and p.kind == NOTHING
+
+
+WRONG = [AnyRoot, LeafEnds, RowRestarts, OutcomeNotTested, OutcomeTurnedAway]
 PROPOSED = 12  # runs judged in each case
 
 
@@ -36,8 +68,10 @@ def flat(run):
     return tuple(number for k in sorted(run) for number in run[k][1:])
 
 
-def verdict(oracle, runs, numbers):
-    """What the paper says of the numbers, the runs of the tree being these."""
+def verdict(oracle, runs, p, numbers):
+    """What the paper says of the numbers, the planner handed in being this and the runs of the tree these."""
+    if not oracle.keeps(p):
+        return 1
     if not oracle.loads:
         return 4
     if len(numbers) != 3 * len(oracle.loads):
@@ -87,20 +121,26 @@ def cabinet(rng):
             return lines
 
 
-def judged_runs(rng, planner, lines):
-    """Proposed runs of a cabinet, with the judge's answers."""
+def left(planner, lines):
+    """What a planner holds after lines."""
     for line in lines:
         planner.answer(line)
-    oracles = [after(kind(), lines) for kind in [Oracle] + WRONG]
+    return held(planner.state.content())
+
+
+def judged_runs(rng, planner, lines):
+    """Proposed runs of a cabinet, each with the planner handed in and the judge's answer. It has no outcome, that of its plan, or any."""
+    bare, planned = left(planner, lines), left(planner, [b'plan'])
+    oracles = [after(kind(), lines) for kind in [Judge] + WRONG]
     near = sorted(set().union(*(runs_of(oracle) for oracle in oracles)))
-    proposals = [proposal(rng, oracles[0], near) for _ in range(PROPOSED)]
-    return [(numbers, planner.judge(numbers)) for numbers in proposals]
+    asked = [(rng.choice((bare, planned, with_any_outcome(rng, bare))), proposal(rng, oracles[0], near)) for _ in range(PROPOSED)]
+    return [(p, numbers, Planner(planner.library, content_with(p)).judge(numbers)) for p, numbers in asked]
 
 
 def differences(oracle, judged):
     """The judged numbers of which an oracle says something else."""
     runs = runs_of(oracle)
-    return [(numbers, answer) for numbers, answer in judged if verdict(oracle, runs, numbers) != answer]
+    return [(numbers, answer) for p, numbers, answer in judged if verdict(oracle, runs, p, numbers) != answer]
 
 
 def main():
@@ -116,11 +156,11 @@ def main():
         cases.append((lines, judged_runs(rng, planner, lines)))
     failed = 0
     for lines, judged in cases:
-        wrong = differences(after(Oracle(), lines), judged)
+        wrong = differences(after(Judge(), lines), judged)
         failed += bool(wrong)
         for numbers, answer in wrong[:1]:
             print('DIFFERS: the judge says %d of %r after %r' % (answer, numbers, lines))
-    answers = [answer for _, judged in cases for _, answer in judged]
+    answers = [answer for _, judged in cases for *_, answer in judged]
     counts = ', '.join('%d times %d' % (answers.count(a), a) for a in sorted(set(answers)))
     print('%d cabinets, %d proposed runs; answers: %s' % (len(cases), len(answers), counts))
     for kind in WRONG:

@@ -6,7 +6,7 @@ touch.
 import ctypes
 
 import script
-from limits import CELLS, PLANNER_BYTES, SAVE_BYTES, VERSION, Reply, Tables
+from limits import CELLS, PLANNER_BYTES, SAVE_BYTES, VERSION, Reply, StoredPlanner
 
 GUARD = bytes(range(160, 224))
 
@@ -72,27 +72,31 @@ class Planner:
 # ---- A planner's bytes, and the planner of a script (script.py) that they hold
 
 
-def tables_with(p):
+def content_with(p):
     """The bytes of a planner that holds this."""
-    tables = Tables()
-    book, loads = tables.book, tables.loads
+    planner = StoredPlanner()
+    book, loads, run = planner.book, planner.loads, planner.outcome.run
     book.states, book.stages, book.starts, book.ends = p.states, p.stages, p.starts, p.ends
     book.load_rules.items[:], book.load_rules.count = p.load_rules, p.load_rule_count
     book.row_rules.items[:], book.row_rules.count = p.row_rules, p.row_rule_count
     loads.items[:], loads.count = p.loads, p.load_count
-    tables.budget = p.budget
-    return bytes(tables)
+    planner.budget = p.budget
+    planner.outcome.kind, run.set = p.kind, p.set
+    run.states[:], run.load_rules[:], run.row_rules[:] = zip(*p.run)
+    return bytes(planner)
 
 
 def held(content):
     """What the bytes of a planner hold."""
-    tables, p = Tables.from_buffer_copy(content), script.Planner()
-    book, loads = tables.book, tables.loads
+    planner, p = StoredPlanner.from_buffer_copy(content), script.Planner()
+    book, loads, run = planner.book, planner.loads, planner.outcome.run
     p.states, p.stages, p.starts, p.ends = book.states, book.stages, book.starts, book.ends
     p.load_rules, p.load_rule_count = figures(book.load_rules), book.load_rules.count
     p.row_rules, p.row_rule_count = figures(book.row_rules), book.row_rules.count
     p.loads, p.load_count = figures(loads), loads.count
-    p.budget = tables.budget
+    p.budget = planner.budget
+    p.kind, p.set = planner.outcome.kind, run.set
+    p.run = list(zip(run.states, run.load_rules, run.row_rules))
     return p
 
 

@@ -6,19 +6,28 @@
 Each line of a random session is handed to the library with an output full of rubbish, of any length and with any place in it, and with a work
 full of rubbish, of any length. Compared are the number, the count, every byte of the output, every cell of the work and every field of the
 planner. The lines of the save that each session ends with, each with the free bytes that it needs, must make the planner that an
-earlier session left hold the same. The sessions of edges.py, with what the line program lends, must have the answers that stand there, and a
-planner that is wrong on purpose must be told apart in one of them. The last line is 'N passed, M failed'.
+earlier session left hold the same tables and no outcome. Then the planner is handed in with any outcome in the place of its own, in range or
+not. Callers that are wrong on purpose are given the same lines, with the same output and work, and each must be told apart.
+The sessions of edges.py, with what the line program lends, must have the answers that stand there, and planners that are wrong on purpose must
+be told apart in one of them. The last line is 'N passed, M failed'.
 """
 import argparse
 import random
 import sys
+from collections import Counter, namedtuple
 
-from crosscheck import sessions
+import script
+from crosscheck import NAMED, sessions
 from edges import EDGES
-from library import Lent, Library, Planner, held, tables_with
-from limits import FREE_BYTES, LINE_BYTES, PLANNER_BYTES, SAVE_BYTES
-from oracle import Oracle, bytes_needed, parse
-from script import stored
+from library import Lent, Library, Planner, content_with, held
+from limits import FREE_BYTES, NO_SET, NOTHING, PLANNED, PLANNER_BYTES, SAVE_BYTES
+from oracle import Oracle, bytes_needed
+from outcomes import with_any_outcome
+from script import is_plan, number_of, stored
+from wrong_oracles import FewCellsWipe
+
+HANDED_IN = 3  # outcomes that a session's planner is handed in with
+FULLEST = 300  # and that of the fullest cabinet
 
 
 def rubbish(rng, count):
@@ -37,44 +46,173 @@ def lent(rng, line, cells):
     return output, place, rubbish(rng, 4 * rng.choice((cells, cells, cells + 3, max(0, cells - 1))))
 
 
-def expected(oracle, line, output, place, work):
-    """Number, count, output and work after the call, as the paper has them. The oracle reads the line."""
-    if place > len(output) or len(output) - place < bytes_needed(line):
-        return 1, 0, output, work
-    needed, plans = 4 * oracle.cells(), parse(line) == ('plan', []) and len(line) <= LINE_BYTES
-    lines = oracle.answer(line, len(work) // 4)
-    number = int(lines[0][3:]) if lines[0].startswith('no,') else 0
-    text = ''.join(line + '\n' for line in lines).encode()
-    if plans and number in (0, 9):
-        work = bytes(needed) + work[needed:]
-    return number, len(text), output[:place] + text + output[place + len(text):], work
+# ---- what the paper says of a call
+
+
+def text_of(lines):
+    """The bytes of an answer."""
+    return ''.join(line + '\n' for line in lines).encode()
+
+
+def written(output, place, text):
+    """The output after a text was written from a place on."""
+    return output[:place] + text + output[place + len(text):]
+
+
+class Caller(Oracle):
+    """The oracle, called with a line, an output, a place in it and a work."""
+
+    def needed(self, line):
+        """How many bytes must be free."""
+        return bytes_needed(line)
+
+    def turned_away(self, line):
+        """A call that is turned away leaves everything as it was."""
+
+    def zero_cells(self, line, number):
+        """How many cells are 0 after a line with this number, before which the tables were these."""
+        return self.cells() if is_plan(line) and number in (0, 9) else 0
+
+    def call(self, line, output, place, work):
+        """Number, count, output and work after the call."""
+        if place > len(output) or len(output) - place < self.needed(line):
+            self.turned_away(line)
+            return 1, 0, output, work
+        lines = self.answer(line, len(work) // 4)
+        number, text = number_of(lines), text_of(lines)
+        zeros = 4 * self.zero_cells(line, number)
+        return number, len(text), written(output, place, text), bytes(zeros) + work[zeros:]
+
+
+# ---- callers that are wrong on purpose in what no line program can tell
+
+
+class FewCells(FewCellsWipe, Caller):
+    """A plan with too few cells makes the last one old."""
+
+
+class TurnedAwayWipes(Caller):
+    """A call that is turned away makes the last plan old."""
+
+    def turned_away(self, line):
+        self.wipe()
+
+
+class TurnedAwayStores(Caller):
+    """A plan with too few free bytes is stored though it is turned away."""
+
+    def turned_away(self, line):
+        if is_plan(line) and self.loads:
+            self.store(self.plan())
+
+
+class LastFillsWork(Caller):
+    """`last` leaves 0 in a plan's cells."""
+
+    def zero_cells(self, line, number):
+        return self.cells() if line == b'last' and number in (0, 9) else super().zero_cells(line, number)
+
+
+class LastNeedsCells(Caller):
+    """`last` with too few cells for a plan is refused as a plan is."""
+
+    def refusal(self, command, cells):
+        number = super().refusal(command, cells)
+        return 8 if number == 0 and command == ('last', []) and cells < self.cells() else number
+
+
+class LastNeedsRoomOfSave(Caller):
+    """`last` needs as many free bytes as a save."""
+
+    def needed(self, line):
+        return SAVE_BYTES if line == b'last' else super().needed(line)
+
+
+class NoPlanNeedsLittleRoom(Caller):
+    """`last` with no current plan needs no more than the bytes of its answer."""
+
+    def needed(self, line):
+        return len('no,12\n') if line == b'last' and self.outcome == NOTHING else super().needed(line)
+
+
+class NineNeedsLittleRoom(Caller):
+    """`last` after refusal 9 needs no more than the bytes of its answer."""
+
+    def needed(self, line):
+        return len('no,9\n') if line == b'last' and self.outcome == NO_SET else super().needed(line)
+
+
+WRONG = [
+    FewCells, TurnedAwayWipes, TurnedAwayStores, LastFillsWork, LastNeedsCells, LastNeedsRoomOfSave, NoPlanNeedsLittleRoom, NineNeedsLittleRoom,
+]
+
+
+# ---- the calls of a session, and what differs
+
+Call = namedtuple('Call', 'line given got left')  # given: output, place and work; left: the planner
+
+
+def calls_of(rng, planner, lines):
+    """The calls of a session. The tables as the paper has them say how many cells a plan needs."""
+    caller, made = Caller(), []
+    for line in lines:
+        given = lent(rng, line, caller.cells())
+        caller.call(line, *given)
+        made.append(Call(line, given, planner.call(line, *given), held(planner.state.content())))
+    return made
+
+
+def first_fault(caller, calls):
+    """None, or the first of these calls that a caller would see answered otherwise, or after which it holds something else."""
+    for line, given, got, left in calls:
+        want = caller.call(line, *given)
+        if got != want:
+            output, place, work = given
+            return '%r at %d in %d bytes with %d cells: %r for %r' % (line, place, len(output), len(work) // 4, got[:2], want[:2])
+        if not left.same(stored(caller)):
+            return '%r leaves another planner' % line
+    return None
 
 
 def rebuilds(planner, other):
-    """Is each line of a planner's save accepted by another planner, and does that hold the same then?"""
+    """Is each line of a planner's save accepted by another planner, and does that hold the same tables then, and no outcome?"""
     _, count, output, _ = planner.call(b'save', bytes(SAVE_BYTES), 0, b'')
     replies = [other.call(line, bytes(FREE_BYTES), 0, b'')[:2] for line in output[:count].splitlines()]
-    return set(replies) == {(0, len('ok\n'))} and held(other.state.content()).same(held(planner.state.content()))
+    return set(replies) == {(0, len('ok\n'))} and held(other.state.content()).same(held(planner.state.content()).without_outcome())
 
 
-def left_fault(planner, oracle, line):
-    """None, or that a call on a line left another planner than the oracle has, in any place."""
-    return None if held(planner.state.content()).same(stored(oracle)) else '%r leaves another planner' % line
+# ---- planners handed in with any outcome
 
 
-def session_fault(rng, library, other, lines):
-    """None, or the first call of a session that differs, or what its save makes of another planner."""
-    planner, oracle = Planner(library, rubbish(rng, PLANNER_BYTES)).fresh(), Oracle()
+def handed_in_fault(rng, library, p, lines):
+    """None, or the first of the lines after which a planner handed in says or holds something else than the paper has, or the judge does."""
+    room = script.Lent(SAVE_BYTES + rng.randrange(9), 0, rng.randrange(2))
     for line in lines:
-        output, place, work = lent(rng, line, oracle.cells())
-        want = expected(oracle, line, output, place, work)
-        got = planner.call(line, output, place, work)
-        if got != want:
-            return '%r at %d in %d bytes with %d cells: %r for %r' % (line, place, len(output), len(work) // 4, got[:2], want[:2])
-        fault = left_fault(planner, oracle, line)
-        if fault:
-            return fault
-    return None if rebuilds(planner, other) else 'the save after %r does not rebuild the planner' % lines
+        planner, output, reply = Planner(library, content_with(p)), rubbish(rng, room.size), script.reply(p, room, line)
+        got, text = planner.call(line, output, room.place, b''), text_of(reply.lines)
+        want = reply.number, len(text), written(output, room.place, text), b''
+        if got != want or not held(planner.state.content()).same(reply.planner):
+            return '%r on a planner handed in with %r: %r for %r' % (line, (p.kind, p.run[:p.load_count + 1], p.set), got[:2], want[:2])
+    judged = Planner(library, content_with(p)).judge([])
+    return None if judged == int(script.verdict(p, [])) else 'the judge says %d' % judged
+
+
+def outcome_faults(rng, library, p, lines, count, seen):
+    """What is wrong with a planner handed in with so many outcomes by chance. Of those in range what `last` answers is counted."""
+    faults = []
+    for _ in range(count):
+        q = with_any_outcome(rng, p)
+        seen[script.reply(q, script.ROOM, b'last').number] += 1
+        faults.append(handed_in_fault(rng, library, q, lines))
+    return faults
+
+
+def fullest(library):
+    """The fullest cabinet."""
+    planner = Planner(library).fresh()
+    for line in NAMED['the fullest cabinet'][0]:
+        planner.answer(line)
+    return held(planner.state.content())
 
 
 # ---- the sessions by name
@@ -89,8 +227,24 @@ class PlaceKept(Planner):
         after = held(self.state.content())
         if line.startswith(b'drop,') and after.load_count < before.load_count:
             after.loads[after.load_count] = before.loads[after.load_count]
-            self.state = Lent(tables_with(after))
+            self.state = Lent(content_with(after))
         return reply
+
+
+class RunKept(Planner):
+    """A planner that is wrong on purpose: an outcome that is wiped leaves its run."""
+
+    def call(self, line, output, place, work):
+        before = held(self.state.content())
+        reply = super().call(line, output, place, work)
+        after = held(self.state.content())
+        if (before.kind, after.kind) == (PLANNED, NOTHING):
+            after.run = before.run
+            self.state = Lent(content_with(after))
+        return reply
+
+
+WRONG_PLANNERS = [PlaceKept, RunKept]
 
 
 def edge_fault(planner, case):
@@ -101,9 +255,8 @@ def edge_fault(planner, case):
         oracle.answer(line)
         if got != answer:
             return '%r: %r for %r' % (line, got, answer)
-        fault = left_fault(planner, oracle, line)
-        if fault:
-            return fault
+        if not held(planner.state.content()).same(stored(oracle)):
+            return '%r leaves another planner' % line
     return None
 
 
@@ -112,22 +265,56 @@ def edge_faults(kind, library):
     return [edge_fault(kind(library).fresh(), case) for case in EDGES.values()]
 
 
+# ---- all of it
+
+
+class Checked:
+    """What was found: a fault or None for each comparison, the wrong callers that no session told apart yet, and what `last` answered."""
+
+    def __init__(self, rng, library):
+        self.rng = rng
+        self.library = library
+        self.other = Planner(library).fresh()
+        self.faults = []
+        self.untold = set(WRONG)
+        self.seen = Counter()
+
+    def session(self, lines):
+        planner = Planner(self.library, rubbish(self.rng, PLANNER_BYTES)).fresh()
+        calls = calls_of(self.rng, planner, lines)
+        self.faults.append(first_fault(Caller(), calls))
+        self.untold = {caller for caller in self.untold if not first_fault(caller(), calls)}
+        self.faults.append(None if rebuilds(planner, self.other) else 'the save after %r does not rebuild the planner' % lines)
+        asked = (b'last', b'plan', b'save', b'clear', b'budget,501', b'last,', b'check,1')
+        self.faults += outcome_faults(self.rng, self.library, calls[-1].left, asked, HANDED_IN, self.seen)
+
+    def named(self):
+        self.faults += edge_faults(Planner, self.library)
+        self.faults += outcome_faults(self.rng, self.library, fullest(self.library), (b'last', b'save', b'drop,64'), FULLEST, self.seen)
+        untold = sorted(caller.__name__ for caller in self.untold)
+        untold += [kind.__name__ for kind in WRONG_PLANNERS if not any(edge_faults(kind, self.library))]
+        told = len(WRONG) + len(WRONG_PLANNERS) - len(untold)
+        self.faults += [name + ': not told apart' for name in untold] + [None] * told
+
+
 def main():
     options = argparse.ArgumentParser()
     options.add_argument('library')
     options.add_argument('--sessions', type=int, default=1000)
     options.add_argument('--seed', type=int, default=1)
     args = options.parse_args()
-    rng, library = random.Random(args.seed), Library(args.library)
-    cases = [lines for lines, _ in sessions(rng, args.sessions)]
-    other = Planner(library).fresh()
-    faults = [session_fault(rng, library, other, lines) for lines in cases] + edge_faults(Planner, library)
-    faults.append(None if any(edge_faults(PlaceKept, library)) else 'PlaceKept: not told apart')
-    for fault in [f for f in faults if f][:5]:
+    rng = random.Random(args.seed)
+    checked, cases = Checked(rng, Library(args.library)), [lines for lines, _ in sessions(rng, args.sessions)]
+    for lines in cases:
+        checked.session(lines)
+    checked.named()
+    for fault in [f for f in checked.faults if f][:5]:
         print('DIFFERS: ' + fault)
-    failed = sum(fault is not None for fault in faults)
+    failed = sum(fault is not None for fault in checked.faults)
     print('%d calls in %d sessions, and %d sessions by name' % (sum(map(len, cases)), len(cases), len(EDGES)))
-    print('%d passed, %d failed' % (len(faults) - failed, failed))
+    print('%d outcomes handed in; last: %s' % (
+        sum(checked.seen.values()), ', '.join('%d times %d' % (checked.seen[number], number) for number in sorted(checked.seen))))
+    print('%d passed, %d failed' % (len(checked.faults) - failed, failed))
     return 1 if failed else 0
 
 

@@ -16,13 +16,19 @@ HEADER = (ROOT / 'include' / 'hulmeide.h').read_text()
 WRAPPER = (ROOT / 'examples' / 'hulmeide.rs').read_text()
 
 
-def named(pattern):
+def named(pattern, text=HEADER):
     """Each name of the header that a pattern finds, with its value."""
-    return {name: int(value) for name, value in re.findall(pattern, HEADER, re.M)}
+    return {name: int(value) for name, value in re.findall(pattern, text, re.M)}
+
+
+def enumerated(name):
+    """The names of an enum of the header, each with its value."""
+    return named(r'^ +HULMEIDE_(\w+) = (\d+),?$', re.search(r'^enum hulmeide_%s \{\n(.*?)^\};$' % name, HEADER, re.M | re.S).group(1))
 
 
 SIZES = named(r'^#define HULMEIDE_(\w+) (\d+)$')
-NUMBERS = named(r'^ +HULMEIDE_(\w+) = (\d+),?$')
+NUMBERS = enumerated('number')
+KINDS = enumerated('outcome_kind')
 
 LINE_BYTES = SIZES['LINE_BYTES']
 FREE_BYTES = SIZES['FREE_BYTES']
@@ -37,12 +43,16 @@ MAX_POWER = SIZES['MAX_POWER']
 MAX_WORTH = SIZES['MAX_WORTH']
 MAX_BUDGET = SIZES['MAX_BUDGET']
 NOT_A_RUN = NUMBERS['NOT_A_RUN']
+NOTHING, NO_SET, PLANNED = (KINDS['OUTCOME_' + name] for name in ('NOTHING', 'NO_SET', 'PLANNED'))
 VERSION = SIZES['VERSION']
 
 
 # ---- The structs
 
-PLAIN = {'uint8_t': ctypes.c_uint8, 'uint16_t': ctypes.c_uint16, 'uint32_t': ctypes.c_uint32, 'size_t': ctypes.c_size_t}
+PLAIN = {
+    'uint8_t': ctypes.c_uint8, 'uint16_t': ctypes.c_uint16, 'uint32_t': ctypes.c_uint32, 'uint64_t': ctypes.c_uint64,
+    'size_t': ctypes.c_size_t,
+}
 STRUCTS = {}
 
 
@@ -56,9 +66,9 @@ def fields_of(body):
 for found, body in re.findall(r'^struct hulmeide_(\w+) \{\n(.*?)^\};$', HEADER, re.M | re.S):
     STRUCTS[found] = type(found, (ctypes.Structure,), {'_fields_': list(fields_of(body))})
 
-Tables = STRUCTS['planner']  # the planner as C has it
+StoredPlanner = STRUCTS['planner']  # the planner as C has it
 Reply = STRUCTS['reply']
-PLANNER_BYTES = ctypes.sizeof(Tables)
+PLANNER_BYTES = ctypes.sizeof(StoredPlanner)
 
 
 # ---- What the header and the wrapper say besides

@@ -1,4 +1,4 @@
-"""Paper 01 and requests One to Four of paper 02 by plain enumeration: every run of every set, straight from the text. It shares no code with
+"""Paper 01 and requests One to Five of paper 02 by plain enumeration: every run of every set, straight from the text. It shares no code with
 the product, and with the header of the product only the limits.
 
 It is slow on purpose. Trees of up to five or six loads and small books are what it is for.
@@ -6,11 +6,11 @@ It is slow on purpose. Trees of up to five or six loads and small books are what
 import re
 
 from limits import CELLS, FREE_BYTES, LINE_BYTES, SAVE_BYTES
-from limits import MAX_BUDGET, MAX_DIGITS, MAX_LOADS, MAX_POWER, MAX_RULES, MAX_STAGES, MAX_STATES, MAX_WORTH
+from limits import MAX_BUDGET, MAX_DIGITS, MAX_LOADS, MAX_POWER, MAX_RULES, MAX_STAGES, MAX_STATES, MAX_WORTH, NO_SET, NOTHING
 
 WORDS = {
     'clear': 0, 'book': 2, 'start': 1, 'end': 1, 'rule': 3, 'row': 3, 'load': 3, 'power': 2, 'worth': 2, 'budget': 1, 'plan': 0, 'save': 0,
-    'drop': 1,
+    'drop': 1, 'last': 0,
 }
 NUMBER = re.compile(rb'[0-9]{1,%d}\Z' % MAX_DIGITS)
 BITS = re.compile(rb'[01]+\Z')
@@ -41,10 +41,11 @@ def bytes_needed(line):
 
 
 class Oracle:
-    """The tables of a planner, and what each line answers."""
+    """The tables of a planner and the outcome that it stores, and what each line answers."""
 
     def __init__(self):
         self.clear()
+        self.wipe()
 
     def clear(self):
         self.loads = []  # (parent, power, worth), load k at place k - 1
@@ -55,6 +56,24 @@ class Oracle:
         self.states, self.stages = states, stages
         self.starts, self.ends = set(), set()
         self.rules, self.rows = [], []
+
+    # ---- "A plan, or its refusal 9, stores its outcome beside the tables ..; an accepted change wipes it."
+
+    def store(self, run):
+        """The outcome of a plan: a run as enumerated below, or None where no allowed set fits. NO_SET is stored for None."""
+        self.outcome = NO_SET if run is None else run
+
+    def wipe(self):
+        self.outcome = NOTHING
+
+    def shown(self):
+        """What is stored, as `plan` prints it. The figures are those of its set."""
+        if self.outcome == NO_SET:
+            return ['no,9']
+        on = [k for k, entry in self.outcome.items() if entry[0] == 1]
+        worth = sum(self.loads[k - 1][2] for k in on)
+        power = sum(self.loads[k - 1][1] for k in on)
+        return ['plan,%d,%d,%d' % (worth, power, len(on))] + self.lines_of(self.outcome)
 
     # ---- the cases that a deliberately wrong oracle changes
 
@@ -243,7 +262,7 @@ class Oracle:
         return word != 'check' or len(f) == n
 
     def refusal(self, command, cells):
-        """The lowest number that applies, 0 for none, but for 9 and 10."""
+        """The lowest number that applies, 0 for none, but for 9 and 10, which need enumeration or what is stored."""
         if command is None:
             return 3
         word, f = command
@@ -260,6 +279,8 @@ class Oracle:
             return 8
         if word == 'drop' and self.children(f[0]):
             return 11
+        if word == 'last' and self.outcome == NOTHING:
+            return 12
         return 0
 
     def cells(self):
@@ -309,17 +330,15 @@ class Oracle:
             return ['no,%d' % number]
         word, f = command
         if word == 'plan':
-            run = self.plan()
-            if run is None:
-                return ['no,9']
-            on = [k for k in run if run[k][0] == 1]
-            worth = sum(self.loads[k - 1][2] for k in on)
-            power = sum(self.loads[k - 1][1] for k in on)
-            return ['plan,%d,%d,%d' % (worth, power, len(on))] + self.lines_of(run)
+            self.store(self.plan())
+            return self.shown()
+        if word == 'last':
+            return self.shown()
         if word == 'check':
             run = self.check(f)
             return ['no,10'] if run is None else ['yes'] + self.lines_of(run)
         if word == 'save':
             return self.save()
         self.act(word, f)
+        self.wipe()
         return ['ok']

@@ -9,7 +9,7 @@ Each line of a script is one step, a word and what follows it:
     told LINE LINE ..                 calls that set a planner up; only one that is refused is reported
     call LINE LINE ..                 calls, each reported; each is on the planner that the one before left
     judge N N ..                      a run for the judge, three numbers for each load
-    with CHANGE                       calls and a run for the planner with one change from outside, which is then forgotten
+    with CHANGE and CHANGE ..         calls and a run for the planner with changes from outside, which are then forgotten
 
 LINEs are parted by one blank each, so two blanks stand around an empty one. crates/planner_tests/stdin is a script, of every step but `with`.
 tests/damaged is another, where `%` and two digits of base 16 stand for a byte of a LINE. A CHANGE is one of these, with places counted from 0:
@@ -18,17 +18,19 @@ tests/damaged is another, where `%` and two digits of base 16 stand for a byte o
     budget WATTS                      counts LOAD-RULES ROW-RULES LOADS
     rule of sort 1 at place I: STATE MARK STAGE      rule of sort 2 at place I: STAGE STATE NEXT
     load at place I: PARENT POWER WORTH              rubbish (255 in every byte)
+    kind KIND (of the outcome)                       set NUMBER (that holds the outcome's loads)
+    run at place I: STATE LOAD-RULE ROW-RULE (of the outcome)
 """
 import copy
 import re
 import sys
 
-from limits import MAX_BUDGET, MAX_LOADS, MAX_POWER, MAX_RULES, MAX_STAGES, MAX_STATES, MAX_WORTH
-from oracle import Oracle, bytes_needed
+from limits import LINE_BYTES, MAX_BUDGET, MAX_LOADS, MAX_POWER, MAX_RULES, MAX_STAGES, MAX_STATES, MAX_WORTH, NO_SET, NOTHING, PLANNED
+from oracle import Oracle, bytes_needed, parse
 
 NONE = (0, 0, 0)  # what an unused place holds
 WORKED_RUN = [1, 2, 0, 1, 2, 1, 1, 2, 1, 1, 1, 1]
-HANDED_IN = (b'plan', b'', b'clear', b'check,1110', b'save', b'drop,4', b'x' * 99)
+HANDED_IN = (b'last', b'plan', b'', b'clear', b'check,1110', b'save', b'drop,4', b'last,', b'x' * 99)
 
 
 class Planner:
@@ -46,12 +48,21 @@ class Planner:
         self.loads = [NONE] * MAX_LOADS  # (parent, power, worth)
         self.load_count = 0
         self.budget = 0
+        self.kind = NOTHING  # of the outcome
+        self.run = [NONE] * MAX_LOADS  # its (state, load rule, row rule)
+        self.set = 0  # its loads: bit 0 is for load 1
 
     def same(self, other):
         return vars(self) == vars(other)
 
+    def without_outcome(self):
+        """The planner with these tables and no current plan."""
+        other = copy.copy(self)
+        other.kind, other.run, other.set = NOTHING, [NONE] * MAX_LOADS, 0
+        return other
 
-# ---- The limits of "Loads and book"
+
+# ---- The limits of "Loads and book", and "a stored figure out of range for the tables"
 
 
 def marks_on(marks):
@@ -77,7 +88,47 @@ def loads_keep(loads, count):
     return count <= MAX_LOADS and used and all(load == NONE for load in loads[count:])
 
 
-def keeps_limits(p):
+class OutcomeLimits:
+    """What the figures of a stored outcome range over, given tables that keep their limits. wrong_limits.py gets each wrong on purpose."""
+    kinds = NOTHING, NO_SET, PLANNED
+
+    def used(self, p):
+        """The places of the run in use: one for each load, where it is a plan."""
+        return p.load_count if p.kind == PLANNED else 0
+
+    def states(self, p):
+        return range(1, p.states + 1)
+
+    def load_rules(self, p):
+        return range(1, p.load_rule_count + 1)
+
+    def row_rules(self, p, number):
+        """Those of the load with this number. The root has row rule 0."""
+        return range(1) if number == 1 else range(1, p.row_rule_count + 1)
+
+    def unused(self, entries):
+        """May the places that are not in use hold this?"""
+        return all(entry == NONE for entry in entries)
+
+    def sets(self, p):
+        """The numbers that hold a set of loads that are there, where it is a plan."""
+        return range(2 ** self.used(p))
+
+    def entry_keeps(self, p, number, entry):
+        state, rule, row = entry
+        return state in self.states(p) and rule in self.load_rules(p) and row in self.row_rules(p, number)
+
+    def keep(self, p):
+        used = self.used(p)
+        in_range = all(self.entry_keeps(p, k + 1, entry) for k, entry in enumerate(p.run[:used]))
+        return p.kind in self.kinds and in_range and self.unused(p.run[used:]) and p.set in self.sets(p)
+
+
+def keeps_limits(p, outcome=OutcomeLimits()):
+    return tables_keep(p) and outcome.keep(p)
+
+
+def tables_keep(p):
     states = range(1, p.states + 1)
     stages = range(1, p.stages + 1)
     return (
@@ -104,6 +155,8 @@ def tables_of(p):
     tables.rows = p.row_rules[: p.row_rule_count]
     tables.loads = p.loads[: p.load_count]
     tables.budget = p.budget
+    run = {k + 1: (p.set >> k & 1, *entry) for k, entry in enumerate(p.run[: p.load_count])}
+    tables.outcome = run if p.kind == PLANNED else p.kind
     return tables
 
 
@@ -120,6 +173,12 @@ def stored(tables):
     p.row_rules, p.row_rule_count = padded(tables.rows, MAX_RULES), len(tables.rows)
     p.loads, p.load_count = padded(tables.loads, MAX_LOADS), len(tables.loads)
     p.budget = tables.budget
+    if tables.outcome in (NOTHING, NO_SET):
+        p.kind = tables.outcome
+    else:
+        p.kind, run = PLANNED, tables.outcome
+        p.run = padded([run[k][1:] for k in sorted(run)], MAX_LOADS)
+        p.set = sum(run[k][0] << (k - 1) for k in run)
     return p
 
 
@@ -155,6 +214,10 @@ def number_of(answer):
     return int(refused.group(1)) if refused else 0
 
 
+def is_plan(line):
+    return len(line) <= LINE_BYTES and parse(line) == ('plan', [])
+
+
 def reply(p, lent, line):
     if not keeps_limits(p) or not lent.has_room(line):
         return Reply(p, 1, [], 0)
@@ -162,8 +225,7 @@ def reply(p, lent, line):
     cells_of_plan = tables.cells()
     answer = tables.answer(line, lent.cells)
     number = number_of(answer)
-    planned = answer[0].startswith('plan,') or number == 9
-    return Reply(stored(tables), number, answer, cells_of_plan if planned else 0)
+    return Reply(stored(tables), number, answer, cells_of_plan if is_plan(line) and number in (0, 9) else 0)
 
 
 # ---- The judge
@@ -199,11 +261,19 @@ def fill(p):
     p.loads = [(2**8 - 1, 2**16 - 1, 2**16 - 1)] * MAX_LOADS
     p.load_rule_count = p.row_rule_count = p.load_count = 2**64 - 1
     p.budget = 2**16 - 1
+    p.kind, p.run, p.set = 2**8 - 1, [(2**8 - 1,) * 3] * MAX_LOADS, 2**64 - 1
 
 
-def changed(p, change):
-    """The planner with one change: a word and numbers, as `marks 7 3`. Places are counted from 0."""
+def changed(p, changes):
+    """The planner with each of these changes."""
     q = copy.deepcopy(p)
+    for change in changes:
+        make(q, change)
+    return q
+
+
+def make(q, change):
+    """Makes a change to a planner: a word and numbers, as `marks 7 3`. Places are counted from 0."""
     name = change.split(' ')[0]
     n = numbers(change)
     if name == 'size':
@@ -219,11 +289,16 @@ def changed(p, change):
         rules[n[1]] = tuple(n[2:])
     elif name == 'load':
         q.loads[n[0]] = tuple(n[1:])
+    elif name == 'kind':
+        (q.kind,) = n
+    elif name == 'set':
+        (q.set,) = n
+    elif name == 'run':
+        q.run[n[0]] = tuple(n[1:])
     elif name == 'rubbish':
         fill(q)
     else:
         sys.exit('no such change: ' + change)
-    return q
 
 
 # ---- The steps of a script
@@ -281,7 +356,7 @@ class Script:
         elif word == 'judge':
             self.judged(self.planner, numbers(line), verdict(self.planner, numbers(line)))
         elif word == 'with':
-            self.handed_in(changed(self.planner, ' '.join(rest)))
+            self.handed_in(changed(self.planner, ' '.join(rest).split(' and ')))
         elif word != '#':
             sys.exit('no such step: ' + line)
 

@@ -4,20 +4,23 @@
   scriptcheck.py LIBRARY.so SCRIPT..
 
 Compared are the number, the count, every byte of the output, every cell of the work and every field of the planner after each call, and the
-judge's answer on each run. The last line is 'N passed, M failed'.
+judge's answer on each run. Which planners were turned away, in calls and by the judge, must tell the limits of a stored outcome from such as
+are wrong on purpose (wrong_limits.py). The last line is 'N passed, M failed'.
 """
 import argparse
 import sys
 from pathlib import Path
 from urllib.parse import unquote_to_bytes
 
-from library import Library, Planner, held, tables_with
-from limits import NOT_A_RUN
-from script import Script
+from library import Library, Planner, content_with, held
+from limits import NOT_A_RUN, NUMBERS
+from script import Script, keeps_limits
+from wrong_limits import WRONG
 
 RUBBISH_BYTE = b'\xaa'
 RUBBISH_CELL = b'rubb'
 VERDICTS = {'yes': 0, 'no': NOT_A_RUN}
+TURNED_AWAY = NUMBERS['TURNED_AWAY']
 
 
 class Compared(Script):
@@ -27,6 +30,7 @@ class Compared(Script):
         super().__init__()
         self.library = library
         self.passed = self.failed = 0
+        self.called_with, self.judged_with = [], []  # planners, each with whether it was turned away by itself
 
     def line_of(self, word):
         return unquote_to_bytes(word)
@@ -38,18 +42,32 @@ class Compared(Script):
             print('DIFFERS: %s: %r, not %r' % (what, got, want))
 
     def called(self, p, lent, line, reply, every):
-        planner = Planner(self.library, tables_with(p))
+        planner = Planner(self.library, content_with(p))
         text = ''.join(line + '\n' for line in reply.lines).encode()
         output, work = RUBBISH_BYTE * lent.size, RUBBISH_CELL * lent.cells
         want_output = output[:lent.place] + text + output[lent.place + len(text):]
         want_work = bytes(4 * reply.zero_cells) + work[4 * reply.zero_cells:]
         got = planner.call(line, output, lent.place, work)
+        if lent.has_room(line):
+            self.called_with.append((p, got[0] == TURNED_AWAY))
         self.compare(line, got, (reply.number, len(text), want_output, want_work))
         self.compare('the planner after %r' % line, vars(held(planner.state.content())), vars(reply.planner))
 
     def judged(self, p, run, verdict):
-        got = Planner(self.library, tables_with(p)).judge(run)
+        got = Planner(self.library, content_with(p)).judge(run)
+        self.judged_with.append((p, got == TURNED_AWAY))
         self.compare('judge %r' % run, got, VERDICTS[verdict] if verdict in VERDICTS else int(verdict))
+
+
+def told_apart(limits, handed_in):
+    """Was some planner turned away though it keeps these limits, or the other way round?"""
+    return any(keeps_limits(p, limits()) == away for p, away in handed_in)
+
+
+def untold(scripts):
+    """The wrong limits that neither calls nor the judge, or not both of them, tell apart."""
+    by_calls, by_judge = [one for s in scripts for one in s.called_with], [one for s in scripts for one in s.judged_with]
+    return [limits.__name__ for limits in WRONG if not told_apart(limits, by_calls) or not told_apart(limits, by_judge)]
 
 
 def main():
@@ -57,13 +75,17 @@ def main():
     options.add_argument('library')
     options.add_argument('scripts', nargs='+', type=Path)
     args = options.parse_args()
-    library, passed, failed = Library(args.library), 0, 0
+    library, scripts = Library(args.library), []
     for path in args.scripts:
-        script = Compared(library)
-        script.follow(path.read_text())
-        passed, failed = passed + script.passed, failed + script.failed
-    print('%d passed, %d failed' % (passed, failed))
-    return 1 if failed or not passed else 0
+        scripts.append(Compared(library))
+        scripts[-1].follow(path.read_text())
+    missed = untold(scripts)
+    for name in missed:
+        print('%s: not told apart' % name)
+    passed, failed = sum(script.passed for script in scripts), sum(script.failed for script in scripts)
+    print('%d comparisons, and %d wrong limits, of which %d are told apart' % (passed + failed, len(WRONG), len(WRONG) - len(missed)))
+    print('%d passed, %d failed' % (passed + len(WRONG) - len(missed), failed + len(missed)))
+    return 1 if failed or missed or not passed else 0
 
 
 if __name__ == '__main__':

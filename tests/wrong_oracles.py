@@ -1,6 +1,6 @@
 """Oracles that are wrong on purpose, each in one place. A comparison that cannot tell them from the product would show nothing."""
-from limits import CELLS, MAX_BUDGET, MAX_LOADS
-from oracle import Oracle
+from limits import CELLS, MAX_BUDGET, MAX_LOADS, NO_SET, NOTHING
+from oracle import Oracle, parse
 
 
 def with_fields(line, change):
@@ -200,6 +200,7 @@ class RefusedDropTaken(Oracle):
         number = super().refusal(command, cells)
         if number == 11:
             self.drop(dropped(command))
+            self.wipe()
         return number
 
 
@@ -348,14 +349,284 @@ class PowerIntoWorth(Oracle):
         return greatest(runs, allowance, lambda worth, power: (256 * worth - power, 0))
 
 
-# Those that are wrong in a drop that has its form, and all of them.
+class NumberWipes(Oracle):
+    """Refusals with a number wipe the outcome. Those below name the number."""
+    number = 0
+
+    def answer(self, line, cells=CELLS):
+        answer = super().answer(line, cells)
+        if answer == ['no,%d' % self.number]:
+            self.wipe()
+        return answer
+
+
+class LongLineWipes(NumberWipes):
+    """A line that is too long wipes the outcome."""
+    number = 2
+
+
+class BrokenLineWipes(NumberWipes):
+    """A line that breaks its form wipes the outcome."""
+    number = 3
+
+
+class OutOfRangeWipes(NumberWipes):
+    """A value out of its range wipes the outcome."""
+    number = 5
+
+
+class FullWipes(NumberWipes):
+    """A load for which there is no place wipes the outcome."""
+    number = 6
+
+
+class SameRuleWipes(NumberWipes):
+    """A rule that is there already wipes the outcome."""
+    number = 7
+
+
+class FewCellsWipe(NumberWipes):
+    """A plan with too few cells wipes the outcome."""
+    number = 8
+
+
+class NoneFitsNotStored(NumberWipes):
+    """A plan's refusal 9 is not stored, and `last` says 12 then."""
+    number = 9
+
+
+class NotAllowedWipes(NumberWipes):
+    """A checked set that is not allowed wipes the outcome."""
+    number = 10
+
+
+class ParentWipes(NumberWipes):
+    """A drop of a load with children wipes the outcome."""
+    number = 11
+
+
+class WordWipes(Oracle):
+    """A command that shows something wipes the outcome. Those below name the word."""
+    word = ''
+
+    def answer(self, line, cells=CELLS):
+        answer = super().answer(line, cells)
+        if parse(line) and parse(line)[0] == self.word and not answer[0].startswith('no,'):
+            self.wipe()
+        return answer
+
+
+class AllowedWipes(WordWipes):
+    """A checked set that is allowed wipes the outcome."""
+    word = 'check'
+
+
+class SaveWipes(WordWipes):
+    """A save wipes the outcome."""
+    word = 'save'
+
+
+class LastWipes(WordWipes):
+    """`last` shows a plan once."""
+    word = 'last'
+
+
+class Keeps(Oracle):
+    """Accepted changes keep the outcome, of the loads that are still there, where `keeps` says so."""
+
+    def keeps(self, word, saved):
+        """Does a change by this word keep the outcome? The tables before it are those of the save."""
+
+    def answer(self, line, cells=CELLS):
+        saved, outcome = self.save(), self.outcome
+        answer = super().answer(line, cells)
+        if answer == ['ok'] and self.keeps(parse(line)[0], saved):
+            is_run = outcome not in (NOTHING, NO_SET)
+            self.outcome = {k: entry for k, entry in outcome.items() if k <= len(self.loads)} if is_run else outcome
+        return answer
+
+
+class EqualTablesKeep(Keeps):
+    """A change that leaves every table equal keeps the outcome."""
+
+    def keeps(self, word, saved):
+        return self.save() == saved
+
+
+class SecondMarkKeeps(Keeps):
+    """A second `start` or `end` keeps the outcome."""
+
+    def keeps(self, word, saved):
+        return word in ('start', 'end') and self.save() == saved
+
+
+class SameFigureKeeps(Keeps):
+    """A power or a worth that was the same keeps the outcome."""
+
+    def keeps(self, word, saved):
+        return word in ('power', 'worth') and self.save() == saved
+
+
+class SameBudgetKeeps(Keeps):
+    """A budget that was the same keeps the outcome."""
+
+    def keeps(self, word, saved):
+        return word == 'budget' and self.save() == saved
+
+
+class SameBookKeeps(Keeps):
+    """A new book in the place of one that was as empty keeps the outcome."""
+
+    def keeps(self, word, saved):
+        return word == 'book' and self.save() == saved
+
+
+class NoneFitsKept(Keeps):
+    """A change wipes a plan, and not that no allowed set fits."""
+
+    def keeps(self, word, saved):
+        return self.none_fitted
+
+    def answer(self, line, cells=CELLS):
+        self.none_fitted = self.outcome == NO_SET
+        return super().answer(line, cells)
+
+
+def keeping(word):
+    """The oracle in which changes by a word keep the outcome."""
+    return type(word.title() + 'Keeps', (Keeps,), {'keeps': lambda self, found, saved: found == word})
+
+
+class TablesComeBack(Oracle):
+    """The outcome is that of the tables for which it was stored, and current again where they come back."""
+
+    def store(self, run):
+        super().store(run)
+        self.planned = self.save(), self.outcome
+
+    def answer(self, line, cells=CELLS):
+        answer = super().answer(line, cells)
+        if answer == ['ok'] and getattr(self, 'planned', (None,))[0] == self.save():
+            self.outcome = self.planned[1]
+        return answer
+
+
+class CheckStores(Oracle):
+    """A checked set that is allowed is stored as if it were planned."""
+
+    def check(self, bits):
+        run = super().check(bits)
+        if run is not None:
+            self.store(run)
+        return run
+
+
+class RefusedCheckStores(Oracle):
+    """A checked set that is not allowed is stored as if none fitted."""
+
+    def check(self, bits):
+        run = super().check(bits)
+        if run is None:
+            self.store(run)
+        return run
+
+
+class FewCellsStored(Oracle):
+    """A plan with too few cells is stored as if no allowed set fitted."""
+
+    def answer(self, line, cells=CELLS):
+        answer = super().answer(line, cells)
+        if answer == ['no,8']:
+            self.store(None)
+        return answer
+
+
+class LastNumber(Oracle):
+    """`last` with no current plan has another number than 12. Those below name it."""
+    number = 12
+
+    def refusal(self, command, cells):
+        number = super().refusal(command, cells)
+        return self.number if number == 12 else number
+
+
+class NoPlanIsNine(LastNumber):
+    """`last` with no current plan says that no allowed set fits."""
+    number = 9
+
+
+class NoPlanIsFive(LastNumber):
+    """`last` with no current plan is told as a value out of its range."""
+    number = 5
+
+
+class LastNeedsLoads(Oracle):
+    """`last` with no loads is refused as a plan is."""
+
+    def refusal(self, command, cells):
+        return 4 if command == ('last', []) and not self.loads else super().refusal(command, cells)
+
+
+class LastIsPlan(Oracle):
+    """`last` plans anew."""
+
+    def answer(self, line, cells=CELLS):
+        return super().answer(b'plan' if line == b'last' else line, cells)
+
+
+class LastPlansIfNone(Oracle):
+    """`last` plans where no plan is current and there are loads."""
+
+    def answer(self, line, cells=CELLS):
+        return super().answer(b'plan' if line == b'last' and self.outcome == NOTHING and self.loads else line, cells)
+
+
+class FirstLineAlone(Oracle):
+    """`last` shows the first line of a plan alone."""
+
+    def answer(self, line, cells=CELLS):
+        answer = super().answer(line, cells)
+        return answer[:1] if line == b'last' else answer
+
+
+class LastIsYes(Oracle):
+    """`last` shows its run as a check does."""
+
+    def answer(self, line, cells=CELLS):
+        answer = super().answer(line, cells)
+        return ['yes', *answer[1:]] if line == b'last' and answer[0].startswith('plan,') else answer
+
+
+class LastTakesFields(Oracle):
+    """`last` may have fields."""
+
+    def answer(self, line, cells=CELLS):
+        return super().answer(b'last' if line.startswith(b'last,') else line, cells)
+
+
+class LastUnknown(Oracle):
+    """`last` is no command, as it was before request Five."""
+
+    def answer(self, line, cells=CELLS):
+        return super().answer(b'' if line == b'last' else line, cells)
+
+
+# Those that are wrong in a drop that has its form, those that are wrong in `last`, and all of them. FewCellsWipe is not among them: with the
+# line program's cells a plan that was stored is never refused with 8 (librarycheck.py).
 WRONG_DROPS = [
     ParentsStay, OwnNumberFalls, NextNumberFalls, LowerNumberFalls, LastIntoGap, ParentDropped, RootDropped, RefusedDropTaken, ChildrenFirst,
     OutOfRangeWithChildren, NoDropOfNoLoads, PlaceLost, PlaceNotCleared,
+]
+WRONG_LASTS = [
+    LongLineWipes, BrokenLineWipes, OutOfRangeWipes, FullWipes, SameRuleWipes, NoneFitsNotStored, NotAllowedWipes, ParentWipes, AllowedWipes,
+    SaveWipes, LastWipes, EqualTablesKeep, SecondMarkKeeps, SameFigureKeeps, SameBudgetKeeps, SameBookKeeps, NoneFitsKept,
+    *map(keeping, ('clear', 'book', 'start', 'end', 'rule', 'row', 'load', 'power', 'worth', 'budget', 'drop')), TablesComeBack, CheckStores,
+    RefusedCheckStores, FewCellsStored, NoPlanIsNine, NoPlanIsFive, LastNeedsLoads, LastIsPlan, LastPlansIfNone, FirstLineAlone, LastIsYes,
+    LastTakesFields, LastUnknown,
 ]
 WRONG = [
     StageRestarts, LeafAlwaysEnds, HighestFirst, PowerKept, FirstBudget, StoresNothing, ZerosBarred, ZerosNotCounted,
     EndsFirst, RowsFirst, MarksDescend, BookOfNone, NoBudgetOfNone, PaddedSave, NoSaveOfNoLoads, SaveTakesFields, DropTakesMore, *WRONG_DROPS,
     WorthAlone, PowerAtRootAlone, BranchesByWorth, RowsByWorth, WarmerOfEquals, PowerBeforeWorth, FewerLoads, OffDraws, WholeBudgetIsNone,
-    PowerIntoWorth,
+    PowerIntoWorth, *WRONG_LASTS,
 ]

@@ -1,0 +1,45 @@
+"""Outcomes by chance, in range and out of it, for planners that are handed in."""
+from limits import MAX_LOADS, NO_SET, NOTHING, PLANNED
+from script import padded
+
+
+def near(rng, most):
+    """A figure from 0 to a greatest one, or just past its range."""
+    return rng.choice((0, 1, most, most + 1, rng.randint(0, most), 255))
+
+
+def any_run(rng, p):
+    """An entry for each load, in range for the tables but no run of them, or none where nothing is in range."""
+    if not p.states or not p.load_rule_count or p.load_count > 1 and not p.row_rule_count:
+        return []
+    figures = [(p.states, p.load_rule_count, p.row_rule_count if k else 0) for k in range(p.load_count)]
+    return [tuple(rng.randint(min(1, most), most) for most in mosts) for mosts in figures]
+
+
+def damage(rng, q):
+    """Changes one figure of an outcome."""
+    place = rng.choice((0, max(0, q.load_count - 1), min(q.load_count, MAX_LOADS - 1), rng.randrange(MAX_LOADS), MAX_LOADS - 1))
+    state, rule, row = q.run[place]
+    figure = rng.choice(('state', 'rule', 'row', 'set', 'kind'))
+    if figure == 'state':
+        q.run[place] = near(rng, q.states), rule, row
+    elif figure == 'rule':
+        q.run[place] = state, near(rng, q.load_rule_count), row
+    elif figure == 'row':
+        q.run[place] = state, rule, near(rng, q.row_rule_count)
+    elif figure == 'set':
+        q.set ^= 1 << place
+    else:
+        q.kind = rng.choice((NOTHING, NO_SET, PLANNED, PLANNED + 1, 255))
+
+
+def with_any_outcome(rng, p):
+    """The planner with an outcome by chance, mostly a plan. In half of them one figure is changed."""
+    q = p.without_outcome()
+    q.kind = rng.choice((NOTHING, NO_SET, *6 * [PLANNED]))
+    if q.kind == PLANNED:
+        q.run = padded(any_run(rng, p), MAX_LOADS)
+        q.set = rng.choice((0, 2**p.load_count - 1, rng.randrange(2**p.load_count)))
+    if rng.random() < 0.5:
+        damage(rng, q)
+    return q

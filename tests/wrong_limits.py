@@ -1,0 +1,283 @@
+"""Limits of a stored outcome (script.py) that are wrong on purpose, each in one place. A script that cannot tell them from the product's would
+show nothing."""
+from limits import MAX_LOADS, NO_SET, NOTHING, PLANNED
+from script import NONE, OutcomeLimits, verdict
+
+
+class KindMore(OutcomeLimits):
+    """There is one kind more."""
+    kinds = *OutcomeLimits.kinds, PLANNED + 1
+
+
+class KindNotTested(OutcomeLimits):
+    """A kind may be any number."""
+    kinds = range(256)
+
+
+class NoSetBarred(OutcomeLimits):
+    """That no allowed set fits may not be stored."""
+    kinds = NOTHING, PLANNED
+
+
+class StateNone(OutcomeLimits):
+    """A load may have state 0."""
+
+    def states(self, p):
+        return range(p.states + 1)
+
+
+class StateMore(OutcomeLimits):
+    """A load may have one state more."""
+
+    def states(self, p):
+        return range(1, p.states + 2)
+
+
+class StateFewer(OutcomeLimits):
+    """No load may have the last state."""
+
+    def states(self, p):
+        return range(1, p.states)
+
+
+class StateAsStage(OutcomeLimits):
+    """There are as many states as stages."""
+
+    def states(self, p):
+        return range(1, p.stages + 1)
+
+
+class LoadRuleNone(OutcomeLimits):
+    """A load may have load rule 0."""
+
+    def load_rules(self, p):
+        return range(p.load_rule_count + 1)
+
+
+class LoadRuleMore(OutcomeLimits):
+    """A load may have one load rule more."""
+
+    def load_rules(self, p):
+        return range(1, p.load_rule_count + 2)
+
+
+class LoadRuleFewer(OutcomeLimits):
+    """No load may have the last load rule."""
+
+    def load_rules(self, p):
+        return range(1, p.load_rule_count)
+
+
+class SortsMixed(OutcomeLimits):
+    """There are as many load rules as row rules."""
+
+    def load_rules(self, p):
+        return range(1, p.row_rule_count + 1)
+
+
+class RowRuleNone(OutcomeLimits):
+    """Every load may have row rule 0."""
+
+    def row_rules(self, p, number):
+        return range(1) if number == 1 else range(p.row_rule_count + 1)
+
+
+class RowRuleMore(OutcomeLimits):
+    """A load may have one row rule more."""
+
+    def row_rules(self, p, number):
+        return range(1) if number == 1 else range(1, p.row_rule_count + 2)
+
+
+class RowRuleFewer(OutcomeLimits):
+    """No load may have the last row rule."""
+
+    def row_rules(self, p, number):
+        return range(1) if number == 1 else range(1, p.row_rule_count)
+
+
+class RootWithRowRule(OutcomeLimits):
+    """The root may have a row rule."""
+
+    def row_rules(self, p, number):
+        return range(p.row_rule_count + 1) if number == 1 else super().row_rules(p, number)
+
+
+class RootOnlyWithRowRule(OutcomeLimits):
+    """The root has a row rule as the others have."""
+
+    def row_rules(self, p, number):
+        return range(1, p.row_rule_count + 1)
+
+
+class RootNotTested(OutcomeLimits):
+    """The figures of the root are not tested."""
+
+    def entry_keeps(self, p, number, entry):
+        return number == 1 or super().entry_keeps(p, number, entry)
+
+
+class LastNotTested(OutcomeLimits):
+    """The figures of the last load are not tested."""
+
+    def entry_keeps(self, p, number, entry):
+        return number == p.load_count or super().entry_keeps(p, number, entry)
+
+
+class LastPlaceNotTested(OutcomeLimits):
+    """The last place of all is not tested."""
+
+    def entry_keeps(self, p, number, entry):
+        return number == MAX_LOADS or super().entry_keeps(p, number, entry)
+
+
+class UnusedNotTested(OutcomeLimits):
+    """The places beyond the loads may hold anything."""
+
+    def unused(self, entries):
+        return True
+
+
+class UnusedStateAlone(OutcomeLimits):
+    """Of the places beyond the loads the states alone are tested."""
+
+    def unused(self, entries):
+        return all(entry[0] == 0 for entry in entries)
+
+
+class UnusedRulesNotTested(OutcomeLimits):
+    """Of the places beyond the loads the load rules are not tested."""
+
+    def unused(self, entries):
+        return all((state, row) == (0, 0) for state, _, row in entries)
+
+
+class UnusedRowsNotTested(OutcomeLimits):
+    """Of the places beyond the loads the row rules are not tested."""
+
+    def unused(self, entries):
+        return all((state, rule) == (0, 0) for state, rule, _ in entries)
+
+
+class UnusedStatesNotTested(OutcomeLimits):
+    """Of the places beyond the loads the states are not tested."""
+
+    def unused(self, entries):
+        return all((rule, row) == (0, 0) for _, rule, row in entries)
+
+
+class FirstUnusedNotTested(OutcomeLimits):
+    """The first place beyond the loads is not tested."""
+
+    def unused(self, entries):
+        return super().unused(entries[1:])
+
+
+class LastUnusedNotTested(OutcomeLimits):
+    """The last place beyond the loads is not tested."""
+
+    def unused(self, entries):
+        return super().unused(entries[:-1])
+
+
+class SetNotTested(OutcomeLimits):
+    """The set may have any loads."""
+
+    def sets(self, p):
+        return range(2**64)
+
+
+class SetWithNextLoad(OutcomeLimits):
+    """The set may have the load after the last."""
+
+    def sets(self, p):
+        return range(2 ** (self.used(p) + 1))
+
+
+class SetNotEmpty(OutcomeLimits):
+    """The set of a plan has a load."""
+
+    def sets(self, p):
+        return range(p.kind == PLANNED, 2 ** self.used(p))
+
+
+class SetWithoutPlan(OutcomeLimits):
+    """The set may have loads where no plan is stored."""
+
+    def sets(self, p):
+        return range(2**p.load_count)
+
+
+class RunWithoutPlan(OutcomeLimits):
+    """The run may have figures where no plan is stored."""
+
+    def used(self, p):
+        return p.load_count if p.run[0] != NONE else super().used(p)
+
+
+class NothingNotTested(OutcomeLimits):
+    """Where nothing is stored, run and set may be anything."""
+
+    def keep(self, p):
+        return p.kind == NOTHING or super().keep(p)
+
+
+class NoSetNotTested(OutcomeLimits):
+    """Where no allowed set fits, run and set may be anything."""
+
+    def keep(self, p):
+        return p.kind == NO_SET or super().keep(p)
+
+
+class PlanOfLoads(OutcomeLimits):
+    """A plan may be stored only where there are loads."""
+
+    def keep(self, p):
+        return super().keep(p) and (p.kind != PLANNED or p.load_count > 0)
+
+
+class NoSetOfLoads(OutcomeLimits):
+    """That no allowed set fits may be stored only where there are loads."""
+
+    def keep(self, p):
+        return super().keep(p) and (p.kind != NO_SET or p.load_count > 0)
+
+
+class WithinBudget(OutcomeLimits):
+    """The set that is stored draws no more than the budget."""
+
+    def keep(self, p):
+        power = sum(load[1] for k, load in enumerate(p.loads) if p.set >> k & 1)
+        return super().keep(p) and power <= p.budget
+
+
+class MarksOfRules(OutcomeLimits):
+    """The set that is stored is that of the load rules' marks."""
+
+    def keep(self, p):
+        return super().keep(p) and all(p.load_rules[rule - 1][1] == p.set >> k & 1 for k, (_, rule, _) in enumerate(p.run) if rule)
+
+
+class StatesOfRules(OutcomeLimits):
+    """Each load rule that is stored begins with the state beside it."""
+
+    def keep(self, p):
+        return super().keep(p) and all(p.load_rules[rule - 1][0] == state for state, rule, _ in p.run if rule)
+
+
+class RunOfTables(OutcomeLimits):
+    """What is stored is a run of the tables, if these are small enough to enumerate."""
+
+    def keep(self, p):
+        small = 0 < p.load_count <= 4 and p.load_rule_count <= 4
+        return super().keep(p) and (p.kind != PLANNED or not small or verdict(p, sum(map(list, p.run[:p.load_count]), [])) == 'yes')
+
+
+class NotTested(OutcomeLimits):
+    """An outcome is not tested at all."""
+
+    def keep(self, p):
+        return True
+
+
+WRONG = OutcomeLimits.__subclasses__()
