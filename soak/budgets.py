@@ -32,6 +32,8 @@ def asking(entering, power):
 
 def fault(plan, answers):
     """What is wrong with the answers to such lines, where this plan was shown, or None."""
+    if len(answers) < 3:
+        return 'an answer to each line'
     worth, power = figures(plan)
     *taken, again, lowered, less = answers
     if any(answer != ['ok'] for answer in [*taken, lowered]):
@@ -46,6 +48,7 @@ def fault(plan, answers):
 CAMERA = ['plan,20,6,2', '1,1,1,2,0', '2,1,1,2,1', '3,0,1,1,1']
 RIGHT = [['ok'], CAMERA, ['ok'], ['plan,0,0,0', '1,0,1,1,0', '2,0,2,3,2', '3,0,2,3,2']]
 WRONG = {
+    'no answers to plans': [],
     'a line of a save refused': [['no,5'], *RIGHT[1:]],
     'no plan with a budget of its power': [RIGHT[0], ['no,9'], *RIGHT[2:]],
     'another set of that worth and power': [RIGHT[0], ['plan,20,6,2', '1,1,1,2,0', '2,0,1,1,1', '3,1,1,2,1'], *RIGHT[2:]],

@@ -7,19 +7,21 @@ from edges import BELOW  # of tests/, which model.py put on the path
 
 SEASON = 150  # lines
 SEASONS = (
-    {b'load': 30, b'power': 2, b'worth': 2, b'budget': 1, b'plan': 2, b'check': 2, b'save': 1},
-    {b'start': 2, b'end': 2, b'rule': 20, b'row': 20, b'load': 3, b'plan': 2, b'check': 2, b'save': 1},
-    {b'start': 1, b'end': 1, b'rule': 5, b'row': 5, b'load': 2, b'power': 5, b'worth': 5, b'budget': 5, b'plan': 8, b'check': 5, b'save': 1},
-    {b'book': 1, b'start': 6, b'end': 6, b'rule': 8, b'row': 8, b'load': 1, b'budget': 2, b'plan': 2, b'check': 2, b'save': 1},
-    {b'load': 20, b'drop': 20, b'power': 1, b'worth': 1, b'budget': 2, b'plan': 3, b'check': 3, b'save': 2},
-    {b'load': 10, b'drop': 20, b'rule': 3, b'row': 3, b'budget': 2, b'plan': 2, b'check': 2, b'save': 1},
+    {b'load': 30, b'power': 2, b'worth': 2, b'budget': 1, b'plan': 2, b'check': 2, b'save': 1, b'last': 1},
+    {b'start': 2, b'end': 2, b'rule': 20, b'row': 20, b'load': 3, b'plan': 2, b'check': 2, b'save': 1, b'last': 1},
+    {b'start': 1, b'end': 1, b'rule': 5, b'row': 5, b'load': 2, b'power': 5, b'worth': 5, b'budget': 5, b'plan': 8, b'check': 5, b'save': 1,
+     b'last': 3},
+    {b'book': 1, b'start': 6, b'end': 6, b'rule': 8, b'row': 8, b'load': 1, b'budget': 2, b'plan': 2, b'check': 2, b'save': 1, b'last': 1},
+    {b'load': 20, b'drop': 20, b'power': 1, b'worth': 1, b'budget': 2, b'plan': 3, b'check': 3, b'save': 2, b'last': 1},
+    {b'load': 10, b'drop': 20, b'rule': 3, b'row': 3, b'budget': 2, b'plan': 2, b'check': 2, b'save': 1, b'last': 1},
     {word: 1 for word in (*RANGES, b'check')},
 )
 OTHER_WORDS = (
-    b'', b'Plan', b'plans', b'pla', b'save', b'saves', b'drop', b'Drop', b'drops', b'dro', b' drop', b'last', b'need', b'rules', b'check1',
-    b'cler', b'0', b'no', b'ok',
+    b'', b'Plan', b'plans', b'pla', b'save', b'saves', b'drop', b'Drop', b'drops', b'dro', b' drop', b'last', b'Last', b'lasts', b'las',
+    b'need', b'rules', b'check1', b'cler', b'0', b'no', b'ok',
 )
-ASKED = (b'save', b'plan', b'check')  # after a drop; they change nothing
+ASKED = (b'save', b'last', b'plan', b'last', b'check')  # after a drop; they change no table
+POLLED = 0.3  # how often `last` comes after a line before or after which an outcome is stored
 # The greatest values of a line's last fields, power and worth, in a season in which many sets are equal in worth.
 EQUALS = {b'load': (3, 1), b'power': (3,), b'worth': (1,)}
 STRAY = bytes((0, 1, 9, 11, 13, 32, 34, 43, 44, 45, 46, 47, 48, 49, 57, 58, 65, 97, 127, 128, 255))
@@ -141,7 +143,7 @@ def made_long(rng, line):
     """The line filled up to a length at or past the limit, in form or not."""
     length = rng.choice(LONG)
     filling = rng.choice((b'0', b'1', b',', b' ', b'x', b'\0'))
-    return rng.choice((line, b'check,', b'budget,', b'save')).ljust(length, filling)
+    return rng.choice((line, b'check,', b'budget,', b'save', b'last')).ljust(length, filling)
 
 
 def noise(rng, line):
@@ -182,9 +184,16 @@ def dropped(taken):
     return values[0] if number == 0 and word == b'drop' else None
 
 
+def after(rng, model, line, equals):
+    """What follows a line, which the model takes: the words of ASKED after a drop, and often `last` where an outcome is stored or was."""
+    stored = model.stored
+    if dropped(model.take(line)):
+        return [line_of(rng, model, word, equals) for word in ASKED]
+    return [b'last'] if (stored or model.stored) and rng.random() < POLLED else []
+
+
 def season(rng, model):
-    """The lines of a season. The model takes each, so that the next one is written for the tables in force. After a drop the words of ASKED
-    follow."""
+    """The lines of a season. The model takes each, so that the next one is written for the tables in force."""
     weights, equals = rng.choice(SEASONS), rng.random() < 0.4
     words, shares = list(weights), list(weights.values())
     lines = first_lines(rng, model)
@@ -194,9 +203,10 @@ def season(rng, model):
         line = line_of(rng, model, rng.choices(words, shares)[0], equals)
         if rng.random() < 0.2:
             line = rng.choice(DAMAGE)(rng, line)
-        lines.append(line)
-        if dropped(model.take(line)):
-            lines += [line_of(rng, model, word, equals) for word in ASKED]
+        following = after(rng, model, line, equals)
+        for next_line in following:
+            model.take(next_line)
+        lines += [line, *following]
     return lines
 
 
@@ -222,11 +232,30 @@ def cameras(*powers):
     return [b'clear', *BELOW.encode().split(), *loads, b'budget,%d' % max(powers), b'plan']
 
 
+# Lines that leave the last plan of a feed with two cameras as it is, and lines that do not, though they leave every table equal.
+LEFT = (
+    b'budget,501', b'drop,4', b'power,4,1', b'rule,1,0,2', b'row,2,2,2', b'drop,1', b'check,110', b'check,101', b'check,011', b'save', b'last',
+    b'plan', b'plan,', b'', b'last,', b'clear'.ljust(Model.most_bytes + 1, b','),
+)
+WIPED = (b'start,1', b'end,2', b'power,2,9', b'worth,3,20', b'budget,9')
+
+
+def polled():
+    """The last plan of a feed with two cameras after lines of every sort and after each word that can change, and with no loads and too few
+    cells."""
+    lines = [b'last', b'plan', b'last', *cameras(9, 6), b'last']
+    lines += [line for one in LEFT for line in (one, b'last')] + [line for one in WIPED for line in (one, b'last', b'plan', b'last')]
+    changes = (b'rule,1,1,2', b'row,1,2,1', b'load,1,1,1', b'drop,4', b'book,2,2', b'book,2,2', b'clear', b'clear')
+    lines += [line for one in changes for line in (one, b'last', b'plan', b'last')]
+    return lines + [b'book,1,1', b'load,0,0,0', b'plan', b'last'] + [b'load,1,0,0'] * (Model.most_loads - 1) + [
+        b'budget,%d' % Model.most_budget, b'plan', b'last', b'budget,0', b'last', b'plan', b'load,1,0,0', b'last']
+
+
 def seldom():
     """What random lines seldom have, in a session of its own."""
     sizes = [b'book,%d,1' % (Model.most_states + 1), b'book,1,%d' % (Model.most_stages + 1)]
     others = [b'\0plan', b'\0budget,1', b'check,', b'save']
-    return sizes + one_rule_more() + all_cells() + others + cameras(9, 6) + cameras(6, 9)
+    return sizes + one_rule_more() + all_cells() + others + cameras(9, 6) + cameras(6, 9) + polled()
 
 
 def session(rng, model, count):

@@ -1,7 +1,8 @@
-"""A plain model of the planner's tables, straight from papers 01 and 02: what each line changes, the refusals that the tables settle, and the
-lines of a save.
+"""A plain model of the planner's tables, straight from papers 01 and 02: what each line changes, the refusals that the tables settle, the lines
+of a save, and whether the outcome of a plan is stored.
 
-It does no planning and shares no code with the product, nor with tests/oracle.py; the limits are those of the header, by tests/limits.py.
+It does no planning, so what the outcome is it does not know; that is held to what was printed for the plan (soak.py). It shares no code with
+the product, nor with tests/oracle.py; the limits are those of the header, by tests/limits.py.
 The limits and the steps that wrong.py gets wrong on purpose are attributes and methods of their own.
 """
 import sys
@@ -12,7 +13,7 @@ import limits  # noqa: E402
 
 
 class Model:
-    """The tables, and what a line does to them."""
+    """The tables and whether an outcome is stored, and what a line does to them."""
 
     most_bytes = limits.LINE_BYTES
     most_digits = limits.MAX_DIGITS
@@ -28,6 +29,7 @@ class Model:
 
     def __init__(self):
         self.clear()
+        self.stored = False
 
     # ---- "A fresh planner has 0 states and stages, no rules, no loads and budget 0"
 
@@ -74,7 +76,7 @@ class Model:
         values = [self.number(field) for field in fields]
         return None if None in values else (word, values)
 
-    # ---- "Causes and numbers", from 4 to 8, and 11
+    # ---- "Causes and numbers", from 4 to 8, 11 and 12
 
     def in_range(self, word, values):
         if word == b'check':
@@ -113,6 +115,8 @@ class Model:
             return 8
         if word == b'drop' and self.has_children(values[0]):
             return 11
+        if word == b'last' and not self.stored:
+            return 12
         return 0
 
     # ---- "Lines": the effect of an accepted line
@@ -176,10 +180,19 @@ class Model:
         """The lines of a save."""
         return [b','.join([word] + [b'%d' % value for value in values]) for word, values in self.rebuilding()]
 
+    # ---- "A plan, or its refusal 9, stores its outcome beside the tables ..; an accepted change wipes it."
+
+    def stores(self, number, word):
+        """Does a line with this number and word store an outcome? What number a plan has that planning alone can tell makes no difference."""
+        return number == 0 and word == b'plan'
+
+    def wipes(self, number, word):
+        return number == 0 and word in EFFECTS
+
     # ---- a line
 
-    def take(self, line):
-        """Takes a line: the number that the tables settle, the word and its values. An accepted change is made."""
+    def settle(self, line):
+        """The number of a line that the tables settle, its word and its values. An accepted change is made."""
         if len(line) > self.most_bytes:
             return 2, None, None
         command = self.read(line)
@@ -189,6 +202,12 @@ class Model:
         number = self.cause(word, values)
         if number == 0 and word in EFFECTS:
             getattr(self, EFFECTS[word])(*values)
+        return number, word, values
+
+    def take(self, line):
+        """Takes a line: the number that the tables settle, the word and its values."""
+        number, word, values = self.settle(line)
+        self.stored = self.stores(number, word) or self.stored and not self.wipes(number, word)
         return number, word, values
 
 
@@ -207,9 +226,10 @@ RANGES = {
     b'plan': lambda t: (),
     b'save': lambda t: (),
     b'drop': lambda t: ((1, len(t.loads)),),
+    b'last': lambda t: (),
 }
 
-# The method that makes each change; `plan`, `check` and `save` change nothing.
+# The method that makes each change; `plan`, `check`, `save` and `last` change no table.
 EFFECTS = {
     b'clear': 'clear', b'book': 'book', b'start': 'start', b'end': 'end', b'rule': 'rule', b'row': 'row',
     b'load': 'load', b'power': 'power', b'worth': 'worth', b'budget': 'set_budget', b'drop': 'drop',

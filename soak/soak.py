@@ -3,13 +3,15 @@
 
   soak.py PROGRAM [--lines N] [--seed S] [--wrong NAME]
 
-Every answer to a change, every refusal from 2 to 8, every 11 and every save is compared. Of a plan or a check that the tables do not refuse,
-the answer must be 9 or 10, or a run of the set it shows, line for line (shown.py). Every number that a word can be answered with must come up.
+Every answer to a change, every refusal from 2 to 8, every 11 and 12 and every save is compared. Of a plan or a check that the tables do not
+refuse, the answer must be 9 or 10, or a run of the set it shows, line for line (shown.py). The last plan must be what was printed for the
+latest one, where the model has one stored. Every number that a word can be answered with must come up.
 After a drop a save, a plan and a check are asked for. Another process, fed the tree without that load, must answer the same.
-Plans are asked for again, of another process, with a budget of just their power and with a watt less (budgets.py).
+Plans are asked for again, of another process, with a budget of just their power and with a watt less (budgets.py); and where the last plan was
+shown, the tables in force are fed to another process, whose plan must be the same (latest.py).
 Then the same lines are given to models that are wrong on purpose (wrong.py), and each must be told apart from the program.
 With --wrong NAME the wrong model takes the right one's place, and the run is to fail.
-Answers to plans asked for again that are wrong on purpose must be told apart too.
+Answers to plans asked for again and anew that are wrong on purpose must be told apart too.
 The last line is 'N passed, M failed': sessions, kinds of answers, wrong models and answers.
 """
 import argparse
@@ -20,6 +22,7 @@ import time
 from collections import Counter
 
 import budgets
+import latest
 import lines
 import shown
 from model import EFFECTS, Model
@@ -34,7 +37,7 @@ KEPT = 20  # sessions that the wrong models are given
 KINDS = {
     b'clear': (0,), b'book': (0, 5), b'start': (0, 5), b'end': (0, 5), b'rule': (0, 5, 6, 7), b'row': (0, 5, 6, 7), b'load': (0, 5, 6),
     b'power': (0, 5), b'worth': (0, 5), b'budget': (0, 5), b'plan': (0, 4, 8, 9), b'check': (0, 4, 5, 10), b'save': (0,), b'drop': (0, 5, 11),
-    None: (2, 3),
+    b'last': (0, 9, 12), None: (2, 3),
 }
 
 
@@ -45,11 +48,19 @@ def printed_by(program, session, ended):
     return out.split(b'\n')
 
 
-def expected(model, line):
-    """What the model says of a line: its number, its word, its values, and the lines printed, None where that needs planning."""
+def number_in(answer):
+    """The number of a refusal that is printed, 0 for another answer."""
+    return int(answer[3:]) if answer.startswith(b'no,') else 0
+
+
+def expected(model, line, planned):
+    """What the model says of a line: its number, its word, its values, and the lines printed, None where that needs planning. What was printed
+    for the latest plan is `planned`."""
     number, word, values = model.take(line)
     if number:
         return number, word, values, [b'no,%d' % number]
+    if word == b'last':
+        return number_in(planned[0]), word, values, planned
     if word == b'save':
         return number, word, values, model.saved()
     return number, word, values, [b'ok'] if word in EFFECTS else None
@@ -57,18 +68,20 @@ def expected(model, line):
 
 def compare(model, session, printed, seen):
     """Counts the answers by word and number; the lines printed for each line, and the first difference, or None."""
-    at, parts = 0, []
+    at, parts, planned = 0, [], [b'no plan']
     for line in session:
-        number, word, values, answer = expected(model, line)
+        number, word, values, answer = expected(model, line, planned)
         if answer is None:
             fault, kind, count = shown.read(model, word, values, printed, at)
-            number = int(kind[3:]) if kind.startswith(b'no,') else 0
+            number = number_in(kind)
         else:
             count = len(answer)
             fault = None if printed[at:at + count] == answer else repr(answer)
         parts.append(printed[at:at + count])
         if fault:
             return parts, '%r: expected %s, printed %r' % (line, fault, parts[-1])
+        if word == b'plan' and answer is None:
+            planned = parts[-1]
         seen[word, number] += 1
         at += count
     return parts, None if printed[at:] == [b''] else 'past the last answer: %r' % printed[at:]
@@ -102,12 +115,13 @@ def fed(ask, session, parts):
 
 
 def asked_anew(program, session, parts):
-    """How many trees without a load and how many plans another process was asked about, and what differs, or None."""
+    """How many trees without a load, how many plans and how many last plans another process was asked about, and what differs, or None."""
     def ask(given):
         return printed_by(program, given, ended=bool(given))[:-1]
     trees, same = fed(ask, session, parts)
     plans, fault = budgets.compared(ask, session, parts)
-    return trees, plans, fault if same else 'a tree that was entered without a load that left'
+    lasts, other = latest.compared(ask, session, parts)
+    return {'drops': trees, 'plans': plans, 'lasts': lasts}, fault or other if same else 'a tree that was entered without a load that left'
 
 
 def sessions(args, rng):
@@ -125,8 +139,8 @@ def run_sessions(args, kind):
         printed = printed_by(args.program, session, ended=rng.random() < 0.5 or session[-1] == b'')
         parts, difference = compare(kind(), session, printed, seen)
         if difference is None:
-            trees, plans, difference = asked_anew(args.program, session, parts)
-            asked.update(drops=trees, plans=plans)
+            counts, difference = asked_anew(args.program, session, parts)
+            asked.update(counts)
         agree += difference is None
         differ += difference is not None
         if difference and differ <= 5:
@@ -146,12 +160,12 @@ def answers(seen):
 
 
 def told_apart(kept):
-    """How many wrong models differ from the program in a kept session, with the wrong answers of budgets.py, and how many do not."""
+    """How many wrong models differ from the program in a kept session, with the wrong answers of budgets.py and latest.py; how many do not."""
     untold = [name for name, kind in WRONG.items()
-              if not any(compare(kind(), session, printed, Counter())[1] for session, printed in kept)] + budgets.untold()
+              if not any(compare(kind(), session, printed, Counter())[1] for session, printed in kept)] + budgets.untold() + latest.untold()
     for name in untold:
         print('%s: not told apart' % name)
-    return len(WRONG) + len(budgets.WRONG) - len(untold), len(untold)
+    return len(WRONG) + len(budgets.WRONG) + len(latest.WRONG) - len(untold), len(untold)
 
 
 def main():
@@ -164,8 +178,9 @@ def main():
     began = time.monotonic()
     agree, differ, seen, asked, kept = run_sessions(args, WRONG[args.wrong] if args.wrong else Model)
     seconds = time.monotonic() - began
-    print('%d lines in %d sessions, seed %d, %d drops compared, %d plans asked for again: %d sessions differ; %.1f s'
-          % (args.lines, agree + differ, args.seed, asked['drops'], asked['plans'], differ, seconds))
+    print('%d lines in %d sessions, seed %d, %d drops compared, %d plans asked for again, %d last plans asked for anew'
+          % (args.lines, agree + differ, args.seed, asked['drops'], asked['plans'], asked['lasts']))
+    print('%d sessions differ; %.1f s' % (differ, seconds))
     present, missing = answers(seen)
     told, untold = told_apart(kept)
     print('%d kinds of answers seen, %d missing; %d wrong models and answers told apart, %d not' % (present, missing, told, untold))

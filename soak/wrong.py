@@ -431,4 +431,174 @@ class PlaceLost(Model):
         return super().full(word) or word == b'load' and self.entered >= self.most_loads
 
 
+class LongLineWipes(Model):
+    """A line that is too long wipes the outcome."""
+
+    def wipes(self, number, word):
+        return number == 2 or super().wipes(number, word)
+
+
+class BrokenLineWipes(Model):
+    """A line that breaks its form wipes the outcome."""
+
+    def wipes(self, number, word):
+        return number == 3 or super().wipes(number, word)
+
+
+class OutOfRangeWipes(Model):
+    """A value out of its range wipes the outcome."""
+
+    def wipes(self, number, word):
+        return number == 5 or super().wipes(number, word)
+
+
+class FullWipes(Model):
+    """A load or a rule for which there is no place wipes the outcome."""
+
+    def wipes(self, number, word):
+        return number == 6 or super().wipes(number, word)
+
+
+class SameRuleWipes(Model):
+    """A rule that is there already wipes the outcome."""
+
+    def wipes(self, number, word):
+        return number == 7 or super().wipes(number, word)
+
+
+class HasChildrenWipes(Model):
+    """A drop of a load with children wipes the outcome."""
+
+    def wipes(self, number, word):
+        return number == 11 or super().wipes(number, word)
+
+
+class CheckWipes(Model):
+    """A check wipes the outcome."""
+
+    def wipes(self, number, word):
+        return number == 0 and word == b'check' or super().wipes(number, word)
+
+
+class SaveWipes(Model):
+    """A save wipes the outcome."""
+
+    def wipes(self, number, word):
+        return word == b'save' or super().wipes(number, word)
+
+
+class LastWipes(Model):
+    """`last` shows an outcome once."""
+
+    def wipes(self, number, word):
+        return word == b'last' or super().wipes(number, word)
+
+
+class PlanNotStored(Model):
+    """A plan stores nothing."""
+
+    def stores(self, number, word):
+        return False
+
+
+class CheckStored(Model):
+    """A check stores an outcome as a plan does."""
+
+    def stores(self, number, word):
+        return number == 0 and word == b'check' or super().stores(number, word)
+
+
+class FewCellsStored(Model):
+    """A plan with too few cells stores an outcome."""
+
+    def stores(self, number, word):
+        return number == 8 or super().stores(number, word)
+
+
+class NoLoadsStored(Model):
+    """A plan with no loads stores an outcome."""
+
+    def stores(self, number, word):
+        return number == 4 and word == b'plan' or super().stores(number, word)
+
+
+class EqualTablesKeep(Model):
+    """A change that leaves every table equal keeps the outcome."""
+
+    def settle(self, line):
+        before = self.saved()
+        settled = super().settle(line)
+        self.equal = before == self.saved()
+        return settled
+
+    def wipes(self, number, word):
+        return super().wipes(number, word) and not self.equal
+
+
+class SameBudgetKeeps(Model):
+    """A budget that was the same keeps the outcome."""
+
+    def settle(self, line):
+        self.before = self.budget
+        return super().settle(line)
+
+    def wipes(self, number, word):
+        return super().wipes(number, word) and not (word == b'budget' and self.budget == self.before)
+
+
+class SecondMarkKeeps(Model):
+    """A mark that was there keeps the outcome."""
+
+    def settle(self, line):
+        before = len(self.starts), len(self.ends)
+        settled = super().settle(line)
+        self.equal = before == (len(self.starts), len(self.ends))
+        return settled
+
+    def wipes(self, number, word):
+        return super().wipes(number, word) and not (word in (b'start', b'end') and self.equal)
+
+
+class TablesComeBack(Model):
+    """The outcome is that of the tables for which it was stored, and current again where they come back."""
+
+    def take(self, line):
+        taken = super().take(line)
+        self.planned = self.saved() if self.stores(*taken[:2]) else getattr(self, 'planned', None)
+        self.stored = self.stored or self.planned == self.saved()
+        return taken
+
+
+class LastNeedsLoads(Model):
+    """`last` with no loads is refused as a plan is."""
+
+    def cause(self, word, values):
+        return 4 if word == b'last' and not self.loads else super().cause(word, values)
+
+
+class NineForTwelve(Model):
+    """`last` with no current plan says that no allowed set fits."""
+
+    def cause(self, word, values):
+        number = super().cause(word, values)
+        return 9 if number == 12 else number
+
+
+class LastTakesFields(Model):
+    """`last` may have a field."""
+
+    def read(self, line):
+        return super().read(b'last' if line.startswith(b'last,') else line)
+
+
+def keeping(words):
+    """The model in which changes by some words keep the outcome."""
+    def wipes(self, number, word):
+        return Model.wipes(self, number, word) and word not in words
+    name = ''.join(word.decode().title() for word in words) + 'Keeps'
+    return type(name, (Model,), {'wipes': wipes})
+
+
+CHANGES = (b'clear',), (b'book',), (b'start', b'end'), (b'rule',), (b'row',), (b'load',), (b'power',), (b'worth',), (b'budget',), (b'drop',)
+KEEPING = [keeping(words) for words in CHANGES]
 WRONG = {kind.__name__: kind for kind in Model.__subclasses__()}
