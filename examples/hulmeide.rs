@@ -6,7 +6,7 @@ use std::mem::{size_of, MaybeUninit};
 // ---- Version, sizes and numbers, as include/hulmeide.h has them: tests/limits.py compares the two.
 
 /// The version of the header that this wrapper is for: major * 10000 + minor * 100 + patch.
-pub const VERSION: u32 = 10400;
+pub const VERSION: u32 = 10500;
 
 /// A line has at most this many bytes, its line feed not counted.
 pub const LINE_BYTES: usize = 80;
@@ -14,7 +14,7 @@ pub const LINE_BYTES: usize = 80;
 /// A number in a line has at most this many digits, zeros in front of it among them: such zeros change nothing.
 pub const MAX_DIGITS: usize = 5;
 
-/// So many bytes must be free in the output from the place on, for every line but `save`.
+/// So many bytes must be free in the output from the place on, for every line but `save`, of `last` too.
 pub const FREE_BYTES: usize = 1024;
 
 /// So many must be free for `save`. An output of this length is enough for every line.
@@ -32,10 +32,11 @@ pub const MAX_POWER: usize = 500;
 pub const MAX_WORTH: usize = 1000;
 pub const MAX_BUDGET: usize = 500;
 
-const PLANNER_BYTES: usize = 616;
+const PLANNER_BYTES: usize = 824;
 const NOT_A_RUN: u32 = 255;
 
-/// Why a line, or numbers that were to be judged, were refused. A refusal leaves the planner as it was.
+/// Why a line, or numbers that were to be judged, were refused. A refusal leaves the planner as it was, but that [`Refusal::NoneFits`] of a
+/// plan stores its outcome.
 #[derive(Clone, Copy, Debug, PartialEq, Eq)]
 pub enum Refusal {
     TurnedAway = 1,
@@ -49,6 +50,7 @@ pub enum Refusal {
     NoneFits = 9,
     NotAllowed = 10,
     HasChildren = 11,
+    NoPlan = 12,
 }
 
 // ---- The planner, laid out as the header has it.
@@ -86,13 +88,30 @@ struct Loads {
     count: usize,
 }
 
-/// The planner's tables. They are changed by lines alone.
+#[repr(C)]
+#[derive(Clone)]
+struct Run {
+    states: [u8; MAX_LOADS],
+    load_rules: [u8; MAX_LOADS],
+    row_rules: [u8; MAX_LOADS],
+    set: u64,
+}
+
+#[repr(C)]
+#[derive(Clone)]
+struct Outcome {
+    kind: u8,
+    run: Run,
+}
+
+/// The planner's tables, and the outcome of its latest plan. They are changed by lines alone.
 #[repr(C)]
 #[derive(Clone)]
 pub struct Planner {
     book: Book,
     loads: Loads,
     budget: u16,
+    outcome: Outcome,
 }
 
 const _: () = assert!(size_of::<Planner>() == PLANNER_BYTES);
@@ -127,7 +146,7 @@ extern "C" {
 }
 
 impl Refusal {
-    const ALL: [Refusal; 11] = [
+    const ALL: [Refusal; 12] = [
         Refusal::TurnedAway,
         Refusal::LongLine,
         Refusal::BadForm,
@@ -139,9 +158,10 @@ impl Refusal {
         Refusal::NoneFits,
         Refusal::NotAllowed,
         Refusal::HasChildren,
+        Refusal::NoPlan,
     ];
 
-    /// Its number, 1 to 11, as the line `no,N` prints it.
+    /// Its number, 1 to 12, as the line `no,N` prints it.
     pub fn number(self) -> u32 {
         self as u32
     }
@@ -160,6 +180,7 @@ impl Refusal {
             Refusal::NoneFits => "no allowed set fits the budget",
             Refusal::NotAllowed => "the set is not allowed",
             Refusal::HasChildren => "the load has children",
+            Refusal::NoPlan => "no current plan",
         }
     }
 
@@ -184,7 +205,8 @@ pub fn version() -> u32 {
 }
 
 impl Planner {
-    /// A fresh planner: no book, no rules, no loads, and budget 0. Panics where the archive is of another version than this wrapper.
+    /// A fresh planner: no book, no rules, no loads, budget 0, and no current plan. Panics where the archive is of another version than this
+    /// wrapper.
     pub fn new() -> Planner {
         assert_eq!(version(), VERSION, "the archive's version and the wrapper's");
         let mut planner = MaybeUninit::uninit();
@@ -225,6 +247,13 @@ impl Planner {
     pub fn save<'a>(&mut self, out: &'a mut [u8; SAVE_BYTES]) -> &'a [u8] {
         let answer = self.call(b"save", out, 0, &mut []);
         &out[..answer.count]
+    }
+
+    /// The latest plan, its lines each with its line feed, as `last` shows it: without planning anew. It changes nothing. It is refused with
+    /// [`Refusal::NoneFits`] where the plan was, and with [`Refusal::NoPlan`] where a change was accepted since, or no plan was asked for.
+    pub fn last<'a>(&mut self, out: &'a mut [u8; FREE_BYTES]) -> Result<&'a [u8], Refusal> {
+        let answer = self.call(b"last", out, 0, &mut []);
+        answer.refusal.map_or(Ok(&out[..answer.count]), Err)
     }
 
     /// Takes out a load, as `drop` does. It is refused where there is no such load, or where it has children. The numbers above its own fall

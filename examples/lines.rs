@@ -1,6 +1,6 @@
 //! The line program again, in Rust over the safe wrapper: lines from standard input, answers to standard output.
 
-use hulmeide::{Planner, Refusal, LINE_BYTES, LINE_PROGRAM_CELLS, SAVE_BYTES};
+use hulmeide::{Planner, Refusal, FREE_BYTES, LINE_BYTES, LINE_PROGRAM_CELLS, SAVE_BYTES};
 use std::io::{self, BufRead, Write};
 
 /// Of a line that is too long one byte more is kept than a line may have.
@@ -65,6 +65,25 @@ fn drops_alike(mut before: Planner, line: &[u8], refusal: Option<Refusal>) -> bo
     u8::try_from(load).map_or(Some(Refusal::OutOfRange), |load| before.drop_load(load).err()) == refusal
 }
 
+/// The latest plan after a line, if one is current then, that before it being this: `plan` stores its answer, a refusal for want of a set too,
+/// an accepted change wipes it, and any other line leaves it.
+fn latest_after(latest: Option<String>, line: &[u8], text: &str) -> Option<String> {
+    match text {
+        "ok\n" => None,
+        _ if line == b"plan" && (text == "no,9\n" || text.starts_with("plan,")) => Some(text.to_string()),
+        _ => latest,
+    }
+}
+
+/// Does `last` show this plan, or refuse as it did, or say that none is current? The planner stays as it is.
+fn shows(planner: &mut Planner, latest: &Option<String>) -> bool {
+    match (planner.last(&mut [0; FREE_BYTES]), latest) {
+        (Ok(shown), Some(text)) => shown == text.as_bytes(),
+        (Err(refusal), Some(text)) => refusal == Refusal::NoneFits && text == "no,9\n",
+        (shown, None) => shown == Err(Refusal::NoPlan),
+    }
+}
+
 /// The refusal that an answer prints, if it prints one.
 fn printed_refusal(text: &str) -> Option<u32> {
     text.strip_prefix("no,").map(|number| number.trim_end().parse().expect("a number"))
@@ -77,6 +96,7 @@ fn main() -> io::Result<()> {
     let mut input = io::stdin().lock();
     let mut output = io::stdout().lock();
     let mut line = Vec::with_capacity(KEPT_BYTES);
+    let mut latest = None;
     while next_line(&mut input, &mut line)? {
         let before = planner.clone();
         let answer = planner.call(&line, &mut out, 0, &mut work);
@@ -87,6 +107,8 @@ fn main() -> io::Result<()> {
         assert!(judged(&planner, text), "the planner showed what is no run");
         assert!(rebuilds(text), "the planner showed a save that does not rebuild it");
         assert!(drops_alike(before, &line, answer.refusal), "the wrapper drops otherwise than the line");
+        latest = latest_after(latest, &line, text);
+        assert!(shows(&mut planner, &latest), "the wrapper shows another plan than the latest");
         // These two try again by themselves what was interrupted.
         output.write_all(text.as_bytes())?;
         output.flush()?;

@@ -1,12 +1,13 @@
 /*
  * The planner in a switch's main loop: bytes come in from a line port, each line is answered as soon as it is complete, a plan switches
- * the power of the cabinet's ports, and the port of a load that leaves goes off.
+ * the power of the cabinet's ports, the port of a load that leaves goes off, and a display polls the latest plan.
  *
- * Here the line port is standard input and output, so that the program can be compared with the line program, and the cabinet's ports are
- * an array. A switch has its own functions in the place of receive, transmit and set_port. Nothing is allocated: the planner and the
- * buffers that it is lent are static.
+ * Here the line port is standard input and output, so that the program can be compared with the line program, the cabinet's ports are an
+ * array, and the display is a struct. A switch has its own functions in the place of receive, transmit, set_port and show. Nothing is
+ * allocated: the planner and the buffers that it is lent are static.
  *
- * With SWITCH_LOG in the environment each plan and each drop leaves a line on standard error that names the ports that are on.
+ * With SWITCH_LOG in the environment each plan and each drop leaves a line on standard error that names the ports that are on, and so does
+ * whatever is new on the display.
  *
  * Every run that the planner shows is handed to the judge before it is sent. That is not needed, since the planner is proved; it shows how
  * the judge is called.
@@ -17,6 +18,7 @@
 #include <stdbool.h>
 #include <stdio.h>
 #include <stdlib.h>
+#include <string.h>
 #include <unistd.h>
 
 /* One byte more than a line may have is kept of it, so that a longer one is refused as too long. */
@@ -30,6 +32,17 @@ static uint32_t work[HULMEIDE_LINE_PROGRAM_CELLS];
 
 /* Is the port of load k, port_on[k - 1], switched on? */
 static bool port_on[HULMEIDE_MAX_LOADS];
+
+/* What stands on the display: what `last` returned, and the worth, the power and the number of loads on of the plan that it showed. */
+struct display {
+    uint32_t number;
+    uint32_t worth;
+    uint32_t power;
+    uint32_t on;
+};
+
+static struct display display = {HULMEIDE_NO_PLAN, 0, 0, 0};
+static uint8_t polled[HULMEIDE_FREE_BYTES]; /* enough for `last` */
 
 /* What an answer shows: the set of loads that are on, load k as bit k - 1, and the run, three numbers for each load. */
 struct shown {
@@ -130,7 +143,7 @@ static void forget_port(size_t load)
     log_ports();
 }
 
-/* ---- Answers ---- */
+/* ---- Texts ---- */
 
 /* The number that begins at `at`. It ends before a comma or a line feed, and `at` is left behind that. */
 static uint32_t next_number(const uint8_t *text, size_t count, size_t *at)
@@ -153,6 +166,45 @@ static size_t second_line(const uint8_t *text, size_t count)
     }
     return at + 1;
 }
+
+/* ---- The display ---- */
+
+static void log_display(void)
+{
+    if (getenv("SWITCH_LOG") == NULL) {
+        return;
+    }
+    if (display.number == HULMEIDE_ACCEPTED) {
+        fprintf(stderr, "display: worth %u, %u W, %u on\n", display.worth, display.power, display.on);
+    } else {
+        fprintf(stderr, "display: %s\n", display.number == HULMEIDE_NONE_FITS ? "no set fits" : "no current plan");
+    }
+}
+
+static void show(struct display next)
+{
+    if (memcmp(&display, &next, sizeof display) != 0) {
+        display = next;
+        log_display();
+    }
+}
+
+/* The display asks for the latest plan. `last` plans nothing anew and needs no work, so it may ask as often as it likes. From an accepted
+ * change to the next plan there is none to show. */
+static void poll_display(void)
+{
+    struct hulmeide_reply reply = hulmeide_call_text(&planner, "last", polled, sizeof polled, 0, NULL, 0);
+    struct display next = {reply.number, 0, 0, 0};
+    size_t at = sizeof "plan," - 1;
+    if (reply.number == HULMEIDE_ACCEPTED) {
+        next.worth = next_number(polled, reply.count, &at);
+        next.power = next_number(polled, reply.count, &at);
+        next.on = next_number(polled, reply.count, &at);
+    }
+    show(next);
+}
+
+/* ---- Answers ---- */
 
 /* Reads what is shown off an answer with one line "load,mark,state,load rule,row rule" for each load. */
 static void read_shown(const uint8_t *text, size_t count, struct shown *shown)
@@ -185,7 +237,8 @@ static size_t dropped_load(void)
 }
 
 /* Judges the run that an accepted line shows, if it shows one, and switches the ports by a plan. The first lines of such answers are
- * "plan,worth,power,n" and "yes". A refused `plan` leaves the ports as they are. Of the commands only `drop` begins with a d. */
+ * "plan,worth,power,n", of `last` too, and "yes". A refused `plan` leaves the ports as they are, and so does `last`: they are switched already.
+ * Of the commands only `drop` begins with a d, and of those that show a run only `plan` with a p. */
 static void follow(size_t count)
 {
     struct shown shown;
@@ -194,13 +247,14 @@ static void follow(size_t count)
     } else if (out[0] == 'p' || out[0] == 'y') {
         read_shown(out, count, &shown);
         judge_shown(&shown);
-        if (out[0] == 'p') {
+        if (line[0] == 'p') {
             switch_ports(shown.set);
         }
     }
 }
 
-/* Answers the line that is held. */
+/* Answers the line that is held. Here the display polls after each line. That of a switch has a clock of its own, but polls between two calls,
+ * since each call writes the planner. */
 static void answer(void)
 {
     struct hulmeide_reply reply = hulmeide_call(&planner, line, held, out, sizeof out, 0, work, HULMEIDE_LINE_PROGRAM_CELLS);
@@ -209,6 +263,7 @@ static void answer(void)
     }
     held = 0;
     transmit(out, reply.count);
+    poll_display();
 }
 
 /* Takes one byte of a line. */

@@ -38,8 +38,10 @@ extern "C" {
  * 1.3: `drop` is a command, and HULMEIDE_HAS_CHILDREN its refusal. It renumbers the loads behind: what a caller keeps by a load's number has
  *      to move with it.
  * 1.4: of sets of equal worth `plan` shows one that draws least. Lines, refusals and layout are those of 1.3.
+ * 1.5: `last` is a command, and HULMEIDE_NO_PLAN its refusal. A planner keeps the outcome of its latest plan behind the fields of 1.4, which
+ *      stand where they stood: it has 824 bytes. One of 1.4 has 616; with 208 bytes of 0 behind them it is one of 1.5, with no current plan.
  */
-#define HULMEIDE_VERSION 10400
+#define HULMEIDE_VERSION 10500
 
 /* ---- Sizes ----
  *
@@ -52,7 +54,7 @@ extern "C" {
 /* A number in a line has at most this many digits, zeros in front of it among them: such zeros change nothing. */
 #define HULMEIDE_MAX_DIGITS 5
 
-/* So many bytes must be free in the output from the place on, for every line but `save`. No answer but a save is longer. */
+/* So many bytes must be free in the output from the place on, for every line but `save`, of `last` too. No answer but a save is longer. */
 #define HULMEIDE_FREE_BYTES 1024
 
 /* So many must be free for `save`, and no save is longer: a caller that passes every line on lends this. A line that only begins like it, as
@@ -80,15 +82,15 @@ extern "C" {
 
 /* ---- Numbers returned ----
  *
- * The lowest number that applies is given. A refusal leaves the planner as it was. A refusal of a line prints "no,N" and a line feed,
- * but for 1, which writes nothing.
+ * The lowest number that applies is given. A refusal leaves the planner as it was, but that 9 of a plan stores its outcome. A refusal of a
+ * line prints "no,N" and a line feed, but for 1, which writes nothing.
  */
 enum hulmeide_number {
     /* A line was accepted. The judge: yes, the numbers are a run. */
     HULMEIDE_ACCEPTED = 0,
     /* Fewer free bytes from the place on than the line needs (HULMEIDE_SAVE_BYTES for `save`, HULMEIDE_FREE_BYTES for every other line), a
-     * place past the end, or a planner that breaks a limit (the judge: only the last). Nothing is written, and everything is left as it
-     * was. */
+     * place past the end, or a planner that breaks a limit, in its tables or in its outcome (the judge: only the last). Nothing is written,
+     * and everything is left as it was. */
     HULMEIDE_TURNED_AWAY = 1,
     /* A line over HULMEIDE_LINE_BYTES bytes. */
     HULMEIDE_LONG_LINE = 2,
@@ -104,12 +106,14 @@ enum hulmeide_number {
     HULMEIDE_SAME_RULE = 7,
     /* `plan` with too few cells of work. */
     HULMEIDE_FEW_CELLS = 8,
-    /* No allowed set fits the budget. */
+    /* `plan`: no allowed set fits the budget. `last`: the latest plan was refused so, and no change was accepted since. */
     HULMEIDE_NONE_FITS = 9,
     /* The checked set is not allowed. */
     HULMEIDE_NOT_ALLOWED = 10,
     /* `drop` of a load that has children. */
     HULMEIDE_HAS_CHILDREN = 11,
+    /* `last` with no current plan: none was asked for since the last accepted change, or at all. With no loads it is this, and not 4. */
+    HULMEIDE_NO_PLAN = 12,
     /* The judge: no, the numbers are not a run. This is no refusal, and lies above the numbers of all of them. */
     HULMEIDE_NOT_A_RUN = 255
 };
@@ -158,10 +162,44 @@ struct hulmeide_book {
     struct hulmeide_rules row_rules;
 };
 
+/* What is stored as the outcome of the latest plan: nothing, since no plan is current; that no allowed set fits; or a plan. */
+enum hulmeide_outcome_kind {
+    HULMEIDE_OUTCOME_NOTHING = 0,
+    HULMEIDE_OUTCOME_NO_SET = 1,
+    HULMEIDE_OUTCOME_PLANNED = 2
+};
+
+/* A run: the state, the load rule and the row rule of load k at place k - 1 of each list, and its set, in which load k is on where bit k - 1 is
+ * set. Load 1 has row rule 0. The places beyond the loads hold 0. */
+struct hulmeide_run {
+    uint8_t states[HULMEIDE_MAX_LOADS];
+    uint8_t load_rules[HULMEIDE_MAX_LOADS];
+    uint8_t row_rules[HULMEIDE_MAX_LOADS];
+    uint64_t set;
+};
+
+/* The outcome of the latest plan, an enum hulmeide_outcome_kind and the run. Where it is no plan, every place of the run holds 0 and the set is
+ * empty. Worth, power and the number of loads on are not stored: `last` works them out from the set and the loads. */
+struct hulmeide_outcome {
+    uint8_t kind;
+    struct hulmeide_run run;
+};
+
+/*
+ * The tables, and beside them the outcome of the latest plan. `plan` stores it, with HULMEIDE_NONE_FITS too, and a line that is answered with
+ * "ok" wipes it; nothing else does either.
+ *
+ * A planner may be copied, to flash as well, and handed in again. Its outcome is tested as its tables are, but only for its ranges: a state of
+ * the book, rules of the book, no load that is not there. A figure out of range turns every call away (1). That the run is one of these tables,
+ * or the best, is not tested: where something else than these functions changed a byte in between, `last` may show what no plan has shown, a
+ * power above the budget among it. So firmware that cannot trust such a copy asks for a `plan` before it shows `last`, or keeps the lines of a
+ * `save` in the place of the planner: a planner that takes them has no outcome.
+ */
 struct hulmeide_planner {
     struct hulmeide_book book;
     struct hulmeide_loads loads;
     uint16_t budget;
+    struct hulmeide_outcome outcome;
 };
 
 /* What a call on a line returns: its number, and the count of bytes written. */
@@ -191,9 +229,16 @@ HULMEIDE_ASSERT(offsetof(struct hulmeide_book, starts) == 2, "hulmeide_book.star
 HULMEIDE_ASSERT(offsetof(struct hulmeide_book, ends) == 3, "hulmeide_book.ends");
 HULMEIDE_ASSERT(offsetof(struct hulmeide_book, load_rules) == 8, "hulmeide_book.load_rules");
 HULMEIDE_ASSERT(offsetof(struct hulmeide_book, row_rules) == 112, "hulmeide_book.row_rules");
-HULMEIDE_ASSERT(sizeof(struct hulmeide_planner) == 616, "hulmeide_planner");
+HULMEIDE_ASSERT(sizeof(struct hulmeide_run) == 200, "hulmeide_run");
+HULMEIDE_ASSERT(offsetof(struct hulmeide_run, load_rules) == 64, "hulmeide_run.load_rules");
+HULMEIDE_ASSERT(offsetof(struct hulmeide_run, row_rules) == 128, "hulmeide_run.row_rules");
+HULMEIDE_ASSERT(offsetof(struct hulmeide_run, set) == 192, "hulmeide_run.set");
+HULMEIDE_ASSERT(sizeof(struct hulmeide_outcome) == 208, "hulmeide_outcome");
+HULMEIDE_ASSERT(offsetof(struct hulmeide_outcome, run) == 8, "hulmeide_outcome.run");
+HULMEIDE_ASSERT(sizeof(struct hulmeide_planner) == 824, "hulmeide_planner");
 HULMEIDE_ASSERT(offsetof(struct hulmeide_planner, loads) == 216, "hulmeide_planner.loads");
 HULMEIDE_ASSERT(offsetof(struct hulmeide_planner, budget) == 608, "hulmeide_planner.budget");
+HULMEIDE_ASSERT(offsetof(struct hulmeide_planner, outcome) == 616, "hulmeide_planner.outcome");
 HULMEIDE_ASSERT(sizeof(struct hulmeide_reply) == 16, "hulmeide_reply");
 HULMEIDE_ASSERT(offsetof(struct hulmeide_reply, count) == 8, "hulmeide_reply.count");
 
@@ -202,13 +247,15 @@ HULMEIDE_ASSERT(offsetof(struct hulmeide_reply, count) == 8, "hulmeide_reply.cou
 /* The version of the archive. Compare it with HULMEIDE_VERSION before anything else is called. */
 uint32_t hulmeide_version(void);
 
-/* Makes the planner fresh, whatever it held: no book, no rules, no loads, and budget 0. */
+/* Makes the planner fresh, whatever it held: no book, no rules, no loads, budget 0, and no current plan. */
 void hulmeide_fresh(struct hulmeide_planner *planner);
 
 /*
  * Handles one line, given without its line feed. The answer is written from out + place on, and `count` says how many bytes it has; the
  * bytes before the place and after the answer keep their values. A plan fills the cells that it needs at the start of the work, and
  * leaves 0 in them, after HULMEIDE_NONE_FITS too; all other cells, and all cells after any other line, keep their values.
+ * `last` shows the outcome of the latest plan as `plan` printed it, HULMEIDE_NONE_FITS as well, without planning anew. It changes nothing and
+ * needs no work: a display may ask as often as it likes. Once a change was accepted it is HULMEIDE_NO_PLAN until the next plan.
  * `save` changes nothing and writes lines, each with its line feed, that rebuild the tables: any planner that breaks no limit accepts them one
  * by one, and has these tables then.
  * `drop` takes out a load that has no children. The numbers above its own fall by one, in parents too; the order of the loads stays, and the
