@@ -1,4 +1,5 @@
-// The cabinets that are planned, with tables laid out as the static library has them, and the plans that are compared.
+// The cabinets that are planned, with tables laid out as the static library has them, beside them the outcome that it stores, and the plans
+// that are compared.
 #pragma once
 #include "hulmeide.h"
 #include <stdbool.h>
@@ -27,8 +28,9 @@ Tables with_equals(Tables t);
 void add_rules(TransitionList *list, int rules, int states, bool of_loads, unsigned seed);
 size_t cells_of(const Tables *t);
 
-// A state, a load rule and a row rule for each load, and the loads that are on. What stands past the last load is 0.
-typedef struct { uint8_t states[HULMEIDE_MAX_LOADS], load_rules[HULMEIDE_MAX_LOADS], row_rules[HULMEIDE_MAX_LOADS]; uint64_t set; } Run;
+// A state, a load rule and a row rule for each load, and the loads that are on, as the static library stores them. What stands past the last
+// load is 0.
+typedef struct hulmeide_run Run;
 typedef struct { bool found; Run run; } Outcome;
 
 // A plan shows the best allowed set within the budget, and leaves the cells that it worked in at 0.

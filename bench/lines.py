@@ -1,5 +1,6 @@
 #!/usr/bin/env python3
-"""Lines a second through the line program, by pipe in and pipe out, for the cabinet of paper 01 with 4 loads.
+"""Lines a second through the line program, by pipe in and pipe out, for the cabinet of paper 01 with 4 loads, and for one of the most loads
+that takes all of the line program's cells.
 
   lines.py PROGRAM
 
@@ -10,36 +11,52 @@ import subprocess
 import sys
 import threading
 import time
+from collections import namedtuple
 
-LINES = 120000
 ROUNDS = 7
 
-CABINET = (
-    'book,2,2', 'start,1', 'start,2', 'end,1', 'end,2', 'rule,1,0,2', 'rule,1,1,1', 'rule,2,0,2', 'row,1,1,1', 'row,2,2,2',
-    'load,0,10,0', 'load,1,15,40', 'load,1,5,30', 'load,2,7,50', 'budget,30',
-)
-PLAN = ('plan,70,30,3', '1,1,1,2,0', '2,1,1,2,1', '3,1,1,2,1', '4,0,1,1,1')
-YES = ('yes', '1,1,1,2,0', '2,1,1,2,1', '3,1,1,2,1', '4,0,1,1,1')
+BOOK = ('book,2,2', 'start,1', 'start,2', 'end,1', 'end,2', 'rule,1,0,2', 'rule,1,1,1', 'rule,2,0,2', 'row,1,1,1', 'row,2,2,2')
+CABINET = (*BOOK, 'load,0,10,0', 'load,1,15,40', 'load,1,5,30', 'load,2,7,50', 'budget,30')
+RUN = ('1,1,1,2,0', '2,1,1,2,1', '3,1,1,2,1', '4,0,1,1,1')
+PLAN = ('plan,70,30,3', *RUN)
+YES = ('yes', *RUN)
 
-# For each kind of line: the lines that are repeated, each with its answer.
-KINDS = {
-    'changes': (
-        ('budget,31', 'ok'), ('power,2,14', 'ok'), ('worth,3,29', 'ok'), ('budget,30', 'ok'), ('power,2,15', 'ok'), ('worth,3,30', 'ok'),
-    ),
-    'check': (('check,1110', *YES), ('check,0100', 'no,10')),
-    'plan': (('plan', *PLAN),),
-}
+# A feed and 63 cameras of 1 W and worth 1, and a budget for all of them, which takes 16,384 cells.
+LARGE_CABINET = (*BOOK, 'load,0,0,0', *63 * ('load,1,1,1',), 'budget,63')
+LARGE_RUN = ('1,1,1,2,0', *('%d,1,1,2,1' % k for k in range(2, 65)))
+
+# A cabinet: its name, the lines that enter it, its plan, how many lines of a kind are timed, and for each kind the lines that are repeated,
+# each with its answer. Before them a plan is asked for once.
+Cabinet = namedtuple('Cabinet', 'name lines plan count kinds')
+CABINETS = (
+    Cabinet('4 loads, budget 30', CABINET, PLAN, 120000, {
+        'changes': (
+            ('budget,31', 'ok'), ('power,2,14', 'ok'), ('worth,3,29', 'ok'), ('budget,30', 'ok'), ('power,2,15', 'ok'), ('worth,3,30', 'ok'),
+        ),
+        'check': (('check,1110', *YES), ('check,0100', 'no,10')),
+        'plan': (('plan', *PLAN),),
+        'last': (('last', *PLAN),),
+    }),
+    Cabinet('64 loads, budget 63', LARGE_CABINET, ('plan,63,63,64', *LARGE_RUN), 6000, {
+        'changes': (
+            ('budget,62', 'ok'), ('power,2,2', 'ok'), ('worth,3,2', 'ok'), ('budget,63', 'ok'), ('power,2,1', 'ok'), ('worth,3,1', 'ok'),
+        ),
+        'check': (('check,' + '1' * 64, 'yes', *LARGE_RUN), ('check,0' + '1' * 63, 'no,10')),
+        'plan': (('plan', 'plan,63,63,64', *LARGE_RUN),),
+        'last': (('last', 'plan,63,63,64', *LARGE_RUN),),
+    }),
+)
 
 
 def text(lines):
     return ''.join(line + '\n' for line in lines).encode()
 
 
-def given_and_answer(kind):
+def given_and_answer(cabinet, kind):
     """The input of a kind and the output that the paper gives for it."""
-    turns = LINES // len(kind)
-    given = text(CABINET) + text(line for line, *_ in kind) * turns
-    answer = text('ok' for _ in CABINET) + text(line for _, *answer in kind for line in answer) * turns
+    turns = cabinet.count // len(kind)
+    given = text((*cabinet.lines, 'plan')) + text(line for line, *_ in kind) * turns
+    answer = text('ok' for _ in cabinet.lines) + text(cabinet.plan) + text(line for _, *answer in kind for line in answer) * turns
     return given, answer
 
 
@@ -62,20 +79,29 @@ def run(program, given):
     return out, clock, now.ru_utime + now.ru_stime - used.ru_utime - used.ru_stime
 
 
-def main():
-    program = sys.argv[1]
-    print('\nLines a second through the line program, 4 loads, budget 30, %d lines, best of %d rounds' % (LINES, ROUNDS))
-    inputs = {name: given_and_answer(kind) for name, kind in KINDS.items()}
-    best = {name: (float('inf'), float('inf')) for name in KINDS}
-    for name in list(KINDS) * ROUNDS:
+def best_times(program, cabinet):
+    """The best time of each kind, by the clock and of processor time, or None where an answer is not the paper's."""
+    inputs = {name: given_and_answer(cabinet, kind) for name, kind in cabinet.kinds.items()}
+    best = {name: (float('inf'), float('inf')) for name in inputs}
+    for name in list(inputs) * ROUNDS:
         given, answer = inputs[name]
         out, clock, processor = run(program, given)
         if out != answer:
+            return None
+        best[name] = min(best[name][0], clock), min(best[name][1], processor)
+    return best
+
+
+def main():
+    for cabinet in CABINETS:
+        print('\nLines a second through the line program, %s, %d lines, best of %d rounds' % (cabinet.name, cabinet.count, ROUNDS))
+        best = best_times(sys.argv[1], cabinet)
+        if best is None:
             print('answers differ')
             return 1
-        best[name] = min(best[name][0], clock), min(best[name][1], processor)
-    for name, (clock, processor) in best.items():
-        print('%-8s %8.0f by the clock; %.2f microseconds of processor time a line' % (name, LINES / clock, 1e6 * processor / LINES))
+        for name, (clock, processor) in best.items():
+            figures = name, cabinet.count / clock, 1e6 * processor / cabinet.count
+            print('%-8s %8.0f by the clock; %.2f microseconds of processor time a line' % figures)
     return 0
 
 

@@ -84,7 +84,7 @@ static void print_line(const char *name, const char *given, uint32_t number) {
 }
 
 // A line of the last load: a word, its number, and further fields.
-static void print_last(const char *name, const char *word, const char *fields) {
+static void print_of_last_load(const char *name, const char *word, const char *fields) {
     char given[HULMEIDE_LINE_BYTES];
     snprintf(given, sizeof given, "%s,%d%s", word, HULMEIDE_MAX_LOADS, fields);
     print_line(name, given, HULMEIDE_ACCEPTED);
@@ -110,10 +110,11 @@ static void print_calls(Shape shape) {
     printf("%s:", shape_names[shape]);
     print_line("plan", "plan", HULMEIDE_ACCEPTED);
     print_check_and_judge();
-    print_last("change", "power", ",1");
+    print_line("last", "last", HULMEIDE_ACCEPTED);
+    print_of_last_load("change", "power", ",1");
     print_line("save", "save", HULMEIDE_ACCEPTED);
     print_line("refused", "load,1,1,1", HULMEIDE_FULL);
-    print_last("drop", "drop", "");
+    print_of_last_load("drop", "drop", "");
     tables = tables_of(largest(shape));
     printf(" plan in plain C %zu, in plain Rust %zu\n", depth(plain_c), depth(plain_rust));
 }
@@ -124,7 +125,7 @@ int main(void) {
     printf("a function that does nothing uses %zu\n", depth(nothing));
     for (Shape shape = 0; shape < SHAPES; shape++)
         print_calls(shape);
-    printf("Bytes of state: planner %zu, of which load rules %zu, row rules %zu, loads %zu; the largest work %zu\n", sizeof tables,
-        sizeof tables.book.load_rules, sizeof tables.book.row_rules, sizeof tables.loads, sizeof work);
+    printf("Bytes of state: planner %zu, of which load rules %zu, row rules %zu, loads %zu, outcome %zu; the largest work %zu\n", sizeof tables,
+        sizeof tables.book.load_rules, sizeof tables.book.row_rules, sizeof tables.loads, sizeof tables.outcome, sizeof work);
     return 0;
 }
