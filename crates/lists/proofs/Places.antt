@@ -56,13 +56,13 @@ module _ {A : Type 0} (fit : A → Bool) (same : A → A → Bool) (n : ℕ) whe
 
 -- ---- places in use and not
 module _ (k : ℕ) (used free : ℕ → Bool) where
-  pub place-used : (i : ℕ) → i < k → place k used free i ≡ true → used i ≡ true
+  place-used : (i : ℕ) → i < k → place k used free i ≡ true → used i ≡ true
   place-used i l h = or-false (used i) (rw (lt-ltb i k l) at h)
 
-  pub place-free : (i : ℕ) → k ≤ i → place k used free i ≡ true → free i ≡ true
+  place-free : (i : ℕ) → k ≤ i → place k used free i ≡ true → free i ≡ true
   place-free i l h = rw (le-ltb i k l) at h
 
-  pub place-both : ((i : ℕ) → i < k → used i ≡ true) → (i : ℕ) → (k ≤ i → free i ≡ true) → place k used free i ≡ true
+  place-both : ((i : ℕ) → i < k → used i ≡ true) → (i : ℕ) → (k ≤ i → free i ≡ true) → place k used free i ≡ true
   place-both h i g = go (below-or i k)
     where
       go : (i < k) ⊎ (k ≤ i) → place k used free i ≡ true

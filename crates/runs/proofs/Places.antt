@@ -5,14 +5,13 @@ use mathlib.Core.Bool.{Bool, true, false, _&&_, _||_}
 use mathlib.Core.List.{List, [], _∷_, _++_}
 use mathlib.Core.Logic.{_⊎_, inl, inr}
 use native.Mathlib.Omega.{arith}
-use borrow.Author.Tests.{eq-eqb, ne-eqb, leb-true, le-leb, lt-leb}
-use lib.Dec.{eqb, leb}
+use borrow.Author.Tests.{eq-eqb, ne-eqb, leb-true, le-leb, lt-ltb, le-ltb}
+use lib.Dec.{eqb, leb, ltb}
 use lib.ListN.{length, getD, List·getD-eq-default, List·getD-append}
 use lib.Seq.{getD-at}
-use Rattle.lists.specs.Tests.{allBelow, everyFrom}
+use Rattle.lists.specs.Tests.{everyFrom}
 use Rattle.lists.proofs.Bools.{and-left, and-right, and-true, and-false, same-test, below-or}
 use Rattle.lists.proofs.Tests.{every-drop, drop-every, from-each, from-at, below-at, below-all}
-use Rattle.lists.proofs.Places.{place-used, place-free, place-both}
 use Rattle.marks.specs.Sets.{loadsUpTo}
 use Rattle.tables.specs.Limits.{between, maxLoads}
 use Rattle.tables.specs.declared.entry.Entry.{Entry}
@@ -22,7 +21,7 @@ use Rattle.runs.specs.declared.run.Run.{Run}
 use Rattle.runs.specs.declared.outcome.RunRange.{RunRange}
 use Rattle.runs.specs.Runs.{entryAt, entriesTo}
 use Rattle.runs.specs.Outcome.{planned, figuresIn, entryIn, outcomeIn, usedBy, ofKind, zeroFrom, runFree}
-use Rattle.runs.specs.Places.{zeroEntry, entryPlace}
+use Rattle.runs.specs.Places.{zeroAt, freeFrom, figuresKeep}
 use Rattle.runs.proofs.Entries.{entries-length}
 
 -- ---- the figures of an entry: the root's row rule is 0, a later load's is in the book
@@ -101,79 +100,78 @@ module _ (m : RunRange) (r : Run) where
 
 -- ---- all places: each in use is in range, and every other holds 0
 module _ (m : RunRange) (r : Run) (lenS : length (r .states) ≡ maxLoads) (lenL : length (r .«load_rules») ≡ maxLoads) (lenR : length (r .«row_rules») ≡ maxLoads) where
-  abbrev zeros : (i : ℕ) → Bool
-  zeros i = zeroEntry (entryAt r i)
-
-  abbrev figures : (i : ℕ) → Bool
-  figures i = figuresIn m (entryAt r i)
-
-  -- the places of a column from n on hold 0
-  columns-free : (n : ℕ) → ((i : ℕ) → n ≤ i → i < maxLoads → zeroEntry (entryAt r i) ≡ true) → loadsUpTo n (r .set) ≡ true → runFree n r ≡ true
-  unfolding runFree
-  columns-free n z set =
+  -- the places of each column from n on hold 0
+  columns-free : (n : ℕ) → freeFrom n r ≡ true → loadsUpTo n (r .set) ≡ true → runFree n r ≡ true
+  unfolding runFree freeFrom
+  columns-free n h set =
+      let z : (i : ℕ) → n ≤ i → i < maxLoads → zeroAt r i ≡ true = λ i a b. rw (le-ltb i n a) at (below-at _ maxLoads i h b) in
       let two : (i : ℕ) → n ≤ i → i < maxLoads → eqb (getD (r .states) i 0) 0 && eqb (getD (r .«load_rules») i 0) 0 ≡ true = λ i a b. and-left _ (eqb (getD (r .«row_rules») i 0) 0) (z i a b) in
       let states = every-drop 0 (λ x. eqb x 0) (r .states) n (λ i a b. and-left _ (eqb (getD (r .«load_rules») i 0) 0) (two i a (omega (arith, lenS)))) in
       let rules = every-drop 0 (λ x. eqb x 0) (r .«load_rules») n (λ i a b. and-right (eqb (getD (r .states) i 0) 0) _ (two i a (omega (arith, lenL)))) in
       let rows = every-drop 0 (λ x. eqb x 0) (r .«row_rules») n (λ i a b. and-right (eqb (getD (r .states) i 0) 0 && eqb (getD (r .«load_rules») i 0) 0) _ (z i a (omega (arith, lenR)))) in
       rw (states, rules, rows) set
 
-  free-columns : (n : ℕ) → runFree n r ≡ true → ((i : ℕ) → n ≤ i → i < maxLoads → zeroEntry (entryAt r i) ≡ true) × (loadsUpTo n (r .set) ≡ true)
-  unfolding runFree
+  free-columns : (n : ℕ) → runFree n r ≡ true → (freeFrom n r ≡ true) × (loadsUpTo n (r .set) ≡ true)
+  unfolding runFree freeFrom
   free-columns n h =
       let c = and-left (zeroFrom n (r .states) && zeroFrom n (r .«load_rules») && zeroFrom n (r .«row_rules»)) (loadsUpTo n (r .set)) h in
       let two = and-left (zeroFrom n (r .states) && zeroFrom n (r .«load_rules»)) (zeroFrom n (r .«row_rules»)) c in
       let states = drop-every 0 (λ x. eqb x 0) (r .states) n (and-left (zeroFrom n (r .states)) (zeroFrom n (r .«load_rules»)) two) in
       let rules = drop-every 0 (λ x. eqb x 0) (r .«load_rules») n (and-right (zeroFrom n (r .states)) (zeroFrom n (r .«load_rules»)) two) in
-      let rows = drop-every 0 (λ x. eqb x 0) (r .«row_rules») n (and-right (zeroFrom n (r .states) && zeroFrom n (r .«load_rules»)) (zeroFrom n (r .«row_rules»)) c) in (
-        λ i a b. rw (states i a (omega (arith, lenS)), rules i a (omega (arith, lenL))) (rows i a (omega (arith, lenR))),
+      let rows = drop-every 0 (λ x. eqb x 0) (r .«row_rules») n (and-right (zeroFrom n (r .states) && zeroFrom n (r .«load_rules»)) (zeroFrom n (r .«row_rules»)) c) in
+      let at : (i : ℕ) → n ≤ i → i < maxLoads → zeroAt r i ≡ true = λ i a b. rw (states i a (omega (arith, lenS)), rules i a (omega (arith, lenL))) (rows i a (omega (arith, lenR))) in (
+        below-all _ maxLoads (λ i b. free-at i n (at i) b),
         and-right (zeroFrom n (r .states) && zeroFrom n (r .«load_rules») && zeroFrom n (r .«row_rules»)) (loadsUpTo n (r .set)) h,
       )
+    where
+      free-at : (i n : ℕ) → (n ≤ i → i < maxLoads → zeroAt r i ≡ true) → i < maxLoads → ltb i n || zeroAt r i ≡ true
+      free-at i n z b = go (below-or i n)
+        where
+          go : (i < n) ⊎ (n ≤ i) → ltb i n || zeroAt r i ≡ true
+          go (inl l) = rw (lt-ltb i n l)
+          go (inr l) = rw (le-ltb i n l) (z l b)
 
   -- by the kind of the outcome: where it is a plan all loads are in use, else none
-  kind-in : (k : ℕ) → ((i : ℕ) → i < usedBy (m .loads) k → figuresIn m (entryAt r i) ≡ true) → outcomeIn m (ofKind k (entriesTo r (m .loads))) ≡ true
-  unfolding outcomeIn
+  kind-in : (k : ℕ) → figuresKeep m r (usedBy (m .loads) k) ≡ true → outcomeIn m (ofKind k (entriesTo r (m .loads))) ≡ true
+  unfolding outcomeIn figuresKeep
   kind-in zero f = refl
   kind-in (suc zero) f = refl
-  kind-in (suc (suc k)) f = lines-in m r (m .loads) refl f
+  kind-in (suc (suc k)) f = lines-in m r (m .loads) refl (λ i l. below-at _ (m .loads) i f l)
 
-  in-kind : (k : ℕ) → outcomeIn m (ofKind k (entriesTo r (m .loads))) ≡ true → (i : ℕ) → i < usedBy (m .loads) k → figuresIn m (entryAt r i) ≡ true
-  in-kind zero h i l = absurd (omega arith)
-  in-kind (suc zero) h i l = absurd (omega arith)
-  in-kind (suc (suc k)) h i l = in-lines m r (m .loads) h i l
+  in-kind : (k : ℕ) → outcomeIn m (ofKind k (entriesTo r (m .loads))) ≡ true → figuresKeep m r (usedBy (m .loads) k) ≡ true
+  unfolding figuresKeep
+  in-kind zero h = below-all _ 0 (λ i l. absurd (omega arith))
+  in-kind (suc zero) h = below-all _ 0 (λ i l. absurd (omega arith))
+  in-kind (suc (suc k)) h = below-all _ (m .loads) (λ i l. in-lines m r (m .loads) h i l)
 
-  few-used : (n : ℕ) → ((i : ℕ) → i < n → figuresIn m (entryAt r i) ≡ true) → n ≤ maxLoads
-  few-used n f = go (below-or maxLoads n)
+  -- no more than there are places
+  pub too-many : (k : ℕ) → maxLoads < usedBy (m .loads) k → false ≡ leb k 2 && runFree (usedBy (m .loads) k) r && outcomeIn m (ofKind k (entriesTo r (m .loads)))
+  unfolding figuresKeep
+  too-many k l = go (outcomeIn m (ofKind k (entriesTo r (m .loads)))) refl
     where
-      go : (maxLoads < n) ⊎ (n ≤ maxLoads) → n ≤ maxLoads
-      go (inl l) = absurd (past m r lenS (f maxLoads l))
-      go (inr l) = l
+      go : (b : Bool) → outcomeIn m (ofKind k (entriesTo r (m .loads))) ≡ b → false ≡ leb k 2 && runFree (usedBy (m .loads) k) r && b
+      go false e = sym (and-false (leb k 2 && runFree (usedBy (m .loads) k) r))
+      go true e = absurd (past m r lenS (below-at _ (usedBy (m .loads) k) maxLoads (in-kind k e) l))
 
   pub placed : (k : ℕ) → let n = usedBy (m .loads) k in
-      allBelow (entryPlace m n r) maxLoads && leb n maxLoads && leb k 2 && loadsUpTo n (r .set)
-      ≡ leb k 2 && runFree n r && outcomeIn m (ofKind k (entriesTo r (m .loads)))
-  unfolding entryPlace
+      leb k 2 && freeFrom n r && loadsUpTo n (r .set) && figuresKeep m r n ≡ leb k 2 && runFree n r && outcomeIn m (ofKind k (entriesTo r (m .loads)))
   placed k = same-test _ _ forth back
     where
       n : ℕ
       n = usedBy (m .loads) k
 
-      all : Bool
-      all = allBelow (entryPlace m (usedBy (m .loads) k) r) maxLoads
+      shown : Bool
+      shown = outcomeIn m (ofKind k (entriesTo r (m .loads)))
 
-      forth : all && leb n maxLoads && leb k 2 && loadsUpTo n (r .set) ≡ true → leb k 2 && runFree n r && outcomeIn m (ofKind k (entriesTo r (m .loads))) ≡ true
+      forth : leb k 2 && freeFrom n r && loadsUpTo n (r .set) && figuresKeep m r n ≡ true → leb k 2 && runFree n r && shown ≡ true
       forth h =
-          let c = and-left (all && leb n maxLoads && leb k 2) (loadsUpTo n (r .set)) h in
-          let b = and-left (all && leb n maxLoads) (leb k 2) c in
-          let each = and-left all (leb n maxLoads) b in
-          let few = leb-true n maxLoads (and-right all (leb n maxLoads) b) in
-          let free = columns-free n (λ i a l. place-free n figures zeros i a (below-at _ maxLoads i each l)) (and-right (all && leb n maxLoads && leb k 2) (loadsUpTo n (r .set)) h) in
-          rw (and-right (all && leb n maxLoads) (leb k 2) c, free)
-          (kind-in k (λ i l. place-used n figures zeros i l (below-at _ maxLoads i each (omega arith))))
+          let c = and-left (leb k 2 && freeFrom n r && loadsUpTo n (r .set)) (figuresKeep m r n) h in
+          let b = and-left (leb k 2 && freeFrom n r) (loadsUpTo n (r .set)) c in
+          let free = columns-free n (and-right (leb k 2) (freeFrom n r) b) (and-right (leb k 2 && freeFrom n r) (loadsUpTo n (r .set)) c) in
+          rw (and-left (leb k 2) (freeFrom n r) b, free) (kind-in k (and-right (leb k 2 && freeFrom n r && loadsUpTo n (r .set)) (figuresKeep m r n) h))
 
-      back : leb k 2 && runFree n r && outcomeIn m (ofKind k (entriesTo r (m .loads))) ≡ true → all && leb n maxLoads && leb k 2 && loadsUpTo n (r .set) ≡ true
+      back : leb k 2 && runFree n r && shown ≡ true → leb k 2 && freeFrom n r && loadsUpTo n (r .set) && figuresKeep m r n ≡ true
       back h =
-          let b = and-left (leb k 2 && runFree n r) _ h in
-          let f = in-kind k (and-right (leb k 2 && runFree n r) _ h) in
+          let b = and-left (leb k 2 && runFree n r) shown h in
           let free = free-columns n (and-right (leb k 2) (runFree n r) b) in
-          let each = below-all _ maxLoads (λ i l. place-both n figures zeros f i (λ a. free .0 i a l)) in
-          rw (each, le-leb n maxLoads (few-used n f), and-left (leb k 2) (runFree n r) b) (free .1)
+          rw (and-left (leb k 2) (runFree n r) b, free .0, free .1) (in-kind k (and-right (leb k 2 && runFree n r) shown h))

@@ -4,10 +4,10 @@ use tables::entry::Entry;
 use tables::load::MAX_LOADS;
 use tables::tables::StoredTables;
 ghost use mathlib.Core.Path.{_≡_};
-ghost use Prim.Native.Nat.{_<_};
+ghost use Prim.Native.Nat.{_≤_};
 ghost use Rattle.tables.specs.Limits.{maxLoads};
 ghost use Rattle.runs.specs.Outcome.{figuresIn, heldRange, usedBy, keepsOutcome};
-ghost use Rattle.runs.specs.Places.{zeroEntry, entryPlace};
+ghost use Rattle.runs.specs.Places.{figuresKeep};
 
 // What is stored: nothing, that no allowed set fits, or a plan.
 pub const NOTHING: u8 = 0;
@@ -30,13 +30,6 @@ pub struct RunRange {
     pub states: usize,
     pub load_rules: usize,
     pub row_rules: usize,
-}
-
-// Does an entry hold 0, but for its number and its mark?
-fn is_zero(e: Entry) -> bool
-    ensures { λ r. ⌜ r ≡ zeroEntry e ⌝ }
-{
-    (e.state == 0) & (e.rule == 0) & (e.row == 0)
 }
 
 impl RunRange {
@@ -67,6 +60,20 @@ impl RunRange {
     }
 }
 
+impl Run {
+    // Are the figures of the first n loads in range?
+    fn figures_keep(self, range: RunRange, n: usize) -> bool
+        requires { ⌜ n ≤ maxLoads ⌝ }
+        ensures { λ r. ⌜ r ≡ figuresKeep range self n ⌝ }
+    {
+        let mut kept = true;
+        for i in 0..n {
+            kept = kept & range.holds(self.entry(i));
+        }
+        kept
+    }
+}
+
 impl StoredOutcome {
     // No current plan.
     pub const NONE: StoredOutcome = StoredOutcome {
@@ -81,26 +88,19 @@ impl StoredOutcome {
         if PLANNED <= self.kind { loads } else { 0 }
     }
 
-    // Place i of the run holds figures in range, or is unused and holds 0.
-    fn place_keeps(self, range: RunRange, used: usize, i: usize) -> bool
-        requires { ⌜ i < maxLoads ⌝ }
-        ensures { λ r. ⌜ r ≡ entryPlace range used (self .run) i ⌝ }
-    {
-        let e = self.run.entry(i);
-        let in_use = i < used;
-        (in_use & range.holds(e)) | (!in_use & is_zero(e))
-    }
-
     // Are its figures in range, and its unused places 0?
     pub fn keeps_limits(self, range: RunRange) -> bool
         ensures { λ r. ⌜ r ≡ keepsOutcome range self ⌝ }
     {
         let used = self.used(range.loads);
-        let mut kept = true;
-        for i in 0..MAX_LOADS {
-            kept = kept & self.place_keeps(range, used, i);
+        if MAX_LOADS < used {
+            return false;
         }
-        let set = self.run.set;
-        kept & (used <= MAX_LOADS) & (self.kind <= PLANNED) & set.up_to(used)
+        let run = self.run;
+        let set = run.set;
+        (self.kind <= PLANNED)
+            & run.free_from(used)
+            & set.up_to(used)
+            & run.figures_keep(range, used)
     }
 }

@@ -7,6 +7,7 @@ ghost use Prim.Native.Nat.{_≤_, _<_};
 ghost use Rattle.marks.specs.Sets.{markIn};
 ghost use Rattle.tables.specs.Limits.{maxLoads};
 ghost use Rattle.runs.specs.Runs.{entryAt, withEntry};
+ghost use Rattle.runs.specs.Places.{freeFrom};
 
 // A state, a load rule and a row rule for each load, in load order, and the loads that are on. Unused places hold 0.
 #[repr(C)]
@@ -44,6 +45,18 @@ impl Run {
             rule: self.load_rules[i],
             row: self.row_rules[i],
         }
+    }
+
+    // Do all places from number n on hold 0?
+    pub(crate) fn free_from(self, n: usize) -> bool
+        ensures { λ r. ⌜ r ≡ freeFrom n self ⌝ }
+    {
+        let mut free = true;
+        for i in 0..MAX_LOADS {
+            let zero = (self.states[i] == 0) & (self.load_rules[i] == 0) & (self.row_rules[i] == 0);
+            free = free & ((i < n) | zero);
+        }
+        free
     }
 
     // The run with the line of a load.
