@@ -10,6 +10,11 @@ or `rt check` left it: each worker begins an edit with that in its incremental f
 what the edit touches is checked. Of every public function of a library two wrong programs at
 least must be refused: its own, or that of a function that it calls in the same crate.
 
+Edits of the code of different functions are tried together, a batch at a time. A function's proof goes
+by its own code and by the promises of what it calls, and these edits change no promise, so a need that
+fails in a batch fails alone too. Only a need that fails in the function's own proof is taken from a
+batch, and only if no function fails by itself but those of the batch; all else is tried alone.
+
 Usage: wrong_programs.py [NAME[/LABEL]..]   from the root of the repository, after `rt check`
 """
 
@@ -55,6 +60,18 @@ class Edit:
 
     def name(self):
         return f"{self.crate}/{self.label}"
+
+    def function(self):
+        return self.refused.partition(" ")[0]
+
+    def need(self):
+        return self.refused.partition(" ")[2]
+
+    def of_one_function(self):
+        """Does it change the code of one function of a library, and no promise or declaration?"""
+        told = any(word in old + new for _, old, new in self.pairs for word in ("ensures", "requires", "const ", "use "))
+        code = all(file.startswith("src/") for file, _, _ in self.pairs)
+        return code and not told and is_library(self.crate) and self.function() != "law" and "," not in self.function()
 
     def apply(self, folder):
         for file, old, new in self.pairs:
@@ -189,6 +206,43 @@ def verdicts(report):
     return re.findall(r"^fn (\S+): ((?!proved).*)$", report, re.M)
 
 
+def needs_in_proof(report, function):
+    """Each fact that fails in the function's own proof, by its need: the author's, or the one that the prover made."""
+    folder = "/proofs/" + "/".join(function.split("::")[1:]) + "/"
+    needs = set()
+    for error in errors(report):
+        named = re.match(r"(\S+): error: `([^`]+)`", error)
+        if named and folder in named.group(1) and not CASCADE.search(error):
+            needs.add(named.group(2))
+    for name, verdict in verdicts(report):
+        if name == function:
+            needs.update(re.findall(r"`([^`]+)`", verdict.partition("does not close ")[2].partition(";")[0]))
+    return needs
+
+
+def callers_of(report, function):
+    """The functions that are not proved for this function's sake: itself, and those that call it, one through another."""
+    calls = {name: set(re.findall(r"`([^`]+)`", verdict.partition("; it calls ")[2])) for name, verdict in verdicts(report)}
+    found = {function}
+    more = found
+    while more:
+        more = {name for name, callees in calls.items() if found & callees} - found
+        found = found | more
+    return sorted(found)
+
+
+def refused_of(batch, status, report):
+    """The edits of a batch that are refused as they must be."""
+    wrong = {name for name, verdict in verdicts(report) if "; it calls `" not in verdict}
+    misfit = any(MISFITS.search(error) for error in errors(report))
+    if status != 1 or "logic=not-proved" not in report or misfit or not wrong <= {edit.function() for edit in batch}:
+        return []
+    refused = [edit for edit in batch if edit.need() in needs_in_proof(report, edit.function())]
+    for edit in refused:
+        edit.unproved = callers_of(report, edit.function())
+    return refused
+
+
 def fault_in(edit, status, report):
     """What is wrong with a refusal, or nothing."""
     if status != 1 or "logic=not-proved" not in report:
@@ -196,11 +250,10 @@ def fault_in(edit, status, report):
     misfit = next((error for error in errors(report) if MISFITS.search(error)), None)
     if misfit:
         return "the proof no longer fits: " + misfit[:200]
-    function, _, need = edit.refused.partition(" ")
     wrong = [name for name, verdict in verdicts(report) if "; it calls `" not in verdict]
-    if function != "law" and wrong != function.split(","):
+    if edit.function() != "law" and wrong != edit.function().split(","):
         return f"not proved by itself: {wrong}, failed: {sorted(failed_needs(report))}"
-    if need not in failed_needs(report):
+    if edit.need() not in failed_needs(report):
         return f"failed: {sorted(failed_needs(report))}"
     edit.unproved = [name for name, _ in verdicts(report)]
     return None
@@ -221,6 +274,41 @@ def try_edit(edit, scratch, store):
         restore(scratch / "crates" / edit.crate, store / "crates" / edit.crate)
     print(f"{edit.name()}: {fault or 'refused, at ' + edit.refused} ({time.monotonic() - began:.0f} s)", flush=True)
     return fault is None
+
+
+def try_batch(batch, scratch, store):
+    """Makes one program with all edits of a batch, and checks it. Returns those that are refused as they must be."""
+    crate = batch[0].crate
+    restore(scratch / "crates" / crate, store / "crates" / crate)
+    restore(incremental(scratch, crate), incremental(store, crate))
+    began = time.monotonic()
+    try:
+        for edit in batch:
+            edit.apply(scratch / "crates" / crate)
+        refused = refused_of(batch, *check(scratch, crate))
+    except ValueError:
+        refused = []
+    finally:
+        restore(scratch / "crates" / crate, store / "crates" / crate)
+    for edit in refused:
+        print(f"{edit.name()}: refused, at {edit.refused} (in a batch of {len(batch)}, {time.monotonic() - began:.0f} s)", flush=True)
+    return refused
+
+
+def batches_of(edits):
+    """Edits of the code of one function each, in batches with one of each function of a crate; and all other edits."""
+    together, alone = [], []
+    for edit in edits:
+        if not edit.of_one_function():
+            alone.append(edit)
+            continue
+        free = (batch for batch in together if batch[0].crate == edit.crate and edit.function() not in [e.function() for e in batch])
+        batch = next(free, None)
+        if batch is None:
+            together.append([edit])
+        else:
+            batch.append(edit)
+    return together, alone
 
 
 def run(edits):
@@ -245,11 +333,18 @@ def run(edits):
         edited = sorted({edit.crate for edit in edits}, key=is_library)
         kept = {crate: pool.submit(with_scratch, keep_checked, crate, store, build) for crate in edited}
 
-        def refused(edit):
+        def in_batch(batch):
+            kept[batch[0].crate].result()
+            return with_scratch(lambda scratch: try_batch(batch, scratch, store)) if len(batch) > 1 else []
+
+        def by_itself(edit):
             kept[edit.crate].result()
             return with_scratch(lambda scratch: try_edit(edit, scratch, store))
 
-        return sum(pool.map(refused, edits))
+        together, alone = batches_of(edits)
+        passed = [edit for refused in pool.map(in_batch, together) for edit in refused]
+        alone += [edit for batch in together for edit in batch if edit not in passed]
+        return len(passed) + sum(pool.map(by_itself, alone))
 
 
 def counts_of(edits):
