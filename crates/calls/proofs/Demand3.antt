@@ -7,7 +7,7 @@ use Rattle.tables.specs.Limits.{mostPlaces}
 use Rattle.calls.specs.State.{State, StoredState, fresh, storedState, Within}
 use Rattle.calls.specs.Calls.{Done, after, answer}
 use Rattle.calls.specs.Demand2.{PlanRight}
-use Rattle.calls.specs.Last.{currentAfter, current, kept, Lasts}
+use Rattle.calls.specs.Last.{currentAfter, current, keptOutcome, Lasts}
 use Rattle.calls.specs.Demand3.{Exchange, History, last, paperFrom, Right, Demand3}
 use Rattle.calls.proofs.State.{fresh-within}
 use Rattle.calls.proofs.Keeps.{after-places, after-within}
@@ -33,7 +33,7 @@ history-right s h (x ∷ xs) y =
 
 -- and the outcome beside the tables, with every `last` among the calls
 pub history-outcome : (b : Bool) (s : State) → Within s → Current b s → (xs : List Exchange) → History (storedState s) xs
-    → (paperFrom s xs .outcome ≡ kept (current b xs) (paperFrom s xs .tables)) × Lasts b s xs
+    → (paperFrom s xs .outcome ≡ keptOutcome (current b xs) (paperFrom s xs .tables)) × Lasts b s xs
 history-outcome b s h k [] y = (k .outcome, tt)
 history-outcome b s h k (x ∷ xs) y =
     let c = x .call in

@@ -29,8 +29,7 @@ use Rattle.tables.proofs.Stored.{tables-stored}
 use Rattle.tables.proofs.Removed.{one-fewer}
 use Rattle.tables.proofs.Keeps.{drop-load-keeps}
 use Rattle.meaning.proofs.Leaving.{left}
-use Rattle.runs.specs.Outcome as outcome
-use Rattle.runs.specs.Outcome.{storedOutcome, rangeOf, outcomeIn}
+use Rattle.runs.specs.Outcome.{nothing, storedOutcome, rangeOf, outcomeIn}
 use Rattle.calls.specs.State.{State, StoredState, storedState, stateOf, Within, Kept}
 use Rattle.calls.specs.Rows.{load, changing}
 use Rattle.calls.specs.Calls.{Call, Done, rowFor, numberFor, after, answer, called}
@@ -133,7 +132,7 @@ pub drops : {n : ℕ} (p : StoredState) → Kept n p → (c : Call) (k : ℕ) �
 unfolding answer changing outcomeIn
 drops {n} p h c k d = record {
   tables = held;
-  kept = record { tables = (u, keeps, held, full); outcome = (outcome.none, nothing, wiped) };
+  kept = record { tables = (u, keeps, held, full); outcome = (nothing, in-range, wiped) };
   fewer = fewer;
   emptied = λ e. no-more (u .loads) (omega (arith, fewer));
   filled = λ a b v e. record { accepted = load-accepted (t .places) (u .loads) (load a b v) (rw fewer e) (omega (arith, fewer, lawful t (w .tables) .loads)); after = refl };
@@ -176,11 +175,11 @@ drops {n} p h c k d = record {
     held : called p c .state .tables ≡ stored u
     held = ap (λ (x : Done). x .state .tables) done ∙ ap stored (change-after s c (to.Drop k) (d .line) none)
 
-    wiped : called p c .state .outcome ≡ storedOutcome outcome.none
+    wiped : called p c .state .outcome ≡ storedOutcome nothing
     wiped = ap (λ (x : Done). x .state .outcome) done ∙ rw (none, change-row s c (to.Drop k) (d .line))
 
-    nothing : outcomeIn (rangeOf (tablesOf (called p c .state .tables))) outcome.none ≡ true
-    nothing = refl
+    in-range : outcomeIn (rangeOf (tablesOf (called p c .state .tables))) nothing ≡ true
+    in-range = refl
 
     lines-left : saved u ≡ enteredWithout k (saved t)
     lines-left = saves-without t k (leave .0 .0) (leave .0 .1)

@@ -31,7 +31,7 @@ use Rattle.meaning.proofs.Ordered.{loads-ordered}
 use Rattle.meaning.proofs.Claims.{claims}
 use Rattle.runs.specs.Outcome.{planned, rangeOf, outcomeIn}
 use Rattle.runs.proofs.Entries.{number-at}
-use Rattle.runs.proofs.Stored.{LinesIn, lines-in, mark-in, named-in, run-in}
+use Rattle.runs.proofs.Stored.{LinesIn, lines-in, named-in, run-in}
 use Rattle.calls.specs.Rows.{noneFits, showingPlan, showingCheck, shownText}
 use Rattle.calls.proofs.Answers.{positive}
 
@@ -101,7 +101,7 @@ module _ (t : Tables) (h : Limits t) where
         let f = named-in (rangeOf t) (getD es i noEntry) (l .figures i b) in
         record {
           number = omega (arith, number-at es 1 i (l .each) b, l .all, few);
-          mark = mark-in (rangeOf t) (getD es i noEntry) (l .figures i b);
+          mark = l .marks i b;
           state = omega (arith, f .state, w .states);
           rule = omega (arith, f .rule, w .rules sort.Load);
           row = omega (arith, f .row, w .rules sort.Row);

@@ -8,7 +8,7 @@ use lib.ListN.{length}
 use Rattle.lists.specs.Tests.{pick}
 use Rattle.lines.proofs.Answers.{refused-fits}
 use Rattle.tables.specs.Refusals as no
-use Rattle.runs.specs.Outcome.{noneFits, rangeOf, outcomeIn}
+use Rattle.runs.specs.Outcome.{noSet, rangeOf, outcomeIn}
 use Rattle.calls.specs.State.{State, plain, Within}
 use Rattle.calls.specs.Rows.{Row, changes, shows, works, bytesOf, causesOf}
 use Rattle.calls.specs.Causes.{lowest, allCauses, refusal}
@@ -46,7 +46,7 @@ left-within s h m (suc n) (shows b cs x) a e = record { tables = h .tables; outc
 left-within s h m zero (works b k before after x) a e = record { tables = h .tables; outcome = a .finds h (e refl) }
 left-within s h m (suc n) (works b k before after x) a e = record { tables = h .tables; outcome = go (eqb (suc n) no.noneFits) }
   where
-    go : (b : Bool) → outcomeIn (rangeOf (s .tables)) (pick b noneFits (s .outcome)) ≡ true
+    go : (b : Bool) → outcomeIn (rangeOf (s .tables)) (pick b noSet (s .outcome)) ≡ true
     go true = refl
     go false = h .outcome
 

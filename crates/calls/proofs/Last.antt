@@ -1,42 +1,40 @@
 -- The outcome after every list of calls, and what `last` shows of it. Assumes nothing.
-use Prim.Native.Nat.{ℕ, zero, suc, _+_, _≤_, _<_}
+use Prim.Native.Nat.{ℕ, zero, suc, _+_, _<_}
 use mathlib.Core.Path.{_≡_, refl, sym, ap, ap₂, subst, _∙_}
-use mathlib.Core.Bool.{Bool, true, false, _&&_, _||_}
+use mathlib.Core.Bool.{Bool, true, false, _&&_}
 use mathlib.Core.List.{List, [], _∷_}
 use native.Mathlib.Omega.{arith}
-use borrow.Author.Tests.{eqb-true, eqb-false, eq-eqb, ne-eqb}
+use borrow.Author.Tests.{eqb-true, eqb-false, ne-eqb}
 use lib.Dec.{eqb, ltb, lit<}
 use lib.ListN.{length}
 use Rattle.lists.specs.Tests.{pick}
 use Rattle.lines.specs.declared.Command.{Command}
 use Rattle.lines.specs.declared.Command.the-variants as line
 use Rattle.lines.specs.Text.{same}
-use Rattle.lines.specs.Grammar.{parse, lineCommand}
-use Rattle.lines.specs.Grammar.{lineOf}
+use Rattle.lines.specs.Grammar.{lineCommand, lineOf}
 use Rattle.lines.specs.Written.{parted}
 use Rattle.lines.specs.Saved.{saved, changesText}
-use Rattle.lines.specs.Answers.{ok, refused, planLine, freeBytes}
+use Rattle.lines.specs.Answers.{ok, refused, planLine}
 use Rattle.lines.proofs.Sizes.{numbers-short}
 use Rattle.tables.specs.Refusals as no
 use Rattle.tables.specs.Tables.{Tables}
-use Rattle.tables.specs.declared.entry.Entry.{Entry}
 use Rattle.meaning.specs.Best.{bestPlan}
 use Rattle.meaning.specs.Choice.{planEntries}
 use Rattle.meaning.specs.Cells.{cellsOf}
-use Rattle.runs.specs.Outcome as outcome
-use Rattle.runs.specs.Outcome.{Outcome, found, isNone, isNoneFits, entriesOf}
-use Rattle.calls.specs.State.{State, storedState, Within}
-use Rattle.calls.specs.Rows.{_if_, Row, changes, noneFits, showingPlan, shownText, row, lineRow, bytesOf, causesOf, isChange, isShow, cellsFor}
+use Rattle.runs.specs.Outcome.{Outcome, nothing, noSet, planned, found, isNothing, isNoSet, entriesOf}
+use Rattle.runs.proofs.Stored.{found-none, found-some}
+use Rattle.calls.specs.State.{State, StoredState, storedState, stateOf, Within, Kept}
+use Rattle.calls.specs.Rows.{_if_, Row, planText, noneFits, showingPlan, shownText, row, lineRow, bytesOf, causesOf, isChange, isShow}
 use Rattle.calls.specs.Causes.{lowest, allCauses, refusal}
 use Rattle.calls.specs.Effects.{stateBy}
 use Rattle.calls.specs.Printing.{text, searched, workAfter}
-use Rattle.calls.specs.Calls.{Call, Reply, Done, Exchange, writtenBy, rowFor, numberFor, after, reply, answer}
-use Rattle.calls.specs.Demand2.{PlanCall}
-use Rattle.calls.specs.Last as claim
-use Rattle.calls.specs.Last.{asksPlan, currentAfter, kept, LastCall, Enough, LastRight}
+use Rattle.calls.specs.Calls.{Call, Reply, Exchange, writtenBy, rowFor, numberFor, after, reply, answer, called}
+use Rattle.calls.specs.Demand2.{Enough, PlanCall}
+use Rattle.calls.specs.Last.{printedOk, asksPlan, currentAfter, keptOutcome, LastCall, shownAs, StoredShown, LastRight}
+use Rattle.calls.proofs.State.{kept-within, kept-stored}
 use Rattle.calls.proofs.Numbers.{passed}
-use Rattle.calls.proofs.Answers.{positive, refusedIf, roomy, row-is, answer-at}
-use Rattle.calls.proofs.Work.{clash, unsearched, no-cells}
+use Rattle.calls.proofs.Answers.{positive, refusedIf, roomy, row-is, called-stored, answer-at}
+use Rattle.calls.proofs.Work.{clash, no-cells}
 use Rattle.calls.proofs.Refusals.{after-number, still-state}
 use Rattle.calls.proofs.Keeps.{none-of-row}
 use Rattle.calls.proofs.Demand1.{wrote}
@@ -73,15 +71,8 @@ prints-ok s m line.TooLong (suc n) e = not-ok n (row s line.TooLong)
 
 -- ---- a state with a current plan, or with none
 pub record Current (b : Bool) (s : State) : Type 0 where
-  pub outcome : s .outcome ≡ kept b (s .tables)
+  pub outcome : s .outcome ≡ keptOutcome b (s .tables)
   pub loads : b ≡ true → 0 < length (s .tables .loads)
-
-found-some : (v : ℕ) (es : List Entry) → 0 < v → outcome.planned es ≡ found v es
-found-some zero es h = absurd (omega arith)
-found-some (suc v) es h = refl
-
-found-none : (v : ℕ) (es : List Entry) → v ≡ 0 → outcome.noneFits ≡ found v es
-found-none v es e = rw e
 
 -- 9 is given only where no set fits, on loads that are there
 nine-given : (a b c : Bool) → lowest ((no.noLoads if a) ∷ (no.tooFewCells if b) ∷ (no.noneFits if c) ∷ []) ≡ no.noneFits → (a ≡ false) × (c ≡ true)
@@ -104,7 +95,7 @@ abbrev currentBy : Bool → Command → (changes : Bool) (number : ℕ) → Bool
 currentBy b c x n = pick (x && eqb n 0) false (pick (asksPlan c && searched n) true b)
 
 module _ (b : Bool) (s : State) (h : Current b s) (m : ℕ) where
-  none-left : {x : State} → x .outcome ≡ outcome.none → Current false x
+  none-left : {x : State} → x .outcome ≡ nothing → Current false x
   none-left e = record { outcome = e; loads = λ q. absurd (clash (sym q)) }
 
   -- a plan with this number
@@ -119,7 +110,7 @@ module _ (b : Bool) (s : State) (h : Current b s) (m : ℕ) where
       record { outcome = found-some (bestPlan t) (planEntries t) some; loads = λ _. positive (eqb-false (length (t .loads)) 0 (p .0)) }
   plan-left (suc n) e f = rw (ne-eqb (suc n) 0 (λ z. absurd (omega arith))) (go (eqb (suc n) no.noneFits) refl)
     where
-      go : (i : Bool) → eqb (suc n) no.noneFits ≡ i → Current (pick i true b) (record { tables = s .tables; outcome = pick i outcome.noneFits (s .outcome) })
+      go : (i : Bool) → eqb (suc n) no.noneFits ≡ i → Current (pick i true b) (record { tables = s .tables; outcome = pick i noSet (s .outcome) })
       go true q =
           let g = nine-given _ _ _ (f (eqb-true (suc n) no.noneFits q)) in
           record { outcome = found-none (bestPlan (s .tables)) (planEntries (s .tables)) (eqb-true (bestPlan (s .tables)) 0 (g .1)); loads = λ _. positive (eqb-false (length (s .tables .loads)) 0 (g .0)) }
@@ -141,6 +132,51 @@ module _ (b : Bool) (s : State) (h : Current b s) (m : ℕ) where
   row-left line.Broken n e f = shown-left n (row s line.Broken) refl
   row-left line.TooLong n e f = shown-left n (row s line.TooLong) refl
 
+-- ---- a call on `last`
+module _ (s : State) (c : Call) (k : LastCall c) where
+  abbrev r : Row
+  r = row s line.Last
+
+  last-row : rowFor s c ≡ r
+  last-row = row-is s c line.Last (k .line) (numbers-short (c .line) line.Last (k .line) refl)
+
+  last-causes : numberFor s c ≡ lowest ((no.noneFits if isNoSet (s .outcome)) ∷ (no.noPlan if isNothing (s .outcome)) ∷ [])
+  unfolding row
+  last-causes = ap (refusal (length (c .work)) (length (c .output)) (c .place)) last-row ∙ roomy (length (c .work)) (length (c .output)) (c .place) r (k .free)
+
+  -- with this outcome
+  last-number : (o : Outcome) → s .outcome ≡ o → numberFor s c ≡ lowest ((no.noneFits if isNoSet o) ∷ (no.noPlan if isNothing o) ∷ [])
+  last-number o e = last-causes ∙ ap (λ (o : Outcome). lowest ((no.noneFits if isNoSet o) ∷ (no.noPlan if isNothing o) ∷ [])) e
+
+  -- it works in no cells, and leaves the state
+  last-work : (n : ℕ) → workAfter n r (c .work) ≡ c .work
+  unfolding row
+  last-work n = no-cells n r (c .work) refl
+
+  last-after : after s c ≡ s
+  unfolding row
+  last-after = after-number s c ∙ still-state s (numberFor s c) (rowFor s c) (ap isShow last-row)
+
+  -- it shows what is stored
+  last-shown : answer s c ≡ shownAs (s .tables) (s .outcome) c
+  unfolding text row lowest planText
+  last-shown = go (s .outcome) refl
+    where
+      go : (o : Outcome) → s .outcome ≡ o → answer s c ≡ shownAs (s .tables) o c
+      go nothing e = answer-at s c no.noPlan r (last-number nothing e) last-row ∙ ap (reply c no.noPlan (refused no.noPlan)) (last-work no.noPlan)
+      go noSet e = answer-at s c no.noneFits r (last-number noSet e) last-row ∙ ap (reply c no.noneFits (refused no.noneFits)) (last-work no.noneFits)
+      go (planned es) e =
+          answer-at s c 0 r (last-number (planned es) e) last-row ∙ ap (reply c 0 (text 0 r)) (last-work 0)
+          ∙ ap (λ (o : Outcome). reply c 0 (shownText (showingPlan (s .tables) (entriesOf o))) (c .work)) e
+
+-- on every planner that keeps the limits
+pub last-stored : {n : ℕ} (p : StoredState) → Kept n p → (c : Call) → LastCall c → StoredShown p c (called p c)
+last-stored p h c k =
+    let s = stateOf p in
+    let shown = last-shown s c k in
+    let left = ap storedState (last-after s c k) ∙ sym (kept-stored p h) in
+    ap (λ (x : StoredState). called x c) (kept-stored p h) ∙ called-stored s (kept-within p h) c ∙ (λ i. record { state = left i; reply = shown i })
+
 -- ---- a call
 module _ (s : State) (h : Within s) (x : Exchange) (is : x .done .reply ≡ answer s (x .call)) where
   abbrev c : Call
@@ -151,7 +187,7 @@ module _ (s : State) (h : Within s) (x : Exchange) (is : x .done .reply ≡ answ
   unfolding answer
   number-is = ap (λ (r : Reply). r .number) is
 
-  pub change-is : claim.isChange x ≡ isChange (rowFor s c) && eqb (numberFor s c) 0
+  pub change-is : printedOk x ≡ isChange (rowFor s c) && eqb (numberFor s c) 0
   unfolding lineRow
   change-is =
       ap (λ (r : Reply). same (writtenBy c r) ok) is ∙ ap (λ (b : List ℕ). same b ok) (wrote s h c)
@@ -171,40 +207,25 @@ module _ (s : State) (h : Within s) (x : Exchange) (is : x .done .reply ≡ answ
 
   -- ---- on `last`
   module _ (k : LastCall c) (b : Bool) (cur : Current b s) where
-    abbrev r : Row
-    r = row s line.Last
-
-    last-row : rowFor s c ≡ r
-    last-row = row-is s c line.Last (k .line) (numbers-short (c .line) line.Last (k .line) refl)
-
-    last-causes : numberFor s c ≡ lowest ((no.noneFits if isNoneFits (s .outcome)) ∷ (no.noPlan if isNone (s .outcome)) ∷ [])
-    unfolding row
-    last-causes = ap (refusal (length (c .work)) (length (c .output)) (c .place)) last-row ∙ roomy (length (c .work)) (length (c .output)) (c .place) r (k .free)
-
-    -- with this outcome
-    last-number : (o : Outcome) → s .outcome ≡ o → numberFor s c ≡ lowest ((no.noneFits if isNoneFits o) ∷ (no.noPlan if isNone o) ∷ [])
-    last-number o e = last-causes ∙ ap (λ (o : Outcome). lowest ((no.noneFits if isNoneFits o) ∷ (no.noPlan if isNone o) ∷ [])) e
-
     -- none: 12
     no-plan : b ≡ false → numberFor s c ≡ no.noPlan
     unfolding lowest
-    no-plan e = last-number outcome.none (cur .outcome ∙ ap (λ (i : Bool). kept i (s .tables)) e)
+    no-plan e = last-number s c k nothing (cur .outcome ∙ ap (λ (i : Bool). keptOutcome i (s .tables)) e)
 
     none-given : b ≡ false → answer s c ≡ reply c no.noPlan (refused no.noPlan) (c .work)
-    unfolding text
-    none-given e = answer-at s c no.noPlan r (no-plan e) last-row ∙ ap (reply c no.noPlan (refused no.noPlan)) (unsearched no.noPlan r (c .work) refl)
+    none-given e = last-shown s c k ∙ ap (λ (o : Outcome). shownAs (s .tables) o c) (cur .outcome ∙ ap (λ (i : Bool). keptOutcome i (s .tables)) e)
 
     -- a current plan: its number, and its text, are those of `plan`
     module _ (e : b ≡ true) where
       same-outcome : s .outcome ≡ found (bestPlan (s .tables)) (planEntries (s .tables))
-      same-outcome = cur .outcome ∙ ap (λ (i : Bool). kept i (s .tables)) e
+      same-outcome = cur .outcome ∙ ap (λ (i : Bool). keptOutcome i (s .tables)) e
 
       plan-number-is : (i : Bool) → noneFits (s .tables) ≡ i → numberFor s c ≡ refusedIf no.noneFits i
       unfolding noneFits lowest
-      plan-number-is true q = last-number outcome.noneFits (same-outcome ∙ sym (found-none (bestPlan (s .tables)) (planEntries (s .tables)) (eqb-true (bestPlan (s .tables)) 0 q)))
-      plan-number-is false q = last-number (outcome.planned (planEntries (s .tables))) (same-outcome ∙ sym (found-some (bestPlan (s .tables)) (planEntries (s .tables)) (positive (eqb-false (bestPlan (s .tables)) 0 q))))
+      plan-number-is true q = last-number s c k noSet (same-outcome ∙ sym (found-none (bestPlan (s .tables)) (planEntries (s .tables)) (eqb-true (bestPlan (s .tables)) 0 q)))
+      plan-number-is false q = last-number s c k (planned (planEntries (s .tables))) (same-outcome ∙ sym (found-some (bestPlan (s .tables)) (planEntries (s .tables)) (positive (eqb-false (bestPlan (s .tables)) 0 q))))
 
-      plan-text-is : (i : Bool) → noneFits (s .tables) ≡ i → text (refusedIf no.noneFits i) r ≡ text (refusedIf no.noneFits i) (row s line.Plan)
+      plan-text-is : (i : Bool) → noneFits (s .tables) ≡ i → text (refusedIf no.noneFits i) (row s line.Last) ≡ text (refusedIf no.noneFits i) (row s line.Plan)
       unfolding noneFits text row
       plan-text-is true q = refl
       plan-text-is false q =
@@ -213,14 +234,14 @@ module _ (s : State) (h : Within s) (x : Exchange) (is : x .done .reply ≡ answ
 
       module _ (d : Call) (q : Enough (s .tables) d) where
         plan-call : PlanCall (s .tables) d
-        plan-call = record { line = q .line; loads = cur .loads e; free = q .free; cells = q .cells }
+        plan-call = record { enough = q; loads = cur .loads e }
 
         same-number : numberFor s c ≡ numberFor s d
         same-number = plan-number-is (noneFits (s .tables)) refl ∙ sym (plan-number s d plan-call (noneFits (s .tables)) refl)
 
         same-text : text (numberFor s c) (rowFor s c) ≡ text (numberFor s d) (rowFor s d)
         same-text =
-            ap₂ text (plan-number-is (noneFits (s .tables)) refl) last-row ∙ plan-text-is (noneFits (s .tables)) refl
+            ap₂ text (plan-number-is (noneFits (s .tables)) refl) (last-row s c k) ∙ plan-text-is (noneFits (s .tables)) refl
             ∙ sym (ap₂ text (plan-number s d plan-call (noneFits (s .tables)) refl) (plan-row s d plan-call))
 
         as-plan : (answer s c .number ≡ answer s d .number) × (answer s c .count ≡ answer s d .count) × (writtenBy c (answer s c) ≡ writtenBy d (answer s d))
@@ -237,11 +258,11 @@ module _ (s : State) (h : Within s) (x : Exchange) (is : x .done .reply ≡ answ
         go false q = absurd (omega (arith, plan-number-is e false q))
 
     pub last-right : x .done .state ≡ storedState (after s c) → LastRight b s x
-    unfolding answer row
+    unfolding answer
     last-right state = record {
       shown = λ e d q. rw is (as-plan e d q);
-      none = λ e. is ∙ none-given e;
+      refusal = λ e. is ∙ none-given e;
       twelve = (λ n. twelve-none b refl (sym number-is ∙ n), λ e. number-is ∙ no-plan e);
-      work = ap (λ (y : Reply). y .work) is ∙ no-cells (numberFor s c) (rowFor s c) (c .work) (ap cellsFor last-row);
-      planner = state ∙ ap storedState (after-number s c ∙ still-state s (numberFor s c) (rowFor s c) (ap isShow last-row));
+      work = ap (λ (y : Reply). y .work) is ∙ ap (λ (y : Row). workAfter (numberFor s c) y (c .work)) (last-row s c k) ∙ last-work s c k (numberFor s c);
+      planner = state ∙ ap storedState (last-after s c k);
     }

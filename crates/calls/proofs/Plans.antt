@@ -32,13 +32,13 @@ module _ (s : State) (c : Call) (k : PlanCall (s .tables) c) where
   r = row s Plan
 
   pub plan-row : rowFor s c ≡ r
-  plan-row = row-is s c Plan (k .line) (numbers-short (c .line) Plan (k .line) refl)
+  plan-row = row-is s c Plan (k .enough .line) (numbers-short (c .line) Plan (k .enough .line) refl)
 
   pub plan-number : (b : Bool) → noneFits (s .tables) ≡ b → numberFor s c ≡ refusedIf no.noneFits b
   unfolding row lowest
   plan-number b e =
-      ap (refusal (length (c .work)) (length (c .output)) (c .place)) plan-row ∙ roomy (length (c .work)) (length (c .output)) (c .place) r (k .free)
-      ∙ rw (ne-eqb (length (s .tables .loads)) 0 (λ e. absurd (omega (arith, k .loads))), le-ltb (length (c .work)) (cellsOf (s .tables)) (k .cells), e) (last-cause no.noneFits b)
+      ap (refusal (length (c .work)) (length (c .output)) (c .place)) plan-row ∙ roomy (length (c .work)) (length (c .output)) (c .place) r (k .enough .free)
+      ∙ rw (ne-eqb (length (s .tables .loads)) 0 (λ e. absurd (omega (arith, k .loads))), le-ltb (length (c .work)) (cellsOf (s .tables)) (k .enough .cells), e) (last-cause no.noneFits b)
 
   module _ (h : Within s) where
     found : noneFits (s .tables) ≡ false → PlanAnswered (s .tables) c (answer s c) (planEntries (s .tables))
@@ -50,7 +50,7 @@ module _ (s : State) (c : Call) (k : PlanCall (s .tables) c) where
         record {
           shown = p;
           set = ap (λ (r : Reply). printedSet c r) a
-              ∙ plan-set t c (planEntries t) (zeroed (cellsOf t) (c .work)) (p .loads .each) (omega (arith, k .free, planned-fits t (h .tables) e));
+              ∙ plan-set t c (planEntries t) (zeroed (cellsOf t) (c .work)) (p .loads .each) (omega (arith, k .enough .free, planned-fits t (h .tables) e));
           answered = a;
         }
 

@@ -39,11 +39,10 @@ use Rattle.meaning.specs.Claims.{EachLoad}
 use Rattle.meaning.specs.Cells.{cellsOf}
 use Rattle.meaning.specs.Choice.{planEntries}
 use Rattle.meaning.proofs.Claims.{claims}
-use Rattle.runs.specs.Outcome.{Outcome, none, noneFits, planned, isNone, isNoneFits, entriesOf, rangeOf, outcomeIn}
+use Rattle.runs.specs.Outcome.{Outcome, nothing, noSet, planned, isNothing, isNoSet, entriesOf, rangeOf, outcomeIn}
 use Rattle.runs.proofs.Stored.{lines-in}
 use Rattle.calls.specs.State.{State, Within}
-use Rattle.calls.specs.Rows as row-of
-use Rattle.calls.specs.Rows.{_if_, Changing, Shown, alone, showingPlan, shownText, Row, changes, shows, works, rule, load, isLoad, notAllowed, marking, ruleCauses, adding, setting, changing, refuses, row, lineRow, bytesOf, mostBytes, causesOf, effectOf, shownOf, cellsFor}
+use Rattle.calls.specs.Rows.{_if_, Changing, Shown, alone, showingPlan, shownText, Row, changes, shows, works, rule, load, isLoad, noneFits, notAllowed, marking, ruleCauses, adding, setting, changing, refuses, row, lineRow, bytesOf, mostBytes, causesOf, effectOf, shownOf, cellsFor}
 use Rattle.calls.specs.Causes.{lowest}
 use Rattle.calls.proofs.Numbers.{passed, passed-not, Ascending}
 use Rattle.calls.proofs.Answers.{positive}
@@ -151,10 +150,10 @@ plan-showing t h es e =
 
 -- the latest outcome, where it is a plan
 last-showing : (t : Tables) → Limits t → (o : Outcome) → outcomeIn (rangeOf t) o ≡ true
-    → lowest ((no.noneFits if isNoneFits o) ∷ (no.noPlan if isNone o) ∷ []) ≡ 0 → Showing t freeBytes (showingPlan t (entriesOf o))
+    → lowest ((no.noneFits if isNoSet o) ∷ (no.noPlan if isNothing o) ∷ []) ≡ 0 → Showing t freeBytes (showingPlan t (entriesOf o))
 unfolding lowest
-last-showing t h none e p = absurd (omega arith)
-last-showing t h noneFits e p = absurd (omega arith)
+last-showing t h nothing e p = absurd (omega arith)
+last-showing t h noSet e p = absurd (omega arith)
 last-showing t h (planned es) e p = plan-showing t h es e
 
 refuses-right : (s : State) (cells n : ℕ) → no.unusable < n → n ≤ no.greatest → Right s cells (refuses n)
@@ -170,7 +169,7 @@ refuses-right s cells n a b = record {
 }
 
 right : (s : State) (n : ℕ) (c : Command) → Right s n (row s c)
-unfolding row row-of.noneFits notAllowed
+unfolding row noneFits notAllowed
 right s n (line.Change c) =
     let x = sound (s .tables) c in
     record {
@@ -186,7 +185,7 @@ right s n (line.Change c) =
 right s n line.Plan =
     let t = s .tables in
     let in-range : Within s → lowest (causesOf n (row s line.Plan)) ≡ 0 → outcomeIn (rangeOf t) (planned (planEntries t)) ≡ true = λ h e.
-    plan-in t (h .tables) (passed no.noneFits (row-of.noneFits t) [] (lit< tt) (passed no.tooFewCells (ltb n (cellsOf t)) _ (lit< tt) (passed no.noLoads (eqb (length (t .loads)) 0) _ (lit< tt) e .1) .1) .0) in
+    plan-in t (h .tables) (passed no.noneFits (noneFits t) [] (lit< tt) (passed no.tooFewCells (ltb n (cellsOf t)) _ (lit< tt) (passed no.noLoads (eqb (length (t .loads)) 0) _ (lit< tt) e .1) .1) .0) in
     record {
       ordered = (lit≤ tt, (lit≤ tt, (lit≤ tt, lit≤ tt)));
       room = lit≤ tt;

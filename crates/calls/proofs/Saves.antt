@@ -22,8 +22,7 @@ use Rattle.lines.proofs.SaveLines.{save-lines}
 use Rattle.tables.specs.Tables.{Tables}
 use Rattle.tables.specs.Limits.{Limits}
 use Rattle.tables.specs.Stored.{stored}
-use Rattle.runs.specs.Outcome as outcome
-use Rattle.runs.specs.Outcome.{Outcome}
+use Rattle.runs.specs.Outcome.{Outcome, nothing}
 use Rattle.calls.specs.State.{State, StoredState, storedState, stateOf, Within, Kept}
 use Rattle.calls.specs.Rows.{Row, changes, changing, row}
 use Rattle.calls.specs.Causes.{lowest, refusal}
@@ -96,7 +95,7 @@ module _ (s : State) (x : Call) (c : Change) (on : x .line ≡ written c) (b : R
   line-after : after s x .tables ≡ changing (s .tables) c .after
   line-after = change-after s x c command line-number
 
-  line-outcome : after s x .outcome ≡ outcome.none
+  line-outcome : after s x .outcome ≡ nothing
   line-outcome = rw (line-number, change-row s x c command)
 
   line-answer : answer s x ≡ reply x 0 ok (x .work)
@@ -118,9 +117,9 @@ unlike e = absurd (let z : _≡_ {A = ℕ} 0 1 = cc in omega arith)
 -- every accepted change wipes the outcome
 abbrev wiped : List Change → Outcome → Outcome
 wiped [] o = o
-wiped (c ∷ cs) o = outcome.none
+wiped (c ∷ cs) o = nothing
 
-wiped-none : (cs : List Change) → wiped cs outcome.none ≡ outcome.none
+wiped-none : (cs : List Change) → wiped cs nothing ≡ nothing
 wiped-none [] = refl
 wiped-none (c ∷ cs) = refl
 
@@ -153,7 +152,7 @@ fed (next p q) b s e [] y l f = unlike (sym l)
 fed (next {v = v} {cs = cs} p q) (each.more b bs) s e (x ∷ xs) y l (each.more f fs) = fed-more v cs p b s e x xs y l f (λ s e y l. fed q bs s e xs y l fs)
 
 -- a save has a line, and so it leaves no outcome
-save-wipes : (t : Tables) (o : Outcome) → wiped (saved t) o ≡ outcome.none
+save-wipes : (t : Tables) (o : Outcome) → wiped (saved t) o ≡ nothing
 unfolding saved
 save-wipes t o = refl
 
@@ -163,7 +162,7 @@ pub record Ends (p : StoredState) (xs : List Exchange) (t : Tables) : Type 0 whe
   pub state : State
   pub within : Within state
   pub tables : state .tables ≡ t
-  pub outcome : state .outcome ≡ outcome.none
+  pub outcome : state .outcome ≡ nothing
   pub last : last p xs ≡ storedState state
 
 pub ends : {n : ℕ} (t : Tables) → Limits t → t .places ≡ n → (p : StoredState) → Kept n p → (xs : List Exchange) → History p xs

@@ -1,5 +1,5 @@
 -- Demand 1: what every call gives and leaves, on any planner, whatever its fields hold, with any line, output, place and work. (The proof
--- takes the lengths of the planner's arrays, which their types give: `Lengths` of crate tables.)
+-- takes the lengths of the planner's arrays, which their types give: `Sized` of State.)
 -- It stands for "Causes and numbers" of paper 01: "The lowest number that applies is given. Each is given exactly in its case." and the
 -- columns "returned" and "left as it was"; for the buffers of "Lines"; for the free bytes of request Two of paper 02; and for what is left beside
 -- the tables of request Five. (That a call ends and does nothing undefined is part of the proof of every function. The judge's part stands in the

@@ -11,7 +11,7 @@ use Rattle.tables.specs.Tables.{Tables}
 use Rattle.tables.specs.declared.entry.Entry.{Entry}
 use Rattle.calls.specs.State.{State, plain}
 use Rattle.tables.specs.Operations.{accepted}
-use Rattle.runs.specs.Outcome.{Outcome, none, noneFits, planned}
+use Rattle.runs.specs.Outcome.{Outcome, nothing, noSet, planned}
 use Rattle.calls.specs.Rows.{Row, changes, shows, works, effectOf, lineRow}
 use Rattle.calls.specs.Causes.{refusal}
 
@@ -24,14 +24,15 @@ acted t (suc n) r = t
 unfoldable pub changed : Tables → (line : List ℕ) (room place : ℕ) → Tables
 changed t l room place = let r = lineRow (plain t) l in acted t (refusal 0 room place r) r
 
+-- what a plan with this number stores: its entries, that none fits, or nothing new
+abbrev pub foundBy : (number : ℕ) → (entries : List Entry) → Outcome → Outcome
+foundBy zero es o = planned es
+foundBy (suc n) es o = pick (eqb (suc n) no.noneFits) noSet o
+
 -- the outcome after a row with this number: wiped by "any line that printed `ok`", and stored by a plan and its refusal 9. "Refused commands don't
 -- make it old."
-abbrev pub foundBy : (number : ℕ) → (lines : List Entry) → Outcome → Outcome
-foundBy zero es o = planned es
-foundBy (suc n) es o = pick (eqb (suc n) no.noneFits) noneFits o
-
 abbrev pub outcomeBy : (number : ℕ) → Row → Outcome → Outcome
-outcomeBy n (changes x) o = accepted n none o
+outcomeBy n (changes x) o = accepted n nothing o
 outcomeBy n (shows b cs x) o = o
 outcomeBy n (works b m before after x) o = foundBy n (x .entries) o
 

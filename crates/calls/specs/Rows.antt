@@ -35,7 +35,7 @@ use Rattle.meaning.specs.Best.{bestPlan, bestCheck}
 use Rattle.tables.specs.declared.entry.Entry.{Entry}
 use Rattle.meaning.specs.Choice.{planEntries, checkEntries, shownSet}
 use Rattle.meaning.specs.Cells.{cellsOf}
-use Rattle.runs.specs.Outcome.{isNone, isNoneFits, entriesOf}
+use Rattle.runs.specs.Outcome.{isNothing, isNoSet, entriesOf}
 use Rattle.calls.specs.State.{State}
 
 pub record Cause : Type 0 where
@@ -169,7 +169,7 @@ row s line.Save = shows saveBytes [] (showingSave (s .tables))
 -- "`last` shows the latest outcome of `plan`, refusal 9 included (returned as 9)"; "12, no current plan, tested after 5"
 row s line.Last =
     let o = s .outcome in
-    shows freeBytes ((no.noneFits if isNoneFits o) ∷ (no.noPlan if isNone o) ∷ []) (showingPlan (s .tables) (entriesOf o))
+    shows freeBytes ((no.noneFits if isNoSet o) ∷ (no.noPlan if isNothing o) ∷ []) (showingPlan (s .tables) (entriesOf o))
 -- "no command of the table, wrong field count or form"
 row s line.Broken = refuses no.broken
 -- "line over 80 bytes"

@@ -12,7 +12,7 @@ use Rattle.tables.specs.Tables.{Tables}
 use Rattle.tables.specs.Limits.{maxLoads, Limits}
 use Rattle.tables.specs.Stored.{stored, placesOf, tablesOf, keepsLimits, Lengths, Holds}
 use Rattle.runs.specs.declared.outcome.StoredOutcome.{StoredOutcome}
-use Rattle.runs.specs.Outcome.{Outcome, none, storedOutcome, outcomeOf, rangeOf, heldRange, outcomeIn, keepsOutcome}
+use Rattle.runs.specs.Outcome.{Outcome, nothing, storedOutcome, outcomeOf, rangeOf, heldRange, outcomeIn, keepsOutcome}
 
 -- on paper
 pub record State : Type 0 where
@@ -26,7 +26,7 @@ pub record StoredState : Type 0 where
 
 -- the state with these tables and nothing beside them
 abbrev pub plain : Tables → State
-plain t = record { tables = t; outcome = none }
+plain t = record { tables = t; outcome = nothing }
 
 -- "A fresh planner has 0 states and stages, no rules, no loads and budget 0."
 abbrev pub fresh : (places : ℕ) → State

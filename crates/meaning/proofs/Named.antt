@@ -32,14 +32,14 @@ begins-within m ts fit zero x h = absurd h
 begins-within m ts fit (suc j) x h = let b = fit j (h .0) .begins in rw (le-leb 1 x (omega (arith, h .1))) (le-leb x (m .from) (omega (arith, h .1)))
 
 -- ---- how many loads have a number that names nothing, the root's row rule 0 or not
-abbrev placed : Book → ℕ → Assigned → Bool
-placed b k a =
+abbrev nearNamed : Book → ℕ → Assigned → Bool
+nearNamed b k a =
     between 1 (b .states) (a .state)
     && between 1 (length (b .loadRules)) (a .loadRule)
     && ((eqb k 1 && eqb (a .rowRule) 0) || between 1 (length (b .rowRules)) (a .rowRule))
 
 lacking : Book → (ℕ → Assigned) → ℕ → Item → ℕ
-lacking b ρ k i = pick (placed b k (ρ k)) 0 1
+lacking b ρ k i = pick (nearNamed b k (ρ k)) 0 1
 
 module _ (b : Book) (fit : (j : ℕ) → j < length (b .loadRules) → RuleFits (rangeFor b sort.Load) (ruleAt (b .loadRules) j)) (σ : ℕ → ℕ) (ρ : ℕ → Assigned) where
   -- a load with a run of its branch, the root by its row rule 0 or another by the row rule it begins with
@@ -100,7 +100,7 @@ unfolding lacking
 run-names t w σ ρ r k pos few =
     let b = t .book in
     let none = sym (tree-total planned (lacking b ρ) (t .loads) (loads-ordered (t .loads) (w .load))) ∙ tree-lacks-none b (w .rule sort.Load) σ ρ (t .loads) r in
-    let is = found (placed b k (ρ k)) (sum-none (λ k. pick (placed b k (ρ k)) 0 1) 1 (t .loads) none (k - 1) (omega arith) k (omega arith)) in
+    let is = found (nearNamed b k (ρ k)) (sum-none (λ k. pick (nearNamed b k (ρ k)) 0 1) 1 (t .loads) none (k - 1) (omega arith) k (omega arith)) in
     let figures = and-left (between 1 (b .states) (ρ k .state) && between 1 (length (b .loadRules)) (ρ k .loadRule)) _ is in
     let root : k ≡ 1 → ρ k .rowRule ≡ 0 = λ e. subst (λ (i : ℕ). ρ i .rowRule ≡ 0) (sym e) (root-none b (w .rule sort.Load) σ ρ (t .loads) r) in
     rw figures (row-named (length (b .rowRules)) k (ρ k .rowRule) pos root (and-right (between 1 (b .states) (ρ k .state) && between 1 (length (b .loadRules)) (ρ k .loadRule)) _ is))

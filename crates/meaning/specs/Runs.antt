@@ -45,12 +45,13 @@ pub record Assigned : Type 0 where
   pub loadRule : ℕ
   pub rowRule : ℕ
 
--- do the numbers of load k name something, of so many states, load rules and row rules? "A number that names nothing in the book makes it no"
+-- the row rule of load k: 0 for the root, else one of so many
 abbrev pub rowRuleIn : (rules number rule : ℕ) → Bool
 rowRuleIn m zero r = false
 rowRuleIn m (suc zero) r = eqb r 0
 rowRuleIn m (suc (suc k)) r = between 1 m r
 
+-- do the numbers of load k name something, of so many states, load rules and row rules? "A number that names nothing in the book makes it no"
 abbrev pub namedIn : (states loadRules rowRules number : ℕ) → Assigned → Bool
 namedIn s l r k a = between 1 s (a .state) && between 1 l (a .loadRule) && rowRuleIn r k (a .rowRule)
 

@@ -28,8 +28,7 @@ use Rattle.tables.proofs.Lawful.{inside}
 use Rattle.tables.proofs.Stored.{held-loads}
 use Rattle.tables.proofs.Changes.{rule-added, figure-changed}
 use Rattle.tables.proofs.Removed.{load-dropped}
-use Rattle.runs.specs.Outcome as outcome
-use Rattle.runs.specs.Outcome.{storedOutcome}
+use Rattle.runs.specs.Outcome.{nothing, storedOutcome}
 use Rattle.calls.specs.Rows.{Cause, _if_, isLoad, Row, changes, effectOf, unless, adding, setting, changing}
 use Rattle.calls.specs.Causes.{lowest}
 use Rattle.calls.specs.Effects.{acted}
@@ -85,7 +84,7 @@ size-held u sort.Load = refl
 size-held u sort.Row = refl
 
 -- the outcome after a change: wiped where it is accepted
-outcome-after : (p : Planner) → Lawful p → (n : ℕ) → accepted n (storedOutcome outcome.none) (p .outcome) ≡ storedOutcome (accepted n outcome.none (stateIn p .outcome))
+outcome-after : (p : Planner) → Lawful p → (n : ℕ) → accepted n (storedOutcome nothing) (p .outcome) ≡ storedOutcome (accepted n nothing (stateIn p .outcome))
 outcome-after p h zero = refl
 outcome-after p h (suc n) = ap (λ (k : StoredState). k .outcome) (kept-stored (held p) h)
 

@@ -14,6 +14,7 @@ use Rattle.calls.specs.Demand3.{Exchange, History, Demand3}
 use Rattle.calls.specs.Padding.{SameCalls, SameTreatment}
 use Rattle.calls.specs.Saves.{SaveCall, SaveRight, linesOf, AllFree, Restored}
 use Rattle.calls.specs.Drops.{DropCall, Dropped}
+use Rattle.calls.specs.Last.{LastCall, StoredShown}
 use Rattle.calls.proofs.State.{kept-within}
 use Rattle.calls.proofs.Demand1 as paper1
 use Rattle.calls.proofs.Demand2.{check-right}
@@ -22,6 +23,7 @@ use Rattle.calls.proofs.Demand3 as paper3
 use Rattle.calls.proofs.Padding.{same-treatment}
 use Rattle.calls.proofs.Saves.{save-right, restores}
 use Rattle.calls.proofs.Drops.{drops}
+use Rattle.calls.proofs.Last.{last-stored}
 use Rattle.planner.specs.declared.Planner.{Planner}
 use Rattle.judge.specs.declared.Verdict.{Verdict}
 use Rattle.planner.specs.Planner.{held, stateIn, fresh, Lawful}
@@ -75,3 +77,8 @@ fed-back q p g h c k d is xs y l f =
 pub dropped : (p : Planner) → Lawful p → (c : Call) (k : ℕ) (d : Done) → d ≡ called (held p) c → DropCall c k d → Dropped maxLoads (stateIn p .tables) k (d .state)
 dropped p h c k d is x =
     subst (λ (y : Done). Dropped maxLoads (stateIn p .tables) k (y .state)) (sym is) (drops (held p) h c k (subst (DropCall c k) is x))
+
+-- request Five, of a planner within the limits that was handed in with any outcome: `last` shows what is stored, and leaves everything else.
+-- (What it shows after a list of lines from a fresh planner stands in demand 3.)
+pub last : (p : Planner) → Lawful p → (c : Call) → LastCall c → (d : Done) → d ≡ called (held p) c → StoredShown (held p) c d
+last p h c k d is = is ∙ last-stored (held p) h c k

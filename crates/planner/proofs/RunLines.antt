@@ -1,20 +1,15 @@
 -- The lines of a run: one load more, and that they are those of the entries that the run shows. Assumes nothing.
-use Prim.Native.Nat.{ℕ, zero, suc, _+_, _≤_, _<_}
-use mathlib.Core.Path.{_≡_, refl, sym, ap, _∙_}
-use mathlib.Core.Bool.{Bool}
-use mathlib.Core.List.{List, [], _∷_, _++_}
+use Prim.Native.Nat.{ℕ, _+_}
+use mathlib.Core.Path.{_≡_, sym, ap, _∙_}
+use mathlib.Core.List.{List, _++_}
 use mathlib.Core.Logic.{_⊎_, inl, inr}
-use native.Mathlib.Nat.{le-refl}
 use native.Mathlib.Numerals.{add-one}
 use native.Mathlib.Omega.{arith}
-use lib.Dec.{eqb}
-use lib.ListN.{length, getD, take}
-use lib.Seq.{take-suc, take-all}
-use Rattle.lists.specs.Argmax.{guard}
+use lib.ListN.{length}
 use Rattle.lists.proofs.Each.{each-at}
 use Rattle.lines.specs.declared.Change.{Change}
 use Rattle.lines.specs.Saved.{saved}
-use Rattle.lines.specs.Answers.{entryLine, entryLines, AllRanged, textOf, Wrote}
+use Rattle.lines.specs.Answers.{entryLine, entryLines, textOf, Wrote}
 use Rattle.lines.proofs.Answers.{entries-more}
 use Rattle.lines.proofs.Wrote.{wrote-none}
 use Rattle.tables.specs.Tables.{Tables}
@@ -22,7 +17,6 @@ use Rattle.tables.specs.Limits.{maxLoads, Limits}
 use Rattle.tables.proofs.Lawful.{lawful}
 use Rattle.tables.specs.declared.entry.Entry.{Entry}
 use Rattle.meaning.specs.Choice.{noEntry}
-use Rattle.meaning.specs.Claims.{Numbered}
 use Rattle.calls.specs.Rows.{Shown, shownText}
 use Rattle.calls.proofs.Rows.{OneEach, Listing}
 use Rattle.runs.specs.declared.run.Run.{Run}

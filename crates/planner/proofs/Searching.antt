@@ -26,7 +26,7 @@ use Rattle.meaning.specs.Cells.{cellsOf}
 use Rattle.runs.specs.declared.run.Run.{Run}
 use Rattle.runs.specs.declared.outcome.StoredOutcome.{StoredOutcome}
 use Rattle.runs.specs.Runs.{runOf, entriesTo}
-use Rattle.runs.specs.Outcome.{Outcome, planned, isNone, isNoneFits, entriesOf, found, storedOutcome, ofKind, outcomeOf, rangeOf, outcomeIn}
+use Rattle.runs.specs.Outcome.{Outcome, planned, isNothing, isNoSet, entriesOf, found, storedOutcome, ofKind, outcomeOf, rangeOf, outcomeIn}
 use Rattle.runs.proofs.Stored.{lines-in, outcome-stored}
 use Rattle.calls.specs.State.{State, StoredState, storedState}
 use Rattle.calls.specs.Rows.{_if_, Row, showingPlan, noneFits, notAllowed, row, causesOf, cellsFor}
@@ -47,13 +47,13 @@ use Rattle.planner.specs.Decided.{unshown, decidedBy, decided, Decides}
 use Rattle.planner.proofs.Commands.{tables-count}
 
 -- ---- what a search found
-pub none-found : (v : ℕ) (es : List Entry) {o : StoredOutcome} → o ≡ storedOutcome (found v es) → o .kind ≡ 1 → v ≡ 0
-none-found zero es is e = refl
-none-found (suc v) es is e = absurd (omega (arith, ap (λ (o : StoredOutcome). o .kind) is))
+pub kind-none : (v : ℕ) (es : List Entry) {o : StoredOutcome} → o ≡ storedOutcome (found v es) → o .kind ≡ 1 → v ≡ 0
+kind-none zero es is e = refl
+kind-none (suc v) es is e = absurd (omega (arith, ap (λ (o : StoredOutcome). o .kind) is))
 
-pub some-found : (v : ℕ) (es : List Entry) {o : StoredOutcome} → o ≡ storedOutcome (found v es) → (o .kind ≡ 1 → ⊥) → (v ≡ 0 → ⊥) × (o .run ≡ runOf es)
-some-found zero es is d = absurd (d (ap (λ (o : StoredOutcome). o .kind) is))
-some-found (suc v) es is d = (λ z. omega arith, ap (λ (o : StoredOutcome). o .run) is)
+pub kind-some : (v : ℕ) (es : List Entry) {o : StoredOutcome} → o ≡ storedOutcome (found v es) → (o .kind ≡ 1 → ⊥) → (v ≡ 0 → ⊥) × (o .run ≡ runOf es)
+kind-some zero es is d = absurd (d (ap (λ (o : StoredOutcome). o .kind) is))
+kind-some (suc v) es is d = (λ z. omega arith, ap (λ (o : StoredOutcome). o .run) is)
 
 -- ---- the numbers of `plan`
 module _ (s : State) (cells : ℕ) where
@@ -149,7 +149,7 @@ module _ (p : Planner) (h : Lawful p) where
 
     last-accepted : lowest (causesOf 0 (row (stateIn p) Last)) ≡ 0
     unfolding row lowest
-    last-accepted = ap (λ (o : Outcome). lowest ((no.noneFits if isNoneFits o) ∷ (no.noPlan if isNone o) ∷ [])) planned-is
+    last-accepted = ap (λ (o : Outcome). lowest ((no.noneFits if isNoSet o) ∷ (no.noPlan if isNothing o) ∷ [])) planned-is
 
     -- a plan is shown, with the figures of its set
     pub shows-last : (r : Run) → r ≡ p .outcome .run → (v w k : ℕ)

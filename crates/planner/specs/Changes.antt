@@ -11,7 +11,7 @@ use Rattle.tables.specs.declared.load.Load.{Load}
 use Rattle.tables.specs.Tables.{noRule, noLoad}
 use Rattle.tables.specs.Limits.{ruleIn, loadIn}
 use Rattle.tables.specs.Operations.{accepted}
-use Rattle.runs.specs.Outcome.{none, storedOutcome}
+use Rattle.runs.specs.Outcome.{nothing, storedOutcome}
 use Rattle.calls.specs.State.{State, storedState}
 use Rattle.calls.specs.Rows.{Changing, changes, changing}
 use Rattle.calls.specs.Causes.{lowest}
@@ -31,7 +31,7 @@ namedLoad k l = let fits = loadIn k l in record { fits = fits; load = pick fits 
 
 -- the answer of a change with this number, and the planner with the tables after it: "an accepted change wipes" the outcome
 abbrev pub settled : Planner → (number : ℕ) → StoredTables → Changed
-settled p n u = record { answer = answerOf n; planner = record { tables = u; outcome = accepted n (storedOutcome none) (p .outcome) } }
+settled p n u = record { answer = answerOf n; planner = record { tables = u; outcome = accepted n (storedOutcome nothing) (p .outcome) } }
 
 -- what a change answers, and the planner after it. (No change's number depends on the cells.)
 unfoldable pub madeBy : State → Changing → Changed

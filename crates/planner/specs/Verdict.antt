@@ -12,7 +12,7 @@ use Rattle.judge.specs.Verdict.{judged}
 use Rattle.judge.specs.Claims.{CaseOf}
 use Rattle.calls.specs.State.{StoredState, keeps}
 
--- "a planner handed in that breaks a limit (judge: only this)": 1; else the judge's answer on its tables
+-- "a planner handed in that breaks a limit .. (judge: only this)": 1; else the judge's answer on its tables
 unfoldable pub judgedBy : StoredState → List ℕ → Verdict
 judgedBy p ns = pick (keeps p) (judged (p .tables) ns) LimitBroken
 

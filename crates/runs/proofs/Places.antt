@@ -1,8 +1,8 @@
 -- The test of an outcome place by place, as the code goes, is the test of its limits. Assumes nothing.
 use Prim.Native.Nat.{ℕ, zero, suc, _+_, _≤_, _<_}
-use mathlib.Core.Path.{_≡_, refl, sym, ap, ap₂, _∙_}
+use mathlib.Core.Path.{_≡_, refl, sym, _∙_}
 use mathlib.Core.Bool.{Bool, true, false, _&&_, _||_}
-use mathlib.Core.List.{List, [], _∷_, _++_}
+use mathlib.Core.List.{[], _∷_, _++_}
 use mathlib.Core.Logic.{_⊎_, inl, inr}
 use native.Mathlib.Omega.{arith}
 use borrow.Author.Tests.{eq-eqb, ne-eqb, leb-true, le-leb, lt-ltb, le-ltb}
@@ -10,9 +10,10 @@ use lib.Dec.{eqb, leb, ltb}
 use lib.ListN.{length, getD, List·getD-eq-default, List·getD-append}
 use lib.Seq.{getD-at}
 use Rattle.lists.specs.Tests.{everyFrom}
-use Rattle.lists.proofs.Bools.{and-left, and-right, and-true, and-false, same-test, below-or}
+use Rattle.lists.proofs.Bools.{and-left, and-right, and-false, same-test, below-or}
 use Rattle.lists.proofs.Tests.{every-drop, drop-every, from-each, from-at, below-at, below-all}
-use Rattle.marks.specs.Sets.{loadsUpTo}
+use Rattle.lists.specs.Argmax.{guard}
+use Rattle.marks.specs.Sets.{hasLoad, loadsUpTo}
 use Rattle.tables.specs.Limits.{between, maxLoads}
 use Rattle.tables.specs.declared.entry.Entry.{Entry}
 use Rattle.meaning.specs.Runs.{rowRuleIn}
@@ -34,17 +35,11 @@ row-in m (suc zero) r = go (eqb r 0)
     go false = refl
 row-in m (suc (suc k)) r = rw (ne-eqb (suc (suc k)) 1 (λ e. absurd (omega arith)), le-leb 2 (suc (suc k)) (omega arith))
 
-in-order : (a b c d : Bool) → a && b && c && d ≡ a && (b && c && d)
-in-order true b c d = refl
-in-order false b c d = refl
-
 pub figures-range : (m : RunRange) (e : Entry)
-    → leb (e .mark) 1 && between 1 (m .states) (e .state) && between 1 (m .«load_rules») (e .rule)
+    → between 1 (m .states) (e .state) && between 1 (m .«load_rules») (e .rule)
     && ((eqb (e .number) 1 && eqb (e .row) 0) || (leb 2 (e .number) && (leb 1 (e .row) && leb (e .row) (m .«row_rules»)))) ≡ figuresIn m e
 unfolding figuresIn
-figures-range m e =
-    rw (row-in (m .«row_rules») (e .number) (e .row))
-    (in-order (leb (e .mark) 1) (between 1 (m .states) (e .state)) (between 1 (m .«load_rules») (e .rule)) (rowRuleIn (m .«row_rules») (e .number) (e .row)))
+figures-range m e = rw (row-in (m .«row_rules») (e .number) (e .row))
 
 -- ---- how many places are in use
 pub used-some : (n k : ℕ) → 2 ≤ k → n ≡ usedBy n k
@@ -70,33 +65,33 @@ entries-at r (suc n) i h = go (below-or i n) (entries-at r n i)
         rw e (getD-at (entriesTo r n) (entryAt r n) [] noEntry n (entries-length r n))
 
 -- ---- a planned outcome, place by place
+one-most : (b : Bool) → leb (guard b 1) 1 ≡ true
+one-most true = refl
+one-most false = refl
+
 module _ (m : RunRange) (r : Run) where
-  lines-in : (n : ℕ) → m .loads ≡ n → ((i : ℕ) → i < n → figuresIn m (entryAt r i) ≡ true) → outcomeIn m (planned (entriesTo r n)) ≡ true
+  lines-kept : (n : ℕ) → m .loads ≡ n → ((i : ℕ) → i < n → figuresIn m (entryAt r i) ≡ true) → outcomeIn m (planned (entriesTo r n)) ≡ true
   unfolding outcomeIn entryIn
-  lines-in n e f =
+  lines-kept n e f =
       rw (eq-eqb (length (entriesTo r n)) (m .loads) (omega (arith, entries-length r n)))
       (from-each noEntry (entryIn m) 1 (entriesTo r n) (λ i b k q.
       let j : i < n = omega (arith, entries-length r n) in
       let s : k ≡ suc i = omega arith in
-      rw (s, entries-at r n i j, eq-eqb (suc i) (suc i) refl) (f i j)))
+      rw (s, entries-at r n i j, eq-eqb (suc i) (suc i) refl, one-most (hasLoad (r .set) (suc i))) (f i j)))
 
   in-lines : (n : ℕ) → outcomeIn m (planned (entriesTo r n)) ≡ true → (i : ℕ) → i < n → figuresIn m (entryAt r i) ≡ true
   unfolding outcomeIn entryIn
   in-lines n h i j =
       let each = and-right (eqb (length (entriesTo r n)) (m .loads)) (everyFrom (entryIn m) 1 (entriesTo r n)) h in
       let at = from-at noEntry (entryIn m) 1 (entriesTo r n) each i (omega (arith, entries-length r n)) (suc i) (omega arith) in
-      and-right (eqb (suc i) (suc i)) (figuresIn m (entryAt r i)) (rw (entries-at r n i j) at at)
+      and-right (eqb (suc i) (suc i) && leb (entryAt r i .mark) 1) (figuresIn m (entryAt r i)) (rw (entries-at r n i j) at at)
 
   -- past the array a state is 0, which is none of a book
   past : length (r .states) ≡ maxLoads → figuresIn m (entryAt r maxLoads) ≡ true → ⊥
   unfolding figuresIn
   past e h =
-      let figures = and-right (leb (markAt maxLoads) 1) _ h in
-      let state = and-left (leb 1 (getD (r .states) maxLoads 0)) (leb (getD (r .states) maxLoads 0) (m .states)) (and-left _ _ (and-left _ _ figures)) in
+      let state = and-left (leb 1 (getD (r .states) maxLoads 0)) (leb (getD (r .states) maxLoads 0) (m .states)) (and-left _ _ (and-left _ _ h)) in
       omega (arith, leb-true 1 (getD (r .states) maxLoads 0) state, List·getD-eq-default (r .states) 0 {n = maxLoads} (omega (arith, e)))
-    where
-      markAt : ℕ → ℕ
-      markAt i = entryAt r i .mark
 
 -- ---- all places: each in use is in range, and every other holds 0
 module _ (m : RunRange) (r : Run) (lenS : length (r .states) ≡ maxLoads) (lenL : length (r .«load_rules») ≡ maxLoads) (lenR : length (r .«row_rules») ≡ maxLoads) where
@@ -136,7 +131,7 @@ module _ (m : RunRange) (r : Run) (lenS : length (r .states) ≡ maxLoads) (lenL
   unfolding outcomeIn figuresKeep
   kind-in zero f = refl
   kind-in (suc zero) f = refl
-  kind-in (suc (suc k)) f = lines-in m r (m .loads) refl (λ i l. below-at _ (m .loads) i f l)
+  kind-in (suc (suc k)) f = lines-kept m r (m .loads) refl (λ i l. below-at _ (m .loads) i f l)
 
   in-kind : (k : ℕ) → outcomeIn m (ofKind k (entriesTo r (m .loads))) ≡ true → figuresKeep m r (usedBy (m .loads) k) ≡ true
   unfolding figuresKeep

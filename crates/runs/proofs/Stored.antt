@@ -1,7 +1,7 @@
 -- An outcome within its range, stored and read back, and the test of one that is handed in. Assumes nothing.
 use Prim.Native.Nat.{ℕ, zero, suc, _%_, _^_, _≤_, _<_, zero-le}
 use mathlib.Core.Path.{_≡_, refl, sym, ap, subst, _∙_}
-use mathlib.Core.Bool.{Bool, true, false, _&&_}
+use mathlib.Core.Bool.{true, _&&_}
 use mathlib.Core.List.{List, [], _∷_, map}
 use native.Mathlib.Nat.{mod-lt}
 use native.Mathlib.Numerals.{one-add}
@@ -30,38 +30,37 @@ use Rattle.runs.specs.declared.run.Run.{Run}
 use Rattle.runs.specs.declared.outcome.StoredOutcome.{StoredOutcome}
 use Rattle.runs.specs.declared.outcome.RunRange.{RunRange}
 use Rattle.runs.specs.Runs.{markAll, runOf, entriesTo}
-use Rattle.runs.specs.Outcome.{Outcome, none, noneFits, planned, found, storedOutcome, ofKind, outcomeOf, rangeOf, figuresIn, entryIn, outcomeIn, usedBy, zeroFrom, runFree, keepsOutcome}
+use Rattle.runs.specs.Outcome.{Outcome, nothing, noSet, planned, found, storedOutcome, ofKind, outcomeOf, rangeOf, figuresIn, entryIn, outcomeIn, usedBy, zeroFrom, runFree, keepsOutcome}
 use Rattle.runs.proofs.Entries.{number-at, find-at, entries-read, set-to, run-read}
 
 -- ---- the lines of a plan that is in range
 pub record LinesIn (m : RunRange) (es : List Entry) : Type 0 where
   pub all : length es ≡ m .loads
   pub each : Numbered 1 es
+  pub marks : (i : ℕ) → i < length es → getD es i noEntry .mark ≤ 1
   pub figures : (i : ℕ) → i < length es → figuresIn m (getD es i noEntry) ≡ true
 
 numbered-from : (m : RunRange) (k : ℕ) (es : List Entry) → everyFrom (entryIn m) k es ≡ true → Numbered k es
 unfolding everyFrom entryIn
 numbered-from m k [] h = tt
 numbered-from m k (e ∷ es) h =
-    let here = and-left (eqb (e .number) k && figuresIn m e) (everyFrom (entryIn m) (suc k) es) h in (
-      eqb-true (e .number) k (and-left (eqb (e .number) k) (figuresIn m e) here),
-      numbered-from m (suc k) es (and-right (eqb (e .number) k && figuresIn m e) (everyFrom (entryIn m) (suc k) es) h),
+    let here = and-left (eqb (e .number) k && leb (e .mark) 1 && figuresIn m e) (everyFrom (entryIn m) (suc k) es) h in (
+      eqb-true (e .number) k (and-left (eqb (e .number) k) (leb (e .mark) 1) (and-left (eqb (e .number) k && leb (e .mark) 1) (figuresIn m e) here)),
+      numbered-from m (suc k) es (and-right (eqb (e .number) k && leb (e .mark) 1 && figuresIn m e) (everyFrom (entryIn m) (suc k) es) h),
     )
 
 pub lines-in : (m : RunRange) (es : List Entry) → outcomeIn m (planned es) ≡ true → LinesIn m es
 unfolding outcomeIn entryIn
 lines-in m es h =
     let each = and-right (eqb (length es) (m .loads)) (everyFrom (entryIn m) 1 es) h in
+    let at : (i : ℕ) → i < length es → entryIn m (suc i) (getD es i noEntry) ≡ true = λ i b. from-at noEntry (entryIn m) 1 es each i b (suc i) (omega arith) in
+    let front : (i : ℕ) → i < length es → eqb (getD es i noEntry .number) (suc i) && leb (getD es i noEntry .mark) 1 ≡ true = λ i b. and-left _ (figuresIn m (getD es i noEntry)) (at i b) in
     record {
       all = eqb-true (length es) (m .loads) (and-left (eqb (length es) (m .loads)) (everyFrom (entryIn m) 1 es) h);
       each = numbered-from m 1 es each;
-      figures = λ i b. and-right (eqb (getD es i noEntry .number) (suc i)) _ (from-at noEntry (entryIn m) 1 es each i b (suc i) (omega arith));
+      marks = λ i b. leb-true (getD es i noEntry .mark) 1 (and-right (eqb (getD es i noEntry .number) (suc i)) _ (front i b));
+      figures = λ i b. and-right (eqb (getD es i noEntry .number) (suc i) && leb (getD es i noEntry .mark) 1) _ (at i b);
     }
-
--- a mark is 0 or 1
-pub mark-in : (m : RunRange) (e : Entry) → figuresIn m e ≡ true → e .mark ≤ 1
-unfolding figuresIn
-mark-in m e h = leb-true (e .mark) 1 (and-left (leb (e .mark) 1) _ h)
 
 -- a state, a load rule and a row rule are no more than there are
 pub record Few (m : RunRange) (e : Entry) : Type 0 where
@@ -77,14 +76,13 @@ row-few m (suc (suc k)) r h = leb-true r m (and-right (leb 1 r) (leb r m) h)
 pub named-in : (m : RunRange) (e : Entry) → figuresIn m e ≡ true → Few m e
 unfolding figuresIn
 named-in m e h =
-    let named = and-right (leb (e .mark) 1) _ h in
     let s = between 1 (m .states) (e .state) in
     let l = between 1 (m .«load_rules») (e .rule) in
-    let two = and-left (s && l) (rowRuleIn (m .«row_rules») (e .number) (e .row)) named in
+    let two = and-left (s && l) (rowRuleIn (m .«row_rules») (e .number) (e .row)) h in
     record {
       state = leb-true (e .state) (m .states) (and-right (leb 1 (e .state)) _ (and-left s l two));
       rule = leb-true (e .rule) (m .«load_rules») (and-right (leb 1 (e .rule)) _ (and-right s l two));
-      row = row-few (m .«row_rules») (e .number) (e .row) (and-right (s && l) (rowRuleIn (m .«row_rules») (e .number) (e .row)) named);
+      row = row-few (m .«row_rules») (e .number) (e .row) (and-right (s && l) (rowRuleIn (m .«row_rules») (e .number) (e .row)) h);
     }
 
 -- ---- stored, and read back
@@ -92,11 +90,11 @@ module _ (m : RunRange) (few : m .loads ≤ maxLoads) where
   lines-read : (es : List Entry) → LinesIn m es → entriesTo (runOf es) (m .loads) ≡ es
   lines-read es l =
       subst (λ (n : ℕ). entriesTo (runOf es) n ≡ es) (l .all)
-      (entries-read es (l .each) (omega (arith, l .all)) (λ i b. mark-in m (getD es i noEntry) (l .figures i b)))
+      (entries-read es (l .each) (omega (arith, l .all)) (l .marks))
 
   pub outcome-stored : (o : Outcome) → outcomeIn m o ≡ true → outcomeOf (m .loads) (storedOutcome o) ≡ o
-  outcome-stored none h = refl
-  outcome-stored noneFits h = refl
+  outcome-stored nothing h = refl
+  outcome-stored noSet h = refl
   outcome-stored (planned es) h = ap planned (lines-read es (lines-in m es h))
 
   -- what is stored keeps the limits: past the loads all is 0
@@ -123,8 +121,8 @@ module _ (m : RunRange) (few : m .loads ≤ maxLoads) where
 
   pub stored-in : (o : Outcome) → outcomeIn m o ≡ true → keepsOutcome m (storedOutcome o) ≡ true
   unfolding keepsOutcome runOf runFree markAll laid every outcomeIn
-  stored-in none h = refl
-  stored-in noneFits h = refl
+  stored-in nothing h = refl
+  stored-in noSet h = refl
   stored-in (planned es) h = rw (run-free es (lines-in m es h), lines-read es (lines-in m es h)) h
 
   -- what keeps the limits is stored so
@@ -147,13 +145,13 @@ pub kept-in : (m : RunRange) (o : StoredOutcome) → keepsOutcome m o ≡ true �
 unfolding keepsOutcome
 kept-in m o h = and-right (leb (o .kind) 2 && runFree (usedBy (m .loads) (o .kind)) (o .run)) (outcomeIn m (outcomeOf (m .loads) o)) h
 
--- ---- what a search found
-pub none-found : (v : ℕ) (es : List Entry) → v ≡ 0 → record { kind = 1; run = runOf [] } ≡ storedOutcome (found v es)
-none-found v es e = rw e
+-- ---- what a search found: nothing where its best is 0
+pub found-none : (v : ℕ) (es : List Entry) → v ≡ 0 → noSet ≡ found v es
+found-none v es e = rw e
 
-pub some-found : (v : ℕ) (es : List Entry) → 0 < v → record { kind = 2; run = runOf es } ≡ storedOutcome (found v es)
-some-found zero es h = absurd (omega arith)
-some-found (suc v) es h = refl
+pub found-some : (v : ℕ) (es : List Entry) → 0 < v → planned es ≡ found v es
+found-some zero es h = absurd (omega arith)
+found-some (suc v) es h = refl
 
 -- the lines of a run of the tables are in range for them
 pub run-in : (t : Tables) → Lawful t → (es : List Entry) → EachLoad t es → ((i : ℕ) → i < length es → getD es i noEntry .mark ≤ 1)

@@ -21,46 +21,47 @@ use Rattle.runs.specs.Runs.{runOf, entriesTo}
 -- on paper: "no current plan"; "refusal 9 included"; or a plan, by its load lines. (Worth, power and number on are those of the set that they
 -- show, on the tables.)
 pub data Outcome : Type 0 where
-  none : Outcome
-  noneFits : Outcome
+  nothing : Outcome
+  noSet : Outcome
   planned : List Entry → Outcome
 
-abbrev pub isNone : Outcome → Bool
-isNone none = true
-isNone noneFits = false
-isNone (planned es) = false
+abbrev pub isNothing : Outcome → Bool
+isNothing nothing = true
+isNothing noSet = false
+isNothing (planned es) = false
 
-abbrev pub isNoneFits : Outcome → Bool
-isNoneFits none = false
-isNoneFits noneFits = true
-isNoneFits (planned es) = false
+abbrev pub isNoSet : Outcome → Bool
+isNoSet nothing = false
+isNoSet noSet = true
+isNoSet (planned es) = false
 
 -- the load lines
 abbrev pub entriesOf : Outcome → List Entry
-entriesOf none = []
-entriesOf noneFits = []
+entriesOf nothing = []
+entriesOf noSet = []
 entriesOf (planned es) = es
 
 -- what a search found: its best is 0 where it found nothing
 abbrev pub found : (best : ℕ) → List Entry → Outcome
-found zero es = noneFits
+found zero es = noSet
 found (suc v) es = planned es
 
 -- ---- in a planner
 abbrev pub kindOf : Outcome → ℕ
-kindOf none = 0
-kindOf noneFits = 1
+kindOf nothing = 0
+kindOf noSet = 1
 kindOf (planned es) = 2
 
 abbrev pub storedOutcome : Outcome → StoredOutcome
 storedOutcome o = record { kind = kindOf o; run = runOf (entriesOf o) }
 
--- what lies there, with so many loads
+-- what a kind says
 abbrev pub ofKind : (kind : ℕ) → List Entry → Outcome
-ofKind zero es = none
-ofKind (suc zero) es = noneFits
+ofKind zero es = nothing
+ofKind (suc zero) es = noSet
 ofKind (suc (suc k)) es = planned es
 
+-- what lies there, with so many loads
 abbrev pub outcomeOf : (loads : ℕ) → StoredOutcome → Outcome
 outcomeOf n o = ofKind (o .kind) (entriesTo (o .run) n)
 
@@ -82,21 +83,21 @@ heldRange s = record {
   «row_rules» = s .book .«row_rules» .count;
 }
 
--- a mark, and "a state, a load rule and a row rule (0 for the root)" that are in the book
+-- "a state, a load rule and a row rule (0 for the root)" that are in the book
 unfoldable pub figuresIn : RunRange → Entry → Bool
-figuresIn m e = leb (e .mark) 1 && namedIn (m .states) (m .«load_rules») (m .«row_rules») (e .number) (assigned e)
+figuresIn m e = namedIn (m .states) (m .«load_rules») (m .«row_rules») (e .number) (assigned e)
 
--- the line of load k
+-- the line of load k, with mark 0 or 1
 unfoldable pub entryIn : RunRange → (k : ℕ) → Entry → Bool
-entryIn m k e = eqb (e .number) k && figuresIn m e
+entryIn m k e = eqb (e .number) k && leb (e .mark) 1 && figuresIn m e
 
 -- "A run gives every load ..": a line for each load
 unfoldable pub outcomeIn : RunRange → Outcome → Bool
-outcomeIn m none = true
-outcomeIn m noneFits = true
+outcomeIn m nothing = true
+outcomeIn m noSet = true
 outcomeIn m (planned es) = eqb (length es) (m .loads) && everyFrom (entryIn m) 1 es
 
--- "unused places hold 0", all of them where there is no plan; and no load is on that is not there
+-- the places in use: one for each load, where it is a plan
 abbrev pub usedBy : (loads kind : ℕ) → ℕ
 usedBy n zero = 0
 usedBy n (suc zero) = 0
@@ -105,6 +106,7 @@ usedBy n (suc (suc k)) = n
 abbrev pub zeroFrom : ℕ → List ℕ → Bool
 zeroFrom n xs = every (λ x. eqb x 0) (drop n xs)
 
+-- "unused places hold 0", and no load is on that is not there
 unfoldable pub runFree : (used : ℕ) → Run → Bool
 runFree n r = zeroFrom n (r .states) && zeroFrom n (r .«load_rules») && zeroFrom n (r .«row_rules») && loadsUpTo n (r .set)
 

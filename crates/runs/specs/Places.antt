@@ -15,7 +15,7 @@ use Rattle.runs.specs.Outcome.{figuresIn}
 abbrev pub zeroAt : Run → ℕ → Bool
 zeroAt r i = eqb (getD (r .states) i 0) 0 && eqb (getD (r .«load_rules») i 0) 0 && eqb (getD (r .«row_rules») i 0) 0
 
--- all places from number n on hold 0
+-- all places from place n on hold 0
 unfoldable pub freeFrom : ℕ → Run → Bool
 freeFrom n r = allBelow (λ i. ltb i n || zeroAt r i) maxLoads
 

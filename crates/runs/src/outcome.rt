@@ -56,7 +56,7 @@ impl RunRange {
         let rules = (1 <= rule) & (rule <= self.load_rules);
         let root = (e.number == 1) & (row == 0);
         let later = (2 <= e.number) & ((1 <= row) & (row <= self.row_rules));
-        (e.mark <= 1) & states & rules & (root | later)
+        states & rules & (root | later)
     }
 }
 

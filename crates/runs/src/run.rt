@@ -47,7 +47,7 @@ impl Run {
         }
     }
 
-    // Do all places from number n on hold 0?
+    // Do all places from place n on hold 0?
     pub(crate) fn free_from(self, n: usize) -> bool
         ensures { λ r. ⌜ r ≡ freeFrom n self ⌝ }
     {

@@ -15,7 +15,8 @@ use Rattle.runs.specs.declared.run.Run.{Run}
 use Rattle.engine.specs.declared.pass.Pass.{Pass}
 use Rattle.runs.specs.Runs.{markAll, runOf}
 use Rattle.engine.specs.Pass.{bestFor, entriesFor, loadChoice, passedLoad, Passed}
-use Rattle.runs.proofs.Stored.{none-found, some-found}
+use Rattle.runs.specs.Outcome.{storedOutcome}
+use Rattle.runs.proofs.Stored.{found-none, found-some}
 use Rattle.engine.proofs.Passing.{child-in, pass-root}
 use Rattle.engine.proofs.Reading.{start-index, start-value, start-pos, start-used, start-possible}
 use Rattle.engine.proofs.pass.trace.Statement.{statement}
@@ -36,8 +37,8 @@ returns c =
     let b = c .before .before in
     let h = b .before in
     let s = h .before .before in
-    none-found _ _
-    (sym (start-value (s .args .p) (s .args .work .now) (s .pre .0) (s .pre .1) _ (h .shape-of .ensures) (b .best-start .result) (b .best-start .ensures)) ∙ c .if1 .taken)
+    ap storedOutcome (found-none (bestFor (s .args .p)) (inOrder (entriesFor (s .args .p)) 1 (s .args .p .tables .loads .count))
+    (sym (start-value (s .args .p) (s .args .work .now) (s .pre .0) (s .pre .1) _ (h .shape-of .ensures) (b .best-start .result) (b .best-start .ensures)) ∙ c .if1 .taken))
 
 -- the state that is found is one of the book
 used : (c : tie.Else1 Inv-loop μ-loop) → c .before .before .best-start .result .index < maxStates
@@ -108,7 +109,7 @@ returns-2 c =
     let value = start-value (s .args .p) (s .args .work .now) (s .pre .0) (s .pre .1) _ (h .shape-of .ensures) (b .best-start .result) (b .best-start .ensures) in
     let found = l .before .before .before .before .if1 .left in
     ap (λ (r : Run). record { kind = 2; run = r }) (l .loop .inv .2 .run ∙ ap (λ k. runOf (inOrder (entriesFor (s .args .p)) 1 k)) n)
-    ∙ some-found (bestFor (s .args .p)) (inOrder (entriesFor (s .args .p)) 1 (s .args .p .tables .loads .count)) (omega (arith, value))
+    ∙ ap storedOutcome (found-some (bestFor (s .args .p)) (inOrder (entriesFor (s .args .p)) 1 (s .args .p .tables .loads .count)) (omega (arith, value)))
 
 pub trace-spec : {M : Type 1} → statement M
 trace-spec =

@@ -4,7 +4,6 @@ use borrow.Author.Needs.{needs}
 use lib.ListN.{length}
 use Rattle.lists.proofs.Bools.{and-left, and-right}
 use Rattle.tables.specs.Limits.{maxLoads}
-use Rattle.tables.specs.Stored.{keepsLimits}
 use Rattle.calls.proofs.State.{kept-by}
 use Rattle.planner.specs.Planner.{held}
 use Rattle.planner.proofs.Planner.keeps_limits.Statement.{statement}
