@@ -14,7 +14,7 @@ pub const LINE_BYTES: usize = 80;
 /// A number in a line has at most this many digits, zeros in front of it among them: such zeros change nothing.
 pub const MAX_DIGITS: usize = 5;
 
-/// So many bytes must be free in the output from the place on, for every line but `save`, of `last` too.
+/// So many bytes must be free in the output from the place on, for every line but `save`, `last` among them.
 pub const FREE_BYTES: usize = 1024;
 
 /// So many must be free for `save`. An output of this length is enough for every line.
@@ -250,7 +250,8 @@ impl Planner {
     }
 
     /// The latest plan, its lines each with its line feed, as `last` shows it: without planning anew. It changes nothing. It is refused with
-    /// [`Refusal::NoneFits`] where the plan was, and with [`Refusal::NoPlan`] where a change was accepted since, or no plan was asked for.
+    /// [`Refusal::NoneFits`] where the plan was, and with [`Refusal::NoPlan`] where a change was accepted since, or no plan was shown or refused so
+    /// at all.
     pub fn last<'a>(&mut self, out: &'a mut [u8; FREE_BYTES]) -> Result<&'a [u8], Refusal> {
         let answer = self.call(b"last", out, 0, &mut []);
         answer.refusal.map_or(Ok(&out[..answer.count]), Err)

@@ -54,7 +54,7 @@ extern "C" {
 /* A number in a line has at most this many digits, zeros in front of it among them: such zeros change nothing. */
 #define HULMEIDE_MAX_DIGITS 5
 
-/* So many bytes must be free in the output from the place on, for every line but `save`, of `last` too. No answer but a save is longer. */
+/* So many bytes must be free in the output from the place on, for every line but `save`, `last` among them. No answer but a save is longer. */
 #define HULMEIDE_FREE_BYTES 1024
 
 /* So many must be free for `save`, and no save is longer: a caller that passes every line on lends this. A line that only begins like it, as
@@ -112,7 +112,8 @@ enum hulmeide_number {
     HULMEIDE_NOT_ALLOWED = 10,
     /* `drop` of a load that has children. */
     HULMEIDE_HAS_CHILDREN = 11,
-    /* `last` with no current plan: none was asked for since the last accepted change, or at all. With no loads it is this, and not 4. */
+    /* `last` with no current plan: since the last accepted change, or at all, none was shown and none refused with HULMEIDE_NONE_FITS. By lines
+     * it is this with no loads too, and not 4. */
     HULMEIDE_NO_PLAN = 12,
     /* The judge: no, the numbers are not a run. This is no refusal, and lies above the numbers of all of them. */
     HULMEIDE_NOT_A_RUN = 255
@@ -189,11 +190,12 @@ struct hulmeide_outcome {
  * The tables, and beside them the outcome of the latest plan. `plan` stores it, with HULMEIDE_NONE_FITS too, and a line that is answered with
  * "ok" wipes it; nothing else does either.
  *
- * A planner may be copied, to flash as well, and handed in again. Its outcome is tested as its tables are, but only for its ranges: a state of
- * the book, rules of the book, no load that is not there. A figure out of range turns every call away (1). That the run is one of these tables,
- * or the best, is not tested: where something else than these functions changed a byte in between, `last` may show what no plan has shown, a
- * power above the budget among it. So firmware that cannot trust such a copy asks for a `plan` before it shows `last`, or keeps the lines of a
- * `save` in the place of the planner: a planner that takes them has no outcome.
+ * A planner may be copied and handed in again. (To flash write the lines of a `save`, as docs/FIRMWARE.md says: the layout may change with a
+ * version.) Its outcome is tested as its tables are, but only for its ranges: a state of the book, rules of the book, no load that is not there.
+ * A figure out of range turns every call away (1). That the run is one of these tables, or the best, is not tested: where something else than
+ * these functions changed a byte in between, `last` may show what no plan has shown, a power above the budget among it. So firmware that cannot
+ * trust such a copy asks for a `plan` before it shows `last`, or keeps the lines of a `save` in the place of the planner: a planner that takes them
+ * has no outcome.
  */
 struct hulmeide_planner {
     struct hulmeide_book book;

@@ -6,7 +6,7 @@
 Every answer to a change, every refusal from 2 to 8, every 11 and 12 and every save is compared. Of a plan or a check that the tables do not
 refuse, the answer must be 9 or 10, or a run of the set it shows, line for line (shown.py). The last plan must be what was printed for the
 latest one, where the model has one stored. Every number that a word can be answered with must come up.
-After a drop a save, a plan and a check are asked for. Another process, fed the tree without that load, must answer the same.
+After a drop a save, a plan with `last` before and after it, and a check are asked for. Another process, fed the tree without that load, must answer the same.
 Plans are asked for again, of another process, with a budget of just their power and with a watt less (budgets.py); and where the last plan was
 shown, the tables in force are fed to another process, whose plan must be the same (latest.py).
 Then the same lines are given to models that are wrong on purpose (wrong.py), and each must be told apart from the program.

@@ -600,5 +600,6 @@ def keeping(words):
 
 
 CHANGES = (b'clear',), (b'book',), (b'start', b'end'), (b'rule',), (b'row',), (b'load',), (b'power',), (b'worth',), (b'budget',), (b'drop',)
+# Held here, since __subclasses__ forgets a class that nobody holds.
 KEEPING = [keeping(words) for words in CHANGES]
 WRONG = {kind.__name__: kind for kind in Model.__subclasses__()}

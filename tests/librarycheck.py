@@ -198,7 +198,7 @@ def handed_in_fault(rng, library, p, lines):
 
 
 def outcome_faults(rng, library, p, lines, count, seen):
-    """What is wrong with a planner handed in with so many outcomes by chance. Of those in range what `last` answers is counted."""
+    """What is wrong with a planner handed in with so many outcomes by chance. What `last` answers is counted, 1 where the outcome is out of range."""
     faults = []
     for _ in range(count):
         q = with_any_outcome(rng, p)

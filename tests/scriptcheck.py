@@ -65,7 +65,7 @@ def told_apart(limits, handed_in):
 
 
 def untold(scripts):
-    """The wrong limits that neither calls nor the judge, or not both of them, tell apart."""
+    """The wrong limits that the calls, or the judge, do not tell apart."""
     by_calls, by_judge = [one for s in scripts for one in s.called_with], [one for s in scripts for one in s.judged_with]
     return [limits.__name__ for limits in WRONG if not told_apart(limits, by_calls) or not told_apart(limits, by_judge)]
 
