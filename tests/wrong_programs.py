@@ -10,10 +10,11 @@ or `rt check` left it: each worker begins an edit with that in its incremental f
 what the edit touches is checked. Of every public function of a library two wrong programs at
 least must be refused: its own, or that of a function that it calls in the same crate.
 
-Edits of the code of different functions are tried together, a batch at a time. A function's proof goes
-by its own code and by the promises of what it calls, and these edits change no promise, so a need that
-fails in a batch fails alone too. Only a need that fails in the function's own proof is taken from a
-batch, and only if no function fails by itself but those of the batch; all else is tried alone.
+Edits of one line in the body of different functions are tried together, a batch at a time. A function's
+proof goes by its own code and by the promises of what it calls, and these edits change no promise, so a
+need that fails in a batch fails alone too, and no edit breaks the function of another. Only a need that
+fails in the function's own proof is taken from a batch, and only if no function fails by itself but those
+of the batch; all else is tried alone.
 
 Usage: wrong_programs.py [NAME[/LABEL]..]   from the root of the repository, after `rt check`
 """
@@ -68,10 +69,11 @@ class Edit:
         return self.refused.partition(" ")[2]
 
     def of_one_function(self):
-        """Does it change the code of one function of a library, and no promise or declaration?"""
-        told = any(word in old + new for _, old, new in self.pairs for word in ("ensures", "requires", "const ", "use "))
-        code = all(file.startswith("src/") for file, _, _ in self.pairs)
-        return code and not told and is_library(self.crate) and self.function() != "law" and "," not in self.function()
+        """Is it one line in the body of one function of a library? Such a line can break no function but that one."""
+        file, old, new = self.pairs[0]
+        told = any(word in old + new for word in ("ensures", "requires", "const ", "use ", "fn ", "pub ", "struct ", "impl "))
+        body = len(self.pairs) == 1 and file.startswith("src/") and not told
+        return body and is_library(self.crate) and self.function() != "law" and "," not in self.function()
 
     def apply(self, folder):
         for file, old, new in self.pairs:
