@@ -65,8 +65,11 @@ module _ (t : Tables) (h : Lawful t) (σ : ℕ → ℕ) where
   all-power : power t σ < 1000000
   all-power = omega (arith, sum-most (λ k l. counted (σ k) (l .power)) maxPower (t .loads) 1 (λ j l n. counted-most (σ n) _ maxPower (h .load j l .power)))
 
+  pub worth-most : worth t σ ≤ maxWorth * length (t .loads)
+  worth-most = sum-most (λ k l. counted (σ k) (l .worth)) maxWorth (t .loads) 1 (λ j l n. counted-most (σ n) _ maxWorth (h .load j l .worth))
+
   all-worth : worth t σ < 1000000
-  all-worth = omega (arith, sum-most (λ k l. counted (σ k) (l .worth)) maxWorth (t .loads) 1 (λ j l n. counted-most (σ n) _ maxWorth (h .load j l .worth)))
+  all-worth = omega (arith, worth-most)
 
   all-on : numberOn t σ < 1000
   all-on = omega (arith, sum-most (λ k l. guard (eqb (σ k) 1) 1) 1 (t .loads) 1 (λ j l n. one-most (eqb (σ n) 1)))

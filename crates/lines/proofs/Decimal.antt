@@ -59,7 +59,7 @@ module _ (P : ℕ → List ℕ → Type 0) (one : (n : ℕ) → n < 10 → P n (
   by-digits n = below (suc n) n (omega arith)
 
 -- ---- the value
-value-snoc : (v : ℕ) (f : List ℕ) (b : ℕ) → valueFrom v (f ++ (b ∷ [])) ≡ valueFrom v f * 10 + (b - nought)
+pub value-snoc : (v : ℕ) (f : List ℕ) (b : ℕ) → valueFrom v (f ++ (b ∷ [])) ≡ valueFrom v f * 10 + (b - nought)
 unfolding valueFrom
 value-snoc v [] b = refl
 value-snoc v (a ∷ f) b = value-snoc (v * 10 + (a - nought)) f b
@@ -69,7 +69,7 @@ unfolding valueFrom
 decimal-value = by-digits (λ n f. value f ≡ n) (λ n h. omega arith) (λ n h ih. value-snoc 0 (decimal (n / 10)) (nought + n % 10) ∙ rw ih (omega arith))
 
 -- ---- the digits
-digit-byte : (d : ℕ) → d < 10 → isDigit (nought + d) ≡ true
+pub digit-byte : (d : ℕ) → d < 10 → isDigit (nought + d) ≡ true
 digit-byte d h = rw (le-leb nought (nought + d) (omega arith), le-leb (nought + d) (nought + 9) (omega arith))
 
 pub decimal-digits : (n : ℕ) → every isDigit (decimal n) ≡ true

@@ -12,7 +12,7 @@ const COMMA: u8 = 44;
 const LINE_FEED: u8 = 10;
 
 // The byte of the digit 0. Those of 1 to 9 follow it.
-const NOUGHT: u8 = 48;
+pub const NOUGHT: u8 = 48;
 
 // A line has at most so many bytes, its line feed not counted.
 const MOST_BYTES: usize = 80;

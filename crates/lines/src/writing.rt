@@ -14,7 +14,7 @@ ghost use Rattle.lines.specs.Written.{line};
 ghost use Rattle.lines.specs.Answers.{Wrote, ok, yes, refused, planLine, entryLine};
 
 // One byte.
-fn put(out: &mut [u8], at: usize, b: u8) -> usize
+pub fn put(out: &mut [u8], at: usize, b: u8) -> usize
     requires { ⌜ at + 1 ≤ length (now out) ⌝ }
     ensures { λ r. ⌜ Wrote (now (out .entry)) (now (out .exit)) at r (b ∷ []) ⌝ }
 {
@@ -23,7 +23,7 @@ fn put(out: &mut [u8], at: usize, b: u8) -> usize
 }
 
 // A text.
-fn put_text(out: &mut [u8], at: usize, text: &[u8]) -> usize
+pub fn put_text(out: &mut [u8], at: usize, text: &[u8]) -> usize
     requires { ⌜ at + length (now text) ≤ length (now out) ⌝ }
     ensures { λ r. ⌜ Wrote (now (out .entry)) (now (out .exit)) at r (now (text .entry)) ⌝ }
 {

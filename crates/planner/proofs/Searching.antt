@@ -20,7 +20,7 @@ use Rattle.tables.proofs.Stored.{stored-keeps}
 use Rattle.meaning.specs.Sets.{power, worth}
 use Rattle.meaning.specs.Best.{bestPlan, bestCheck}
 use Rattle.tables.specs.declared.entry.Entry.{Entry}
-use Rattle.meaning.specs.Choice.{planEntries, checkEntries}
+use Rattle.meaning.specs.Choice.{planEntries, checkEntries, shownSet}
 use Rattle.meaning.specs.Claims.{EachLoad}
 use Rattle.meaning.specs.Cells.{cellsOf}
 use Rattle.runs.specs.declared.run.Run.{Run}
@@ -134,11 +134,12 @@ module _ (p : Planner) (h : Lawful p) where
   unfolding row lowest
   last-none-fits e = rw e
 
-  shown-lines : List Entry
+  -- the load lines of a plan that is stored
+  pub shown-lines : List Entry
   shown-lines = entriesTo (p .outcome .run) (length (stateIn p .tables .loads))
 
   module _ (some : p .outcome .kind ≡ 0 → ⊥) (fits : p .outcome .kind ≡ 1 → ⊥) where
-    planned-is : stateIn p .outcome ≡ planned shown-lines
+    pub planned-is : stateIn p .outcome ≡ planned shown-lines
     unfolding shown-lines
     planned-is = go (p .outcome .kind) some fits
       where
@@ -151,6 +152,19 @@ module _ (p : Planner) (h : Lawful p) where
     unfolding row lowest
     last-accepted = ap (λ (o : Outcome). lowest ((no.noneFits if isNoSet o) ∷ (no.noPlan if isNothing o) ∷ [])) planned-is
 
+    each : EachLoad (stateIn p .tables) shown-lines
+    each = let l = lines-in (rangeOf (stateIn p .tables)) shown-lines (rw planned-is at (kept-within (held p) h .outcome)) in record { all = l .all; each = l .each }
+
+    few-places : length (stateIn p .tables .loads) ≤ maxLoads
+    few-places = few-loads (stateIn p .tables) (kept-within (held p) h .tables)
+
+    run-is : p .outcome .run ≡ runOf shown-lines
+    run-is = ap (λ (x : StoredState). x .outcome .run) (kept-stored (held p) h) ∙ ap (λ (o : Outcome). runOf (entriesOf o)) planned-is
+
+    -- its set is the one that they show
+    pub set-is : markIn (p .outcome .run .set) ≡ shownSet shown-lines
+    set-is = ap (λ (x : Run). markIn (x .set)) run-is ∙ lines-set (stateIn p .tables) shown-lines each few-places
+
     -- a plan is shown, with the figures of its set
     pub shows-last : (r : Run) → r ≡ p .outcome .run → (v w k : ℕ)
         → v ≡ worth (stateIn p .tables) (markIn (r .set)) → w ≡ power (stateIn p .tables) (markIn (r .set)) → k ≡ sizeOf (r .set)
@@ -158,14 +172,11 @@ module _ (p : Planner) (h : Lawful p) where
     unfolding decidedBy row
     shows-last r is v w k a b d =
         let t = stateIn p .tables in
-        let inside = kept-within (held p) h in
-        let l = lines-in (rangeOf t) shown-lines (rw planned-is at (inside .outcome)) in
-        let each : EachLoad t shown-lines = record { all = l .all; each = l .each } in
-        let run : r ≡ runOf shown-lines = is ∙ ap (λ (x : StoredState). x .outcome .run) (kept-stored (held p) h) ∙ ap (λ (o : Outcome). runOf (entriesOf o)) planned-is in
-        let set : markIn (r .set) ≡ _ = ap (λ (x : Run). markIn (x .set)) run ∙ lines-set t shown-lines each (few-loads t (inside .tables)) in
+        let run : r ≡ runOf shown-lines = is ∙ run-is in
+        let set : markIn (r .set) ≡ _ = ap (λ (x : Run). markIn (x .set)) is ∙ set-is in
         let worths = a ∙ ap (worth t) set in
         let powers = b ∙ ap (power t) set in
-        let on = d ∙ ap (λ (x : Run). sizeOf (x .set)) run ∙ lines-size t shown-lines each (few-loads t (inside .tables)) in
+        let on = d ∙ ap (λ (x : Run). sizeOf (x .set)) run ∙ lines-size t shown-lines each few-places in
         let shown : _≡_ {A = Decided} (record { answer = Planned v w k; run = r; planner = p }) (record { answer = showingPlan t shown-lines .answer; run = runOf shown-lines; planner = plannerOf (storedState (stateIn p)) }) = λ i. record { answer = Planned (worths i) (powers i) (on i); run = run i; planner = is-held i } in
         shown ∙ rw (last-accepted, planned-is)
 

@@ -49,6 +49,10 @@ hasChildren = 11
 abbrev pub noPlan : ℕ
 noPlan = 12
 
--- no refusal has a greater number
+-- request Six: "13, a page to draw on not of 160 bytes"
+abbrev pub notAPage : ℕ
+notAPage = 13
+
+-- no refusal of a line has a greater number
 abbrev pub greatest : ℕ
 greatest = noPlan

@@ -22,3 +22,5 @@ pub const NOT_ALLOWED: u8 = 10;
 pub const HAS_CHILDREN: u8 = 11;
 
 pub const NO_PLAN: u8 = 12;
+
+pub const NOT_A_PAGE: u8 = 13;
