@@ -3,18 +3,24 @@
 // Each function with a planner copies it, leaves the work to a function on values, and stores what comes back: the proofs of these three go
 // through their code by hand, so there is as little code in them as can be.
 use judge::Verdict;
+use page::drawing::draw;
+use page::stretch::Part;
+use page::stretch::beginning;
+use page::stretch::place;
 use planner::Planner;
 ghost use mathlib.Core.Path.{_≡_};
 ghost use Rattle.calls.specs.Calls.{called};
 ghost use Rattle.planner.specs.Planner.{held, fresh};
 ghost use Rattle.planner.specs.Calls.{callOf};
 ghost use Rattle.planner.specs.Verdict.{judgedBy};
+ghost use Rattle.page.specs.Drawing.{drawnOf, drawing};
+ghost use Rattle.page.specs.Stretch.{place, beginning};
 ghost use Rattle.hulmeide.specs.Calls.{doneOf};
 ghost use Rattle.hulmeide.specs.Verdict.{verdictNumber};
 ghost use Rattle.hulmeide.specs.Version.{version};
 
 // The version, as HULMEIDE_VERSION of the header has it: major * 10000 + minor * 100 + patch.
-const VERSION: u32 = 10500;
+const VERSION: u32 = 10600;
 
 // The judge's "no". It lies above every number of a refusal.
 const NOT_A_RUN: u32 = 255;
@@ -63,6 +69,12 @@ fn judge_run(planner: Planner, run: &[u32]) -> u32
     number_of(planner.judge(run))
 }
 
+fn draw_page(planner: Planner, load: usize, page: &mut [u8]) -> u32
+    ensures { λ r. ⌜ drawnOf r (now (page .exit)) ≡ drawing (held planner) load (now (page .entry)) ⌝ }
+{
+    draw(planner, load, page) as u32
+}
+
 fn made_fresh() -> Planner
     ensures { λ r. ⌜ r ≡ fresh ⌝ }
 {
@@ -107,4 +119,29 @@ pub extern "C" fn hulmeide_call(
     let handled = handle(*planner, line, out, place, work);
     *planner = handled.planner;
     handled.reply
+}
+
+// Draws the page of the planner's latest plan, from a load on: 0, or the number of the refusal, which leaves the page as it was.
+#[no_mangle]
+pub extern "C" fn hulmeide_draw(planner: &Planner, load: usize, page: &mut [u8]) -> u32
+    ensures { λ r. ⌜ drawnOf r (now (page .exit)) ≡ drawing (held (now (planner .entry))) load (now (page .entry)) ⌝ }
+{
+    draw_page(*planner, load, page)
+}
+
+// Where in the drawn page the stretch lies that the glass does not show yet. (An exported function returns no reference: the header makes the
+// pointer.)
+#[no_mangle]
+pub extern "C" fn hulmeide_stretch(glass: &[u8], drawn: &[u8]) -> Part
+    ensures { λ r. ⌜ r ≡ place (now (glass .entry)) (now (drawn .entry)) ⌝ }
+{
+    place(glass, drawn)
+}
+
+// The row at which it begins, from 1 to 8; 0 where it is empty.
+#[no_mangle]
+pub extern "C" fn hulmeide_stretch_row(glass: &[u8], drawn: &[u8]) -> usize
+    ensures { λ r. ⌜ r ≡ beginning (now (glass .entry)) (now (drawn .entry)) ⌝ }
+{
+    beginning(glass, drawn)
 }
