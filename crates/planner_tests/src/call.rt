@@ -9,7 +9,7 @@ use planner::call::Called;
 ghost use Prim.Native.Nat.{_≤_};
 
 // What output and work hold before each call. No byte of an answer is this one.
-const RUBBISH_BYTE: u8 = 170;
+pub const RUBBISH_BYTE: u8 = 170;
 
 const RUBBISH_CELL: u32 = 2863311530;
 
@@ -32,8 +32,8 @@ pub const ROOM: Lent = Lent {
     place: 20,
 };
 
-fn least(a: usize, b: usize) -> usize
-    ensures { λ r. ⌜ r ≤ b ⌝ }
+pub(crate) fn least(a: usize, b: usize) -> usize
+    ensures { λ r. ⌜ (r ≤ a) × (r ≤ b) ⌝ }
 {
     if a < b { a } else { b }
 }
@@ -45,7 +45,7 @@ fn one_if(test: bool) -> usize
 }
 
 // How many bytes still hold what they held?
-fn bytes_kept(out: &[u8]) -> usize {
+pub(crate) fn bytes_kept(out: &[u8]) -> usize {
     let mut count: usize = 0;
     for i in 0..out.len() {
         count = count + one_if(out[i] == RUBBISH_BYTE);

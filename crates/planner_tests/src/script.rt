@@ -2,6 +2,9 @@
 use crate::call::Lent;
 use crate::call::ROOM;
 use crate::call::called_on_each;
+use crate::glass::DARK;
+use crate::glass::Glass;
+use crate::glass::paged;
 use crate::judging::judged;
 use crate::printing::print_line;
 use crate::text::end_of;
@@ -9,10 +12,11 @@ use crate::text::numbers;
 use crate::text::past;
 use planner::Planner;
 
-// The planner that the steps so far left, and what is lent to its calls.
+// The planner that the steps so far left, what is lent to its calls, and what the glass shows.
 struct Test {
     planner: Planner,
     lent: Lent,
+    glass: Glass,
 }
 
 // The planner after a step: `call`, `told` and `fresh` give another.
@@ -25,11 +29,12 @@ fn planner_after(p: Planner, lent: Lent, letter: u8, rest: &[u8]) -> Planner {
     }
 }
 
-// What a step reports but for calls: the step itself, and what `judge` finds.
+// What a step reports but for calls and pages: the step itself, and what `judge` finds.
 fn reported(p: Planner, letter: u8, line: &[u8]) {
     match letter {
         b'c' => {}
         b'j' => judged(p, line),
+        b'p' => {}
         _ => print_line(line),
     }
 }
@@ -48,6 +53,15 @@ fn lent_after(lent: Lent, letter: u8, rest: &[u8]) -> Lent {
     }
 }
 
+// What the glass shows after a step.
+fn glass_after(p: Planner, glass: Glass, letter: u8, line: &[u8]) -> Glass {
+    match letter {
+        b'p' => paged(p, glass, line),
+        b'f' => DARK,
+        _ => glass,
+    }
+}
+
 // One step.
 fn obey(t: Test, line: &[u8]) -> Test {
     if line.len() == 0 {
@@ -58,7 +72,12 @@ fn obey(t: Test, line: &[u8]) -> Test {
     reported(t.planner, letter, line);
     let planner = planner_after(t.planner, t.lent, letter, &line[start..]);
     let lent = lent_after(t.lent, letter, &line[start..]);
-    Test { planner, lent }
+    let glass = glass_after(t.planner, t.glass, letter, line);
+    Test {
+        planner,
+        lent,
+        glass,
+    }
 }
 
 // Every step of a script, from a fresh planner on.
@@ -66,6 +85,7 @@ pub(crate) fn follow(script: &[u8]) {
     let mut test = Test {
         planner: Planner::fresh(),
         lent: ROOM,
+        glass: DARK,
     };
     let mut at: usize = 0;
     while at < script.len() {
