@@ -7,11 +7,13 @@ use lines::writing::put;
 use lines::writing::put_text;
 use marks::LoadSet;
 use tables::load::LoadList;
-ghost use Prim.Native.Nat.{_+_, _*_, _-_, _≤_, _<_};
+ghost use mathlib.Core.Path.{_≡_};
+ghost use Prim.Native.Nat.{_+_, _*_, _-_, _%_, _≤_, _<_};
 ghost use mathlib.Core.List.{_++_};
 ghost use lib.ListN.{length, replicate};
 ghost use Rattle.lists.specs.Argmax.{guard};
 ghost use Rattle.marks.specs.Sets.{markIn};
+ghost use Rattle.lines.specs.Text.{nought};
 ghost use Rattle.lines.specs.Answers.{Wrote};
 ghost use Rattle.tables.specs.Limits.{maxLoads};
 ghost use Rattle.tables.specs.Stored.{loadsOf};
@@ -29,6 +31,13 @@ const NUMBER_DIGITS: usize = 3;
 // The rows behind row one.
 const LOAD_ROW_COUNT: usize = ROW_COUNT - 1;
 
+// The byte of the lowest digit of a number.
+fn lowest_digit(n: u32) -> u8
+    ensures { λ r. ⌜ r ≡ nought + n % 10 ⌝ }
+{
+    NOUGHT + ((n % 10) as u8)
+}
+
 // The lowest digits of a number, so many, with zeros in front. It calls itself once for each digit.
 fn put_digits(page: &mut [u8], at: usize, count: usize, n: u32) -> usize
     requires { ⌜ at + count ≤ length (now page) ⌝ }
@@ -38,7 +47,7 @@ fn put_digits(page: &mut [u8], at: usize, count: usize, n: u32) -> usize
         return at;
     }
     let next = put_digits(&mut *page, at, count - 1, n / 10);
-    put(&mut *page, next, NOUGHT + ((n % 10) as u8))
+    put(&mut *page, next, lowest_digit(n))
 }
 
 // Blanks up to a place.

@@ -1,4 +1,5 @@
 -- `draw` meets its contract. Assumes nothing.
+use native.Mathlib.Omega.{arith}
 use borrow.Author.Needs.{needs}
 use Rattle.planner.specs.Planner.{held}
 use Rattle.page.proofs.Drawn.{refused-drawing, done-drawing}
@@ -12,7 +13,7 @@ returns c =
     refused-drawing (held (a .planner)) (a .load) (a .page .now) (r .refusal .result) (r .refusal .ensures .0) (c .if1 .taken)
 
 draw-rows-requires : tie.Need-draw-rows-requires
-draw-rows-requires c κs = let i = c .before in i .before .refusal .ensures .1 (i .if1 .left)
+draw-rows-requires c κs = let i = c .before in i .before .refusal .ensures .1 (omega (arith, i .if1 .left))
 
 returns-2 : tie.Need-returns-2
 returns-2 c =

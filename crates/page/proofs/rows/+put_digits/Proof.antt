@@ -10,6 +10,7 @@ use Rattle.page.proofs.rows.put_digits.Reads as put-digits
 use Rattle.page.proofs.rows.put_digits.Kinds as put-digits-kinds
 use Rattle.page.proofs.rows.+put_digits.Lts-put_digits as put-digits-lts
 use Rattle.lines.proofs.writing.put.Reads as put-reads
+use Rattle.page.proofs.rows.lowest_digit.Reads as lowest-digit-reads
 use Rattle.page.proofs.rows.+put_digits.{statement}
 use Rattle.page.proofs.rows.+put_digits.Tie.{close}
 
@@ -27,6 +28,8 @@ put-digits-below t =
 put-digits-returns : (t : ℕ) → put-digits-lts.Need-returns (
   put-digits-below t,
   put-digits.Post,
+  lowest-digit-reads.Asked,
+  lowest-digit-reads.Learnt,
   put-reads.Asked,
   put-reads.Learnt,
 ) (put-digits-at t) put-digits.Post
@@ -35,6 +38,8 @@ put-digits-returns t c = rw (c .if1 .taken, digits-none _) (wrote-none _ _)
 put-digits-sub-put-digits : (t : ℕ) → put-digits-lts.Need-sub-put-digits (
   put-digits-below t,
   put-digits.Post,
+  lowest-digit-reads.Asked,
+  lowest-digit-reads.Learnt,
   put-reads.Asked,
   put-reads.Learnt,
 ) (put-digits-at t) put-digits.Post
@@ -43,6 +48,8 @@ put-digits-sub-put-digits t c = omega (arith, c .before .if1 .left)
 put-digits-put-digits-requires : (t : ℕ) → put-digits-lts.Need-put-digits-requires (
   put-digits-below t,
   put-digits.Post,
+  lowest-digit-reads.Asked,
+  lowest-digit-reads.Learnt,
   put-reads.Asked,
   put-reads.Learnt,
 ) (put-digits-at t) put-digits.Post
@@ -50,30 +57,26 @@ put-digits-put-digits-requires t c κs =
     let s = c .before .before .before in
     omega (arith, c .before .if1 .left, s .pre .0, s .pre .1)
 
-put-digits-cast-put : (t : ℕ) → put-digits-lts.Need-cast-put (
+put-digits-lowest-digit-requires : (t : ℕ) → put-digits-lts.Need-lowest-digit-requires (
   put-digits-below t,
   put-digits.Post,
+  lowest-digit-reads.Asked,
+  lowest-digit-reads.Learnt,
   put-reads.Asked,
   put-reads.Learnt,
 ) (put-digits-at t) put-digits.Post
-put-digits-cast-put t c = search needs
-
-put-digits-add-put : (t : ℕ) → put-digits-lts.Need-add-put (
-  put-digits-below t,
-  put-digits.Post,
-  put-reads.Asked,
-  put-reads.Learnt,
-) (put-digits-at t) put-digits.Post
-put-digits-add-put t c = search needs
+put-digits-lowest-digit-requires t c κs = search needs
 
 put-digits-put-requires : (t : ℕ) → put-digits-lts.Need-put-requires (
   put-digits-below t,
   put-digits.Post,
+  lowest-digit-reads.Asked,
+  lowest-digit-reads.Learnt,
   put-reads.Asked,
   put-reads.Learnt,
 ) (put-digits-at t) put-digits.Post
 put-digits-put-requires t c κs =
-    let d = c .before .before .before in
+    let d = c .before .before .before .before in
     let i = d .before .before in
     let s = i .before .before in
     omega (arith, s .pre .1, i .if1 .left, d .put-digits .ensures .end, d .put-digits .kept .0, digits-length (s .args .count - 1) (s .args .n / 10))
@@ -81,6 +84,8 @@ put-digits-put-requires t c κs =
 put-digits-same-length : (t : ℕ) → put-digits-lts.Need-same-length (
   put-digits-below t,
   put-digits.Post,
+  lowest-digit-reads.Asked,
+  lowest-digit-reads.Learnt,
   put-reads.Asked,
   put-reads.Learnt,
 ) (put-digits-at t) put-digits.Post
@@ -89,17 +94,22 @@ put-digits-same-length t c = search needs
 put-digits-returns-2 : (t : ℕ) → put-digits-lts.Need-returns-2 (
   put-digits-below t,
   put-digits.Post,
+  lowest-digit-reads.Asked,
+  lowest-digit-reads.Learnt,
   put-reads.Asked,
   put-reads.Learnt,
 ) (put-digits-at t) put-digits.Post
 put-digits-returns-2 t c =
-    let d = c .before .before .before .before .before .before in
-    rw (digits-more _ _ (d .before .before .if1 .left)) (wrote-then (d .put-digits .ensures) (c .before .before .put .ensures))
+    let l = c .before .before .before in
+    let d = l .before .before .before .before in
+    rw (digits-more _ _ (d .before .before .if1 .left), ← (l .lowest-digit .ensures)) (wrote-then (d .put-digits .ensures) (c .before .before .put .ensures))
 
 pub +put-digits-spec : {M : Type 1} → statement M
 +put-digits-spec = close μ-put-digits λ t. put-digits-lts.spec (
   put-digits-below t,
   put-digits.Post,
+  lowest-digit-reads.Asked,
+  lowest-digit-reads.Learnt,
   put-reads.Asked,
   put-reads.Learnt,
 )
@@ -108,8 +118,7 @@ pub +put-digits-spec : {M : Type 1} → statement M
     (put-digits-returns t)
     (put-digits-sub-put-digits t)
     (put-digits-put-digits-requires t)
-    (put-digits-cast-put t)
-    (put-digits-add-put t)
+    (put-digits-lowest-digit-requires t)
     (put-digits-put-requires t)
     (put-digits-same-length t)
     (put-digits-returns-2 t)

@@ -31,6 +31,9 @@ returns c =
     rw (row-missing (loadsOf (a .t3)) (markIn (a .set)) (a .number) (omega (arith, count s, i .if1 .taken)))
     (wrote-filled (omega arith) (wrote-none _ _) (b .put-blanks .ensures))
 
+has-requires : tie.Need-has-requires
+has-requires c κs = search needs
+
 returns-2 : tie.Need-returns-2
 returns-2 c =
     let p = c .before .before in
@@ -52,7 +55,7 @@ put-row-spec =
     (λ c. search needs)
     (λ c. search needs)
     (λ c. search needs)
-    (λ c κs. search needs)
+    has-requires
     (λ c κs. search needs)
     (λ c. search needs)
     returns-2)
