@@ -6,7 +6,7 @@ use std::mem::{size_of, MaybeUninit};
 // ---- Version, sizes and numbers, as include/hulmeide.h has them: tests/limits.py compares the two.
 
 /// The version of the header that this wrapper is for: major * 10000 + minor * 100 + patch.
-pub const VERSION: u32 = 10500;
+pub const VERSION: u32 = 10600;
 
 /// A line has at most this many bytes, its line feed not counted.
 pub const LINE_BYTES: usize = 80;
@@ -32,11 +32,16 @@ pub const MAX_POWER: usize = 500;
 pub const MAX_WORTH: usize = 1000;
 pub const MAX_BUDGET: usize = 500;
 
+// A page of the handheld: rows of ASCII bytes, one after the other.
+pub const PAGE_ROWS: usize = 8;
+pub const ROW_BYTES: usize = 20;
+pub const PAGE_BYTES: usize = PAGE_ROWS * ROW_BYTES;
+
 const PLANNER_BYTES: usize = 824;
 const NOT_A_RUN: u32 = 255;
 
-/// Why a line, or numbers that were to be judged, were refused. A refusal leaves the planner as it was, but that [`Refusal::NoneFits`] of a
-/// plan stores its outcome.
+/// Why a line, numbers that were to be judged, or a drawing were refused. A refusal leaves the planner as it was, but that
+/// [`Refusal::NoneFits`] of a plan stores its outcome.
 #[derive(Clone, Copy, Debug, PartialEq, Eq)]
 pub enum Refusal {
     TurnedAway = 1,
@@ -51,6 +56,7 @@ pub enum Refusal {
     NotAllowed = 10,
     HasChildren = 11,
     NoPlan = 12,
+    NotAPage = 13,
 }
 
 // ---- The planner, laid out as the header has it.
@@ -129,6 +135,12 @@ struct Reply {
     count: usize,
 }
 
+#[repr(C)]
+struct Part {
+    start: usize,
+    count: usize,
+}
+
 extern "C" {
     fn hulmeide_version() -> u32;
     fn hulmeide_fresh(planner: *mut Planner);
@@ -143,10 +155,13 @@ extern "C" {
         work_length: usize,
     ) -> Reply;
     fn hulmeide_judge(planner: *const Planner, run: *const u32, run_length: usize) -> u32;
+    fn hulmeide_draw(planner: *const Planner, load: usize, page: *mut u8, page_length: usize) -> u32;
+    fn hulmeide_stretch(glass: *const u8, glass_length: usize, drawn: *const u8, drawn_length: usize) -> Part;
+    fn hulmeide_stretch_row(glass: *const u8, glass_length: usize, drawn: *const u8, drawn_length: usize) -> usize;
 }
 
 impl Refusal {
-    const ALL: [Refusal; 12] = [
+    const ALL: [Refusal; 13] = [
         Refusal::TurnedAway,
         Refusal::LongLine,
         Refusal::BadForm,
@@ -159,9 +174,10 @@ impl Refusal {
         Refusal::NotAllowed,
         Refusal::HasChildren,
         Refusal::NoPlan,
+        Refusal::NotAPage,
     ];
 
-    /// Its number, 1 to 12, as the line `no,N` prints it.
+    /// Its number, 1 to 13. The line `no,N` prints that of a line.
     pub fn number(self) -> u32 {
         self as u32
     }
@@ -173,7 +189,7 @@ impl Refusal {
             Refusal::LongLine => "a line too long",
             Refusal::BadForm => "no command, or a field of the wrong form",
             Refusal::NoLoads => "no loads",
-            Refusal::OutOfRange => "a value out of its range, or a wrong count of them",
+            Refusal::OutOfRange => "a value out of its range, a wrong count of them, or a load that is not there",
             Refusal::Full => "no place for another load or rule",
             Refusal::SameRule => "the same rule is in the book already",
             Refusal::FewCells => "too few cells of work",
@@ -181,6 +197,7 @@ impl Refusal {
             Refusal::NotAllowed => "the set is not allowed",
             Refusal::HasChildren => "the load has children",
             Refusal::NoPlan => "no current plan",
+            Refusal::NotAPage => "a page of another length",
         }
     }
 
@@ -202,6 +219,20 @@ impl fmt::Display for Refusal {
 pub fn version() -> u32 {
     // SAFETY: the function takes nothing and touches nothing.
     unsafe { hulmeide_version() }
+}
+
+/// What of a page just drawn the glass does not show yet: its rows from the first that differs to the last. It is empty where none does, and
+/// where either is not of [`PAGE_BYTES`] bytes.
+pub fn stretch<'d>(glass: &[u8], drawn: &'d [u8]) -> &'d [u8] {
+    // SAFETY: each pointer is to as many bytes as the length beside it says, and is never null. They are only read.
+    let part = unsafe { hulmeide_stretch(glass.as_ptr(), glass.len(), drawn.as_ptr(), drawn.len()) };
+    &drawn[part.start..part.start + part.count]
+}
+
+/// The row at which that stretch begins, from 1 to [`PAGE_ROWS`], or 0 where it is empty.
+pub fn stretch_row(glass: &[u8], drawn: &[u8]) -> usize {
+    // SAFETY: as in `stretch`.
+    unsafe { hulmeide_stretch_row(glass.as_ptr(), glass.len(), drawn.as_ptr(), drawn.len()) }
 }
 
 impl Planner {
@@ -272,6 +303,14 @@ impl Planner {
             return Ok(false);
         }
         Refusal::of(number).map_or(Ok(true), Err)
+    }
+
+    /// Draws the latest plan on a page, with the loads from one on. It is refused where the page is not of [`PAGE_BYTES`] bytes, where there
+    /// is no such load, and where no plan is current, and leaves the page as it was then.
+    pub fn draw(&self, load: usize, page: &mut [u8]) -> Result<(), Refusal> {
+        // SAFETY: as in `call`. The planner is only read.
+        let number = unsafe { hulmeide_draw(self, load, page.as_mut_ptr(), page.len()) };
+        Refusal::of(number).map_or(Ok(()), Err)
     }
 }
 

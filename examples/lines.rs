@@ -1,6 +1,7 @@
 //! The line program again, in Rust over the safe wrapper: lines from standard input, answers to standard output.
 
-use hulmeide::{Planner, Refusal, FREE_BYTES, LINE_BYTES, LINE_PROGRAM_CELLS, SAVE_BYTES};
+use hulmeide::{stretch, stretch_row, Planner, Refusal};
+use hulmeide::{FREE_BYTES, LINE_BYTES, LINE_PROGRAM_CELLS, PAGE_BYTES, ROW_BYTES, SAVE_BYTES};
 use std::io::{self, BufRead, Write};
 
 /// Of a line that is too long one byte more is kept than a line may have.
@@ -84,6 +85,33 @@ fn shows(planner: &mut Planner, latest: &Option<String>) -> bool {
     }
 }
 
+/// How the page begins that shows this plan from load 1 on: row 1, and load 1 with its mark. That of a refused one is blank but for row 1.
+fn beginning(latest: &str) -> String {
+    let fields: Vec<&str> = latest.lines().next().unwrap_or("").split(',').collect();
+    let mark = if latest.contains("\n1,1,") { "on " } else { "off" };
+    match fields[..] {
+        ["plan", worth, power, _] => format!("worth {worth:0>5} {power:0>3}W    001 {mark} "),
+        _ => format!("{:1$}", "no plan", PAGE_BYTES),
+    }
+}
+
+/// Is a page drawn exactly where a plan is current, so that it begins as that plan has it, and does its stretch, which begins and ends with a row
+/// that differs, make the glass that page?
+fn draws(planner: &Planner, latest: &Option<String>, glass: &mut [u8; PAGE_BYTES]) -> bool {
+    let mut page = [0; PAGE_BYTES];
+    assert_eq!(planner.draw(1, &mut page[1..]), Err(Refusal::NotAPage));
+    let drawn = planner.draw(1, &mut page);
+    let Some(text) = latest else {
+        return matches!(drawn, Err(Refusal::NoPlan | Refusal::OutOfRange)) && page == [0; PAGE_BYTES];
+    };
+    let changed = stretch(glass, &page);
+    let start = ROW_BYTES * stretch_row(glass, &page).saturating_sub(1);
+    let differs = |at: usize| changed[at..at + ROW_BYTES] != glass[start + at..start + at + ROW_BYTES];
+    let shortest = changed.is_empty() || differs(0) && differs(changed.len() - ROW_BYTES);
+    glass[start..start + changed.len()].copy_from_slice(changed);
+    drawn == Ok(()) && shortest && *glass == page && page.starts_with(beginning(text).as_bytes())
+}
+
 /// The refusal that an answer prints, if it prints one.
 fn printed_refusal(text: &str) -> Option<u32> {
     text.strip_prefix("no,").map(|number| number.trim_end().parse().expect("a number"))
@@ -97,6 +125,7 @@ fn main() -> io::Result<()> {
     let mut output = io::stdout().lock();
     let mut line = Vec::with_capacity(KEPT_BYTES);
     let mut latest = None;
+    let mut glass = [0; PAGE_BYTES];
     while next_line(&mut input, &mut line)? {
         let before = planner.clone();
         let answer = planner.call(&line, &mut out, 0, &mut work);
@@ -109,6 +138,7 @@ fn main() -> io::Result<()> {
         assert!(drops_alike(before, &line, answer.refusal), "the wrapper drops otherwise than the line");
         latest = latest_after(latest, &line, text);
         assert!(shows(&mut planner, &latest), "the wrapper shows another plan than the latest");
+        assert!(draws(&planner, &latest, &mut glass), "the wrapper draws another page than the latest plan's");
         // These two try again by themselves what was interrupted.
         output.write_all(text.as_bytes())?;
         output.flush()?;

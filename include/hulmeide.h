@@ -8,9 +8,10 @@
  *
  * What the caller owes: every pointer is to memory that is there for the length given, aligned for its type and not null, also where the
  * length is 0 (hulmeide_call_bytes and hulmeide_call_text take null there); the planner, the output and the work do not overlap one another
- * or the line; nobody else reads or writes them, or writes the line or the run, during a call. hulmeide_call writes the planner even where
- * it refuses the line, so a planner is in no read-only memory.
- * What the bytes are does not matter. A planner, an output and a work may hold anything.
+ * or the line, and a page that is drawn on does not overlap the planner; nobody else reads or writes them, or writes the line, the run or
+ * the pages that are only read, during a call. hulmeide_call writes the planner even where it refuses the line, so a planner is in no
+ * read-only memory.
+ * What the bytes are does not matter. A planner, an output, a work and a page may hold anything.
  *
  * What is proved is in crates/hulmeide/src/lib.rt: each function has its promise there, for every planner and all buffers. The lines and
  * the answers are explained in docs/PROTOCOL.md.
@@ -31,7 +32,7 @@ extern "C" {
 #endif
 
 /* The version of this header: major * 10000 + minor * 100 + patch. hulmeide_version returns that of the archive, and they fit where the two
- * are the same. The minor number goes up with each request that changes what lines there are, what they answer, or the layout:
+ * are the same. The minor number goes up with each request that changes what lines and functions there are, what they answer, or the layout:
  * 1.1: a number may have zeros in front.
  * 1.2: `save` is a command. It needs HULMEIDE_SAVE_BYTES free bytes, and a caller that lends fewer has it turned away; its other lines go as
  *      before.
@@ -40,8 +41,10 @@ extern "C" {
  * 1.4: of sets of equal worth `plan` shows one that draws least. Lines, refusals and layout are those of 1.3.
  * 1.5: `last` is a command, and HULMEIDE_NO_PLAN its refusal. A planner keeps the outcome of its latest plan behind the fields of 1.4, which
  *      stand where they stood: it has 824 bytes. One of 1.4 has 616; with 208 bytes of 0 behind them it is one of 1.5, with no current plan.
+ * 1.6: hulmeide_draw draws the latest plan on a page, and HULMEIDE_NOT_A_PAGE is a refusal of it; hulmeide_stretch and hulmeide_stretch_row
+ *      say which rows of a page the glass does not show yet. Lines, answers and layout are those of 1.5.
  */
-#define HULMEIDE_VERSION 10500
+#define HULMEIDE_VERSION 10600
 
 /* ---- Sizes ----
  *
@@ -74,6 +77,11 @@ extern "C" {
 #define HULMEIDE_MAX_WORTH 1000
 #define HULMEIDE_MAX_BUDGET 500
 
+/* A page of the handheld: rows of ASCII bytes, one after the other, with nothing between them. */
+#define HULMEIDE_PAGE_ROWS 8
+#define HULMEIDE_ROW_BYTES 20
+#define HULMEIDE_PAGE_BYTES (HULMEIDE_PAGE_ROWS * HULMEIDE_ROW_BYTES)
+
 /* The cells that a plan needs: loads x (states + stages) x (budget + 1). With fewer it is HULMEIDE_FEW_CELLS. */
 #define HULMEIDE_CELLS_NEEDED(loads, states, stages, budget) ((size_t)(loads) * ((size_t)(states) + (stages)) * ((size_t)(budget) + 1))
 
@@ -82,15 +90,15 @@ extern "C" {
 
 /* ---- Numbers returned ----
  *
- * The lowest number that applies is given. A refusal leaves the planner as it was, but that 9 of a plan stores its outcome. A refusal of a
- * line prints "no,N" and a line feed, but for 1, which writes nothing.
+ * Of a line and of the judge the lowest number that applies is given; a drawing tests 13 first, and then 1, 5 and 12. A refusal leaves the
+ * planner as it was, but that 9 of a plan stores its outcome. A refusal of a line prints "no,N" and a line feed, but for 1, which writes nothing.
  */
 enum hulmeide_number {
-    /* A line was accepted. The judge: yes, the numbers are a run. */
+    /* A line was accepted. The judge: yes, the numbers are a run. A page was drawn. */
     HULMEIDE_ACCEPTED = 0,
     /* Fewer free bytes from the place on than the line needs (HULMEIDE_SAVE_BYTES for `save`, HULMEIDE_FREE_BYTES for every other line), a
-     * place past the end, or a planner that breaks a limit, in its tables or in its outcome (the judge: only the last). Nothing is written,
-     * and everything is left as it was. */
+     * place past the end, or a planner that breaks a limit, in its tables or in its outcome (the judge and a drawing: only the last). Nothing
+     * is written, and everything is left as it was. */
     HULMEIDE_TURNED_AWAY = 1,
     /* A line over HULMEIDE_LINE_BYTES bytes. */
     HULMEIDE_LONG_LINE = 2,
@@ -98,7 +106,8 @@ enum hulmeide_number {
     HULMEIDE_BAD_FORM = 3,
     /* `plan`, `check` or the judge, with no loads. */
     HULMEIDE_NO_LOADS = 4,
-    /* A value out of its range; bits not one for each load; the judge given not three numbers for each load. */
+    /* A value out of its range; bits not one for each load; the judge given not three numbers for each load; a drawing from a load that is not
+     * there, with no loads too. */
     HULMEIDE_OUT_OF_RANGE = 5,
     /* HULMEIDE_MAX_LOADS loads, or HULMEIDE_MAX_RULES rules of that sort, already. */
     HULMEIDE_FULL = 6,
@@ -106,15 +115,18 @@ enum hulmeide_number {
     HULMEIDE_SAME_RULE = 7,
     /* `plan` with too few cells of work. */
     HULMEIDE_FEW_CELLS = 8,
-    /* `plan`: no allowed set fits the budget. `last`: the latest plan was refused so, and no change was accepted since. */
+    /* `plan`: no allowed set fits the budget. `last`: the latest plan was refused so, and no change was accepted since. (A drawing shows that,
+     * and is not refused.) */
     HULMEIDE_NONE_FITS = 9,
     /* The checked set is not allowed. */
     HULMEIDE_NOT_ALLOWED = 10,
     /* `drop` of a load that has children. */
     HULMEIDE_HAS_CHILDREN = 11,
-    /* `last` with no current plan: since the last accepted change, or at all, none was shown and none refused with HULMEIDE_NONE_FITS. By lines
-     * it is this with no loads too, and not 4. */
+    /* `last` or a drawing with no current plan: since the last accepted change, or at all, none was shown and none refused with
+     * HULMEIDE_NONE_FITS. By lines `last` is this with no loads too, and not 4. */
     HULMEIDE_NO_PLAN = 12,
+    /* A drawing on other than HULMEIDE_PAGE_BYTES bytes. */
+    HULMEIDE_NOT_A_PAGE = 13,
     /* The judge: no, the numbers are not a run. This is no refusal, and lies above the numbers of all of them. */
     HULMEIDE_NOT_A_RUN = 255
 };
@@ -193,9 +205,9 @@ struct hulmeide_outcome {
  * A planner may be copied and handed in again. (To flash write the lines of a `save`, as docs/FIRMWARE.md says: the layout may change with a
  * version.) Its outcome is tested as its tables are, but only for its ranges: a state of the book, rules of the book, no load that is not there.
  * A figure out of range turns every call away (1). That the run is one of these tables, or the best, is not tested: where something else than
- * these functions changed a byte in between, `last` may show what no plan has shown, a power above the budget among it. So firmware that cannot
- * trust such a copy asks for a `plan` before it shows `last`, or keeps the lines of a `save` in the place of the planner: a planner that takes them
- * has no outcome.
+ * these functions changed a byte in between, `last` and a drawing may show what no plan has shown, a power above the budget among it. So firmware
+ * that cannot trust such a copy asks for a `plan` before it shows either, or keeps the lines of a `save` in the place of the planner: a planner
+ * that takes them has no outcome.
  */
 struct hulmeide_planner {
     struct hulmeide_book book;
@@ -207,6 +219,12 @@ struct hulmeide_planner {
 /* What a call on a line returns: its number, and the count of bytes written. */
 struct hulmeide_reply {
     uint32_t number;
+    size_t count;
+};
+
+/* A part of a page: the place of its first byte, counted from 0, and the count of its bytes. */
+struct hulmeide_part {
+    size_t start;
     size_t count;
 };
 
@@ -243,6 +261,8 @@ HULMEIDE_ASSERT(offsetof(struct hulmeide_planner, budget) == 608, "hulmeide_plan
 HULMEIDE_ASSERT(offsetof(struct hulmeide_planner, outcome) == 616, "hulmeide_planner.outcome");
 HULMEIDE_ASSERT(sizeof(struct hulmeide_reply) == 16, "hulmeide_reply");
 HULMEIDE_ASSERT(offsetof(struct hulmeide_reply, count) == 8, "hulmeide_reply.count");
+HULMEIDE_ASSERT(sizeof(struct hulmeide_part) == 16, "hulmeide_part");
+HULMEIDE_ASSERT(offsetof(struct hulmeide_part, count) == 8, "hulmeide_part.count");
 
 /* ---- Functions ---- */
 
@@ -272,6 +292,32 @@ struct hulmeide_reply hulmeide_call(struct hulmeide_planner *planner, const uint
  */
 uint32_t hulmeide_judge(const struct hulmeide_planner *planner, const uint32_t *run, size_t run_length);
 
+/*
+ * Draws the latest plan on a page, for the electrician's handheld. Row 1 has the worth and the power of the plan. Each row below it has a
+ * load, from the one asked for on: its number, `on` or `off`, and its own power, whether it is on or off. Every row is filled with blanks:
+ *
+ *     worth 00070 030W
+ *     003 on  005W
+ *     004 off 007W
+ *
+ * A row for which there is no load is blank. After HULMEIDE_NONE_FITS row 1 is `no plan`, and the others are blank.
+ * Returns HULMEIDE_ACCEPTED, or, tested in this order, HULMEIDE_NOT_A_PAGE, HULMEIDE_TURNED_AWAY, HULMEIDE_OUT_OF_RANGE or
+ * HULMEIDE_NO_PLAN; then the page is as it was. The planner is only read.
+ * A planner that is handed in may have an outcome that no plan stored, and its set may draw more than 999 W: then the last three digits are
+ * shown.
+ */
+uint32_t hulmeide_draw(const struct hulmeide_planner *planner, size_t load, uint8_t *page, size_t page_length);
+
+/*
+ * What of a page just drawn does the glass not show yet? The stretch of the drawn page from the first row that differs to the last that
+ * does, whole rows: put on the glass at the row of hulmeide_stretch_row, it makes the glass the drawn page. It is empty, 0 and 0, where no
+ * row differs, and where either is not of HULMEIDE_PAGE_BYTES bytes. Both are only read, and may be the same memory.
+ */
+struct hulmeide_part hulmeide_stretch(const uint8_t *glass, size_t glass_length, const uint8_t *drawn, size_t drawn_length);
+
+/* The row at which that stretch begins, from 1 to HULMEIDE_PAGE_ROWS, or 0 where it is empty. */
+size_t hulmeide_stretch_row(const uint8_t *glass, size_t glass_length, const uint8_t *drawn, size_t drawn_length);
+
 /* ---- What callers would write ---- */
 
 /* The cells that a plan of this planner needs, as it stands. */
@@ -299,6 +345,20 @@ static inline struct hulmeide_reply hulmeide_call_text(struct hulmeide_planner *
         length += 1;
     }
     return hulmeide_call_bytes(planner, (const uint8_t *)line, length, out, out_length, place, work, work_length);
+}
+
+/* Bytes that are kept elsewhere. */
+struct hulmeide_bytes {
+    const uint8_t *bytes;
+    size_t count;
+};
+
+/* The stretch of hulmeide_stretch, as bytes of the drawn page: they are there for as long as that is. */
+static inline struct hulmeide_bytes hulmeide_stretch_bytes(const uint8_t *glass, size_t glass_length, const uint8_t *drawn, size_t drawn_length)
+{
+    struct hulmeide_part part = hulmeide_stretch(glass, glass_length, drawn, drawn_length);
+    struct hulmeide_bytes stretch = {drawn + part.start, part.count};
+    return stretch;
 }
 
 #ifdef __cplusplus

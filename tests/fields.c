@@ -1,8 +1,9 @@
 /*
  * The header against the archive: their versions; the layout, for which the planner's fields are read by their names after the lines of
  * paper 01's session, and the memory after the planner must be as it was; what the header's helpers answer; the outcome of the session's plan,
- * as it is stored, shown by `last`, wiped, and out of range; the session's save, with the free bytes that the header names; and the places of
- * the loads when one leaves and another comes. It is C99, C11 and C++11.
+ * as it is stored, shown by `last`, wiped, and out of range; the pages of that plan, and the stretches of every set of rows that differ; the
+ * session's save, with the free bytes that the header names; and the places of the loads when one leaves and another comes. It is C99, C11 and
+ * C++11.
  * The last line printed is 'N passed, M failed'.
  */
 #include "hulmeide.h"
@@ -21,10 +22,20 @@ static const char *const lines[] = {
     "row,1,1,1", "row,2,2,2", "load,0,10,0", "load,1,15,40", "load,1,5,30", "load,2,7,50", "budget,30",
 };
 
+/* The page of the session's plan from load 3 on, and that of a plan that is refused. */
+#define BLANK_ROW "                    "
+static const char planned_page[] =
+    "worth 00070 030W    003 on  005W        004 off 007W        " BLANK_ROW BLANK_ROW BLANK_ROW BLANK_ROW BLANK_ROW;
+static const char refused_page[] = "no plan             " BLANK_ROW BLANK_ROW BLANK_ROW BLANK_ROW BLANK_ROW BLANK_ROW BLANK_ROW;
+
 static struct {
     struct hulmeide_planner planner;
     uint8_t guard[GUARD_BYTES];
 } kept;
+
+/* A page, and what stands before and behind it. */
+static uint8_t around[GUARD_BYTES + HULMEIDE_PAGE_BYTES + GUARD_BYTES];
+static uint8_t *const page = around + GUARD_BYTES;
 
 static uint8_t out[HULMEIDE_SAVE_BYTES];
 static uint32_t work[SESSION_CELLS];
@@ -183,6 +194,87 @@ static void expect_outcome_tested(void)
     expect_line("budget,30", HULMEIDE_ACCEPTED, 3);
 }
 
+/* How many bytes are as they were? */
+static size_t bytes_kept(const uint8_t *bytes, size_t count)
+{
+    size_t same = 0;
+    for (size_t i = 0; i < count; i++) {
+        same += bytes[i] == GUARD_BYTE;
+    }
+    return same;
+}
+
+/* A drawing on rubbish: its number, and the page then, or NULL where every byte must be as it was. */
+static void expect_drawing(const char *what, size_t load, size_t length, size_t number, const char *drawn)
+{
+    memset(around, GUARD_BYTE, sizeof around);
+    expect(what, hulmeide_draw(&kept.planner, load, page, length), number);
+    expect(what, bytes_kept(around, sizeof around), sizeof around - (drawn == NULL ? 0 : HULMEIDE_PAGE_BYTES));
+    if (drawn != NULL) {
+        expect(what, memcmp(page, drawn, HULMEIDE_PAGE_BYTES) != 0, 0);
+    }
+}
+
+/* On a glass on which the rows of a set differ, in one byte each, row k + 1 where bit k is set: are the bytes of the stretch those of the
+ * drawn page from the first of them to the last, and do they make the glass the drawn page? */
+static int stretch_is_right(const uint8_t *drawn, unsigned rows)
+{
+    size_t first = 0;
+    size_t end = 0;
+    memcpy(page, drawn, HULMEIDE_PAGE_BYTES);
+    for (size_t row = 0; row < HULMEIDE_PAGE_ROWS; row++) {
+        if (rows >> row & 1) {
+            page[row * HULMEIDE_ROW_BYTES + (7 * rows + row) % HULMEIDE_ROW_BYTES] ^= 1;
+            first = end == 0 ? row : first;
+            end = row + 1;
+        }
+    }
+    struct hulmeide_bytes stretch = hulmeide_stretch_bytes(page, HULMEIDE_PAGE_BYTES, drawn, HULMEIDE_PAGE_BYTES);
+    size_t row = hulmeide_stretch_row(page, HULMEIDE_PAGE_BYTES, drawn, HULMEIDE_PAGE_BYTES);
+    memcpy(page + first * HULMEIDE_ROW_BYTES, stretch.bytes, stretch.count);
+    return stretch.bytes == drawn + first * HULMEIDE_ROW_BYTES && stretch.count == (end - first) * HULMEIDE_ROW_BYTES
+           && row == (end == 0 ? 0 : first + 1) && memcmp(page, drawn, HULMEIDE_PAGE_BYTES) == 0;
+}
+
+static void expect_stretches(void)
+{
+    const uint8_t *drawn = (const uint8_t *)planned_page;
+    size_t right = 0;
+    for (unsigned rows = 0; rows < 1u << HULMEIDE_PAGE_ROWS; rows++) {
+        right += stretch_is_right(drawn, rows) ? 1 : 0;
+    }
+    expect("stretches that are right", right, 1u << HULMEIDE_PAGE_ROWS);
+    memset(page, GUARD_BYTE, HULMEIDE_PAGE_BYTES);
+    expect("every row", hulmeide_stretch(page, HULMEIDE_PAGE_BYTES, drawn, HULMEIDE_PAGE_BYTES).count, HULMEIDE_PAGE_BYTES);
+    expect("a shorter glass", hulmeide_stretch_bytes(page, HULMEIDE_PAGE_BYTES - 1, drawn, HULMEIDE_PAGE_BYTES).count, 0);
+    expect("a shorter page", hulmeide_stretch_bytes(page, HULMEIDE_PAGE_BYTES, drawn, HULMEIDE_PAGE_BYTES - 1).count, 0);
+    expect("a page and itself", hulmeide_stretch_bytes(drawn, HULMEIDE_PAGE_BYTES, drawn, HULMEIDE_PAGE_BYTES).count, 0);
+}
+
+/* The session's plan on a page, and each refusal in the order of its tests; then that no allowed set fits. No drawing makes the plan old. */
+static void expect_pages(void)
+{
+    struct hulmeide_planner *planner = &kept.planner;
+    expect("the bytes of a page", HULMEIDE_PAGE_BYTES, 160);
+    expect_drawing("no plan yet", 1, HULMEIDE_PAGE_BYTES, HULMEIDE_NO_PLAN, NULL);
+    expect_drawing("no such load, and no plan", 5, HULMEIDE_PAGE_BYTES, HULMEIDE_OUT_OF_RANGE, NULL);
+    expect_reply("plan", hulmeide_call_text(planner, "plan", out, sizeof out, 0, work, SESSION_CELLS), HULMEIDE_ACCEPTED, 53);
+    expect_drawing("a page", 3, HULMEIDE_PAGE_BYTES, HULMEIDE_ACCEPTED, planned_page);
+    expect_drawing("no such load", 5, HULMEIDE_PAGE_BYTES, HULMEIDE_OUT_OF_RANGE, NULL);
+    expect_drawing("load 0", 0, HULMEIDE_PAGE_BYTES, HULMEIDE_OUT_OF_RANGE, NULL);
+    planner->outcome.run.set = 16;
+    expect_drawing("a planner that breaks a limit", 5, HULMEIDE_PAGE_BYTES, HULMEIDE_TURNED_AWAY, NULL);
+    expect_drawing("a shorter page", 5, HULMEIDE_PAGE_BYTES - 1, HULMEIDE_NOT_A_PAGE, NULL);
+    expect_drawing("a longer page", 5, HULMEIDE_PAGE_BYTES + 1, HULMEIDE_NOT_A_PAGE, NULL);
+    planner->outcome.run.set = 7;
+    expect_line("last", HULMEIDE_ACCEPTED, 53);
+    memset(&planner->outcome, 0, sizeof planner->outcome);
+    planner->outcome.kind = HULMEIDE_OUTCOME_NO_SET;
+    expect_drawing("a page of none", 4, HULMEIDE_PAGE_BYTES, HULMEIDE_ACCEPTED, refused_page);
+    expect_line("budget,30", HULMEIDE_ACCEPTED, 3);
+    expect_drawing("a change", 1, HULMEIDE_PAGE_BYTES, HULMEIDE_NO_PLAN, NULL);
+}
+
 /* The session's save, with just the free bytes that it needs, and with one less. The session's lines stand in the order of a save. */
 static void expect_save(void)
 {
@@ -214,15 +306,6 @@ static void expect_drop(void)
     expect_load("load 4 after another came", loads->items[3], 3, 5, 30);
 }
 
-static void expect_guard(void)
-{
-    size_t same = 0;
-    while (same < GUARD_BYTES && kept.guard[same] == GUARD_BYTE) {
-        same += 1;
-    }
-    expect("bytes kept after the planner", same, GUARD_BYTES);
-}
-
 int main(void)
 {
     expect("the archive's version", hulmeide_version(), HULMEIDE_VERSION);
@@ -246,10 +329,12 @@ int main(void)
     expect_last();
     expect_last_of_none();
     expect_outcome_tested();
+    expect_pages();
+    expect_stretches();
     expect_helpers();
     expect_save();
     expect_drop();
-    expect_guard();
+    expect("bytes kept after the planner", bytes_kept(kept.guard, GUARD_BYTES), GUARD_BYTES);
     printf("%d passed, %d failed\n", passed, failed);
     return failed != 0;
 }

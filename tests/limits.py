@@ -42,6 +42,9 @@ MAX_STAGES = SIZES['MAX_STAGES']
 MAX_POWER = SIZES['MAX_POWER']
 MAX_WORTH = SIZES['MAX_WORTH']
 MAX_BUDGET = SIZES['MAX_BUDGET']
+PAGE_ROWS = SIZES['PAGE_ROWS']
+ROW_BYTES = SIZES['ROW_BYTES']
+PAGE_BYTES = PAGE_ROWS * ROW_BYTES
 NOT_A_RUN = NUMBERS['NOT_A_RUN']
 NOTHING, NO_SET, PLANNED = (KINDS['OUTCOME_' + name] for name in ('NOTHING', 'NO_SET', 'PLANNED'))
 VERSION = SIZES['VERSION']
@@ -51,14 +54,16 @@ VERSION = SIZES['VERSION']
 
 PLAIN = {
     'uint8_t': ctypes.c_uint8, 'uint16_t': ctypes.c_uint16, 'uint32_t': ctypes.c_uint32, 'uint64_t': ctypes.c_uint64,
-    'size_t': ctypes.c_size_t,
+    'size_t': ctypes.c_size_t, 'const uint8_t *': ctypes.c_void_p,
 }
+FIELD = re.compile(r'(?:struct hulmeide_(\w+) |(const \w+ \*|\w+) ?)(\w+)(?:\[HULMEIDE_(\w+)\])?;')
 STRUCTS = {}
 
 
 def fields_of(body):
     """The fields of a struct, each with its type. Those whose type is a struct come after it in the header."""
-    for struct, plain, name, length in re.findall(r'^    (?:struct hulmeide_(\w+)|(\w+)) (\w+)(?:\[HULMEIDE_(\w+)\])?;$', body, re.M):
+    for line in body.splitlines():
+        struct, plain, name, length = FIELD.fullmatch(line.strip()).groups()
         kind = STRUCTS[struct] if struct else PLAIN[plain]
         yield name, kind * SIZES[length] if length else kind
 
@@ -68,6 +73,7 @@ for found, body in re.findall(r'^struct hulmeide_(\w+) \{\n(.*?)^\};$', HEADER, 
 
 StoredPlanner = STRUCTS['planner']  # the planner as C has it
 Reply = STRUCTS['reply']
+Part = STRUCTS['part']
 PLANNER_BYTES = ctypes.sizeof(StoredPlanner)
 
 
