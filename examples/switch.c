@@ -2,9 +2,8 @@
  * The planner in a switch's main loop: bytes come in from a line port, each line is answered as soon as it is complete, a plan switches
  * the power of the cabinet's ports, the port of a load that leaves goes off, and a display polls the latest plan.
  *
- * Here the line port is standard input and output, so that the program can be compared with the line program, the cabinet's ports are an
- * array, and the display is a struct. A switch has its own functions in the place of receive, transmit, set_port and show. Nothing is
- * allocated: the planner and the buffers that it is lent are static.
+ * Here the line port is standard input and output (port.h), the cabinet's ports are an array, and the display is a struct. A switch has its own
+ * functions in the place of those of the port, set_port and show. Nothing is allocated: the planner and the buffers that it is lent are static.
  *
  * With SWITCH_LOG in the environment each plan and each drop leaves a line on standard error that names the ports that are on, and so does
  * whatever is new on the display.
@@ -13,20 +12,16 @@
  * the judge is called.
  */
 #include "hulmeide.h"
+#include "port.h"
 
-#include <errno.h>
 #include <stdbool.h>
 #include <stdio.h>
 #include <stdlib.h>
 #include <string.h>
-#include <unistd.h>
 
-/* One byte more than a line may have is kept of it, so that a longer one is refused as too long. */
-#define KEPT_BYTES (HULMEIDE_LINE_BYTES + 1)
+const char *const program = "switch";
 
 static struct hulmeide_planner planner;
-static uint8_t line[KEPT_BYTES];
-static size_t held;
 static uint8_t out[HULMEIDE_SAVE_BYTES]; /* enough for every line */
 static uint32_t work[HULMEIDE_LINE_PROGRAM_CELLS];
 
@@ -50,41 +45,6 @@ struct shown {
     uint32_t run[3 * HULMEIDE_MAX_LOADS];
     size_t length;
 };
-
-static void stop(const char *message)
-{
-    fprintf(stderr, "switch: %s\n", message);
-    exit(1);
-}
-
-/* ---- The line port: what was interrupted is tried again ---- */
-
-/* The bytes that are there, up to `most`, or 0 at the end of the port. A port that fails stops the program: what is held of a line then is
- * not the whole line, and is not answered. */
-static size_t receive(uint8_t *bytes, size_t most)
-{
-    ssize_t count;
-    do {
-        count = read(STDIN_FILENO, bytes, most);
-    } while (count < 0 && errno == EINTR);
-    if (count < 0) {
-        stop("the port cannot be read");
-    }
-    return (size_t)count;
-}
-
-static void transmit(const uint8_t *bytes, size_t count)
-{
-    size_t sent = 0;
-    while (sent < count) {
-        ssize_t more = write(STDOUT_FILENO, bytes + sent, count - sent);
-        if (more >= 0) {
-            sent += (size_t)more;
-        } else if (errno != EINTR) {
-            stop("the port cannot be written");
-        }
-    }
-}
 
 /* ---- The cabinet's ports ---- */
 
@@ -230,73 +190,47 @@ static void judge_shown(const struct shown *shown)
 }
 
 /* The load that an accepted "drop,k" took out. */
-static size_t dropped_load(void)
+static size_t dropped_load(const struct line *line)
 {
     size_t at = sizeof "drop," - 1;
-    return next_number(line, held, &at);
+    return next_number(line->bytes, line->length, &at);
 }
 
 /* Judges the run that an accepted line shows, if it shows one, and switches the ports by a plan. The first lines of such answers are
  * "plan,worth,power,n", of `last` too, and "yes". A refused `plan` leaves the ports as they are, and so does `last`: they are switched already.
  * Of the commands only `drop` begins with a d, and of those that show a run only `plan` with a p. */
-static void follow(size_t count)
+static void follow(const struct line *line, size_t count)
 {
     struct shown shown;
-    if (line[0] == 'd') {
-        forget_port(dropped_load());
+    if (line->bytes[0] == 'd') {
+        forget_port(dropped_load(line));
     } else if (out[0] == 'p' || out[0] == 'y') {
         read_shown(out, count, &shown);
         judge_shown(&shown);
-        if (line[0] == 'p') {
+        if (line->bytes[0] == 'p') {
             switch_ports(shown.set);
         }
     }
 }
 
-/* Answers the line that is held. Here the display polls after each line. That of a switch has a clock of its own, but polls between two calls,
- * since each call writes the planner. */
-static void answer(void)
+/* Here the display polls after each line. That of a switch has a clock of its own, but polls between two calls, since each call writes the
+ * planner. */
+static void answer(const struct line *line)
 {
-    struct hulmeide_reply reply = hulmeide_call(&planner, line, held, out, sizeof out, 0, work, HULMEIDE_LINE_PROGRAM_CELLS);
+    struct hulmeide_reply reply = hulmeide_call(&planner, line->bytes, line->length, out, sizeof out, 0, work, HULMEIDE_LINE_PROGRAM_CELLS);
     if (reply.number == HULMEIDE_ACCEPTED) {
-        follow(reply.count);
+        follow(line, reply.count);
     }
-    held = 0;
     transmit(out, reply.count);
     poll_display();
 }
 
-/* Takes one byte of a line. */
-static void take(uint8_t byte)
-{
-    if (byte == '\n') {
-        answer();
-    } else if (held < KEPT_BYTES) {
-        line[held] = byte;
-        held += 1;
-    }
-}
-
-static void take_all(const uint8_t *bytes, size_t count)
-{
-    for (size_t i = 0; i < count; i++) {
-        take(bytes[i]);
-    }
-}
-
 int main(void)
 {
-    uint8_t bytes[256];
-    size_t count;
     if (hulmeide_version() != HULMEIDE_VERSION) {
         stop("the archive and the header are of different versions");
     }
     hulmeide_fresh(&planner);
-    while ((count = receive(bytes, sizeof bytes)) > 0) {
-        take_all(bytes, count);
-    }
-    if (held > 0) {
-        answer();
-    }
+    serve(answer);
     return 0;
 }

@@ -101,11 +101,11 @@ def answers_at_once(program):
         return answer == b'ok\n'
 
 
-def endures(program, library):
-    """Does the program print the worked session's answers where its reads and writes are interrupted?"""
+def endures(program, library, data, expected):
+    """Does the program print what is expected where its reads and writes are interrupted?"""
     environment = {**os.environ, 'LD_PRELOAD': str(Path(library).resolve(strict=True))}
-    ended = subprocess.run([program], input=WORKED.read_bytes(), stdout=subprocess.PIPE, env=environment)
-    return ended.returncode == 0 and ended.stdout == ANSWERS.read_bytes()
+    ended = subprocess.run([program], input=data, stdout=subprocess.PIPE, env=environment)
+    return ended.returncode == 0 and ended.stdout == expected
 
 
 def ports_after(line, answer, on):
@@ -174,7 +174,10 @@ def main():
         passed += compared(args.programs, printed(args.line_program, data), data, name)
     tests = [('answers at once', program, answers_at_once(program)) for program in [args.line_program] + args.programs]
     if args.interrupted:
-        tests += [('goes on when interrupted', program, endures(program, args.interrupted)) for program in [args.line_program] + args.programs]
+        worked = WORKED.read_bytes(), ANSWERS.read_bytes()
+        tests += [
+            ('goes on when interrupted', program, endures(program, args.interrupted, *worked)) for program in [args.line_program] + args.programs
+        ]
     if args.ports:
         tests += [('switches ports and shows plans, ' + name, args.ports, switches_ports(args.ports, data)) for name, data in made]
     for what, program, held in tests:
