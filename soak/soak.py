@@ -1,5 +1,6 @@
 #!/usr/bin/env python3
-"""The line program against a plain model of its tables, on random lines, valid and damaged. There is no planning in it.
+"""The line program against a plain model of its tables, on random lines, valid and damaged. There is no planning in it, and no page: a page is
+drawn by no line (tests/pagecheck.py).
 
   soak.py PROGRAM [--lines N] [--seed S] [--wrong NAME]
 

@@ -3,20 +3,26 @@
 
   expected.py < crates/planner_tests/stdin > REPORT
 
-The report has every step but `call` and `judge` as it stands. A call is one line of it, and the rest of the answer's lines:
+The report has every step but `call`, `judge` and `page` as it stands. A call is one line of it, and the rest of the answer's lines:
 
     LINE | NUMBER COUNT | B bytes kept, Z cells 0, C kept | ANSWER
 
 Before each call output and work are full of rubbish, in bytes and cells that no answer and no plan leaves: so if B is what the answer leaves
-of the output, every other byte holds what it held, and likewise of the cells but for Z. A run is one line, `judge N N ..: VERDICT`.
+of the output, every other byte holds what it held, and likewise of the cells but for Z. A run is one line, `judge N N ..: VERDICT`. A page is
+one line too, and, where it was drawn, the rows of the glass with the stretch on it:
+
+    page LOAD BYTES | NUMBER | B bytes kept | row ROW, COUNT bytes
 """
 import sys
 
+from limits import PAGE_BYTES, PAGE_ROWS
+from pages import cut
 from script import Script
 
-# The whole output and work, of which a part is lent.
+# The whole output, work and bytes to draw on, of which a part is lent.
 ALL_BYTES = 3100
 ALL_CELLS = 620
+ALL_DRAWN_ON = 200
 
 
 class Report(Script):
@@ -38,6 +44,13 @@ class Report(Script):
 
     def judged(self, p, run, verdict):
         self.text.append(' '.join(['judge', *map(str, run)]) + ': ' + verdict + '\n')
+
+    def paged(self, asked, drawn, stretch, glass):
+        number, (_, count, row) = drawn[0], stretch
+        kept = ALL_DRAWN_ON - (0 if number else PAGE_BYTES)
+        self.text.append('page %d %d | %d | %d bytes kept | row %d, %d bytes\n' % (asked.load, len(asked.page), number, kept, row, count))
+        if number == 0:
+            self.text += [cut(glass, row).decode() + '\n' for row in range(PAGE_ROWS)]
 
 
 def main():

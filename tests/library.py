@@ -1,12 +1,12 @@
 """The planner's library as firmware links it, called through its C functions.
 
-The shared object is made of the static library by examples/build. Every buffer that is lent is followed by guard bytes, which no call may
+The shared object is made of the static library by examples/build. Every buffer that is lent stands between guard bytes, which no call may
 touch.
 """
 import ctypes
 
 import script
-from limits import CELLS, PLANNER_BYTES, SAVE_BYTES, VERSION, Reply, StoredPlanner
+from limits import CELLS, PLANNER_BYTES, SAVE_BYTES, VERSION, Part, Reply, StoredPlanner
 
 GUARD = bytes(range(160, 224))
 
@@ -25,20 +25,39 @@ class Library:
         self.call.argtypes, self.call.restype = [pointer, pointer, size, pointer, size, size, pointer, size], Reply
         self.judge = shared.hulmeide_judge
         self.judge.argtypes, self.judge.restype = [pointer, pointer, size], ctypes.c_uint32
+        self.draw = shared.hulmeide_draw
+        self.draw.argtypes, self.draw.restype = [pointer, size, pointer, size], ctypes.c_uint32
+        self.part = shared.hulmeide_stretch
+        self.part.argtypes, self.part.restype = [pointer, size, pointer, size], Part
+        self.row = shared.hulmeide_stretch_row
+        self.row.argtypes, self.row.restype = [pointer, size, pointer, size], size
+
+    def stretch(self, glass, drawn):
+        """Where in the drawn page the stretch begins, how many bytes it has, and its row. Both pages must stay as they are. One that is given as
+        both is the same memory."""
+        shown = Lent(glass)
+        page = shown if drawn is glass else Lent(drawn)
+        given = shown.memory, shown.length, page.memory, page.length
+        part, row = self.part(*given), self.row(*given)
+        if (shown.content(), page.content()) != (glass, drawn):
+            raise AssertionError('the library changed a page that it only reads')
+        return part.start, part.count, row
 
 
 class Lent:
-    """Bytes that are lent to the library, with a guard after them."""
+    """Bytes that are lent to the library, with a guard before and after them."""
 
     def __init__(self, content):
         self.length = len(content)
-        self.memory = ctypes.create_string_buffer(content + GUARD, len(content) + len(GUARD))
+        self.whole = ctypes.create_string_buffer(GUARD + content + GUARD, self.length + 2 * len(GUARD))
+        self.memory = (ctypes.c_char * self.length).from_buffer(self.whole, len(GUARD))
 
     def content(self):
-        """The bytes as they are now. The guard must be as it was."""
-        if self.memory.raw[self.length:] != GUARD:
-            raise AssertionError('the library wrote past the end of what it was lent')
-        return self.memory.raw[:self.length]
+        """The bytes as they are now. The guards must be as they were."""
+        whole, end = self.whole.raw, len(GUARD) + self.length
+        if whole[:len(GUARD)] != GUARD or whole[end:] != GUARD:
+            raise AssertionError('the library wrote past an end of what it was lent')
+        return whole[len(GUARD):end]
 
 
 class Planner:
@@ -67,6 +86,14 @@ class Planner:
         """0 for a run, NOT_A_RUN for none, or the number of the refusal."""
         run = (ctypes.c_uint32 * len(numbers))(*numbers)
         return self.library.judge(self.state.memory, run, len(numbers))
+
+    def draw(self, load, page):
+        """The number of a drawing, and the page after it. The planner must stay as it is, to the last byte."""
+        before, drawn_on = self.state.content(), Lent(page)
+        number = self.library.draw(self.state.memory, load, drawn_on.memory, len(page))
+        if self.state.content() != before:
+            raise AssertionError('a drawing changed the planner')
+        return number, drawn_on.content()
 
 
 # ---- A planner's bytes, and the planner of a script (script.py) that they hold

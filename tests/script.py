@@ -9,7 +9,8 @@ Each line of a script is one step, a word and what follows it:
     told LINE LINE ..                 calls that set a planner up; only one that is refused is reported
     call LINE LINE ..                 calls, each reported; each is on the planner that the one before left
     judge N N ..                      a run for the judge, three numbers for each load
-    with CHANGE and CHANGE ..         calls and a run for the planner with changes from outside, which are then forgotten
+    page LOAD BYTES                   the page from a load on, drawn on so many bytes, and put on the glass, which `fresh` makes dark
+    with CHANGE and CHANGE ..         calls, runs and pages for the planner with changes from outside, which are then forgotten
 
 LINEs are parted by one blank each, so two blanks stand around an empty one. crates/planner_tests/stdin is a script, of every step but `with`.
 tests/damaged is another, where `%` and two digits of base 16 stand for a byte of a LINE. A CHANGE is one of these, with places counted from 0:
@@ -26,11 +27,16 @@ import re
 import sys
 
 from limits import LINE_BYTES, MAX_BUDGET, MAX_LOADS, MAX_POWER, MAX_RULES, MAX_STAGES, MAX_STATES, MAX_WORTH, NO_SET, NOTHING, PLANNED
+from limits import PAGE_BYTES
 from oracle import Oracle, bytes_needed, parse
+from pages import Asked, Pages, put
 
 NONE = (0, 0, 0)  # what an unused place holds
 WORKED_RUN = [1, 2, 0, 1, 2, 1, 1, 2, 1, 1, 1, 1]
 HANDED_IN = (b'last', b'plan', b'', b'clear', b'check,1110', b'save', b'drop,4', b'last,', b'x' * 99)
+HANDED_IN_PAGES = (1, PAGE_BYTES), (4, PAGE_BYTES), (5, PAGE_BYTES), (MAX_LOADS, PAGE_BYTES), (1, PAGE_BYTES - 1), (0, PAGE_BYTES + 1)
+RUBBISH_BYTE = b'\xaa'  # what an output, a page and a glass hold before: no byte of an answer and of a page is this one
+DARK = RUBBISH_BYTE * PAGE_BYTES
 
 
 class Planner:
@@ -182,6 +188,20 @@ def stored(tables):
     return p
 
 
+class Followed(Oracle):
+    """The tables and the outcome after lines whose answers are known. Nothing is enumerated."""
+
+    def follow(self, line, answer):
+        if answer == ['ok']:
+            self.act(*parse(line))
+            self.wipe()
+        elif is_plan(line) and answer == ['no,9']:
+            self.store(None)
+        elif is_plan(line) and answer[0].startswith('plan,'):
+            entries = [tuple(map(int, entry.split(','))) for entry in answer[1:]]
+            self.store({entry[0]: entry[1:] for entry in entries})
+
+
 # ---- A call on a line
 
 
@@ -305,20 +325,26 @@ def make(q, change):
 
 
 class Script:
-    """The planner that the steps so far left, and what is lent to its calls. What becomes of each step is for the classes below it to say."""
+    """The planner that the steps so far left, what is lent to its calls, and what the glass shows. What becomes of each step is for the classes
+    below it to say."""
+    pages = Pages()
 
     def __init__(self):
         self.planner = Planner()
         self.lent = ROOM
+        self.glass = DARK
 
     def told(self, line):
-        """A step but for `call` and `judge`."""
+        """A step but for `call`, `judge` and `page`."""
 
     def called(self, p, lent, line, reply, every):
         """A call, and what it leaves. It is to be reported if it is refused or every call is."""
 
     def judged(self, p, run, verdict):
         """A run for the judge, and its verdict."""
+
+    def paged(self, asked, drawn, stretch, glass):
+        """A drawing, what it leaves, the stretch for the glass, and what that shows then. A refused drawing leaves the glass as it is."""
 
     def line_of(self, word):
         """The line that a LINE stands for."""
@@ -334,19 +360,30 @@ class Script:
         for word in words:
             self.planner = self.call(self.planner, lent, self.line_of(word), every)
 
+    def page(self, p, load, size):
+        """What the glass shows after a drawing. The stretch of a refused one is of the bytes that were lent, but stays off the glass."""
+        asked = Asked(p, keeps_limits(p), load, RUBBISH_BYTE * size)
+        drawn = self.pages.drawn(asked)
+        stretch = self.pages.stretch(self.glass, drawn[1])
+        glass = self.glass if drawn[0] else put(self.glass, stretch[2], self.pages.sent(self.glass, drawn[1]))
+        self.paged(asked, drawn, stretch, glass)
+        return glass
+
     def handed_in(self, p):
         for line in HANDED_IN:
             self.call(p, ROOM, line, True)
         self.judged(p, WORKED_RUN, verdict(p, WORKED_RUN))
         self.judged(p, [], verdict(p, []))
+        for load, size in HANDED_IN_PAGES:
+            self.page(p, load, size)
 
     def step(self, line):
         """One line of the script."""
         word, *rest = line.split(' ')
-        if word not in ('call', 'judge'):
+        if word not in ('call', 'judge', 'page'):
             self.told(line)
         if word == 'fresh':
-            self.planner = Planner()
+            self.planner, self.glass = Planner(), DARK
         elif word == 'lent':
             self.lent = Lent(*numbers(line))
         elif word == 'told':
@@ -355,6 +392,8 @@ class Script:
             self.calls(self.lent, rest, True)
         elif word == 'judge':
             self.judged(self.planner, numbers(line), verdict(self.planner, numbers(line)))
+        elif word == 'page':
+            self.glass = self.page(self.planner, *numbers(line))
         elif word == 'with':
             self.handed_in(changed(self.planner, ' '.join(rest).split(' and ')))
         elif word != '#':

@@ -3,9 +3,9 @@
 
   scriptcheck.py LIBRARY.so SCRIPT..
 
-Compared are the number, the count, every byte of the output, every cell of the work and every field of the planner after each call, and the
-judge's answer on each run. Which planners were turned away, in calls and by the judge, must tell the limits of a stored outcome from such as
-are wrong on purpose (wrong_limits.py). The last line is 'N passed, M failed'.
+Compared are the number, the count, every byte of the output, every cell of the work and every field of the planner after each call, the
+judge's answer on each run, and number, page, stretch and glass of each drawing. Which planners were turned away, in calls, by the judge and in
+drawings, must tell the limits of a stored outcome from such as are wrong on purpose (wrong_limits.py). The last line is 'N passed, M failed'.
 """
 import argparse
 import sys
@@ -13,11 +13,11 @@ from pathlib import Path
 from urllib.parse import unquote_to_bytes
 
 from library import Library, Planner, content_with, held
-from limits import NOT_A_RUN, NUMBERS
-from script import Script, keeps_limits
+from limits import NOT_A_RUN, NUMBERS, PAGE_BYTES
+from pages import put
+from script import RUBBISH_BYTE, Script, keeps_limits
 from wrong_limits import WRONG
 
-RUBBISH_BYTE = b'\xaa'
 RUBBISH_CELL = b'rubb'
 VERDICTS = {'yes': 0, 'no': NOT_A_RUN}
 TURNED_AWAY = NUMBERS['TURNED_AWAY']
@@ -30,7 +30,7 @@ class Compared(Script):
         super().__init__()
         self.library = library
         self.passed = self.failed = 0
-        self.called_with, self.judged_with = [], []  # planners, each with whether it was turned away by itself
+        self.called_with, self.judged_with, self.drawn_with = [], [], []  # planners, each with whether it was turned away by itself
 
     def line_of(self, word):
         return unquote_to_bytes(word)
@@ -58,6 +58,15 @@ class Compared(Script):
         self.judged_with.append((p, got == TURNED_AWAY))
         self.compare('judge %r' % run, got, VERDICTS[verdict] if verdict in VERDICTS else int(verdict))
 
+    def paged(self, asked, drawn, stretch, glass):
+        number, page = Planner(self.library, content_with(asked.p)).draw(asked.load, asked.page)
+        start, count, row = self.library.stretch(self.glass, page)
+        shown = self.glass if number else put(self.glass, row, page[start:start + count])
+        if len(page) == PAGE_BYTES:
+            self.drawn_with.append((asked.p, number == TURNED_AWAY))
+        what = 'page %d %d' % (asked.load, len(asked.page))
+        self.compare(what, ((number, page), (start, count, row), shown), (drawn, stretch, glass))
+
 
 def told_apart(limits, handed_in):
     """Was some planner turned away though it keeps these limits, or the other way round?"""
@@ -65,9 +74,9 @@ def told_apart(limits, handed_in):
 
 
 def untold(scripts):
-    """The wrong limits that the calls, or the judge, do not tell apart."""
-    by_calls, by_judge = [one for s in scripts for one in s.called_with], [one for s in scripts for one in s.judged_with]
-    return [limits.__name__ for limits in WRONG if not told_apart(limits, by_calls) or not told_apart(limits, by_judge)]
+    """The wrong limits that the calls, the judge or the drawings do not tell apart."""
+    sorts = [[one for s in scripts for one in getattr(s, sort)] for sort in ('called_with', 'judged_with', 'drawn_with')]
+    return [limits.__name__ for limits in WRONG if not all(told_apart(limits, handed_in) for handed_in in sorts)]
 
 
 def main():
