@@ -47,6 +47,11 @@ static const char *line;
 static Answer answer;
 static uint32_t run[3 * HULMEIDE_MAX_LOADS];
 static uint32_t verdict;
+static uint8_t page[HULMEIDE_PAGE_BYTES];
+static uint8_t glass[HULMEIDE_PAGE_BYTES];
+static uint32_t drawn;
+static struct hulmeide_part stretch;
+static size_t row;
 static Outcome outcome;
 
 static void nothing(void) {
@@ -58,6 +63,18 @@ static void proved_call(void) {
 
 static void proved_judge(void) {
     verdict = hulmeide_judge(&tables, run, 3 * tables.loads.count);
+}
+
+static void proved_draw(void) {
+    drawn = hulmeide_draw(&tables, tables.loads.count, page, sizeof page);
+}
+
+static void proved_stretch(void) {
+    stretch = hulmeide_stretch(glass, sizeof glass, page, sizeof page);
+}
+
+static void proved_stretch_row(void) {
+    row = hulmeide_stretch_row(glass, sizeof glass, page, sizeof page);
 }
 
 static void plain_c(void) {
@@ -105,12 +122,23 @@ static void print_check_and_judge(void) {
     expect(verdict, HULMEIDE_ACCEPTED);
 }
 
+// The page of the last load, of the plan that is stored, on a glass that shows nothing of it.
+static void print_page(void) {
+    printf(" page %zu,", depth(proved_draw));
+    expect(drawn, HULMEIDE_ACCEPTED);
+    printf(" stretch %zu,", depth(proved_stretch));
+    expect((uint32_t)stretch.count, HULMEIDE_PAGE_BYTES);
+    printf(" its row %zu,", depth(proved_stretch_row));
+    expect((uint32_t)row, 1);
+}
+
 static void print_calls(Shape shape) {
     tables = tables_of(largest(shape));
     printf("%s:", shape_names[shape]);
     print_line("plan", "plan", HULMEIDE_ACCEPTED);
     print_check_and_judge();
     print_line("last", "last", HULMEIDE_ACCEPTED);
+    print_page();
     print_of_last_load("change", "power", ",1");
     print_line("save", "save", HULMEIDE_ACCEPTED);
     print_line("refused", "load,1,1,1", HULMEIDE_FULL);

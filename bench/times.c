@@ -1,6 +1,7 @@
-// Times of the four plans by tree, loads, rules and budget, and on cabinets that tell which of equal plans each shows.
+// Times of the four plans by tree, loads, rules and budget, and on cabinets that tell which of equal plans each shows; and those of a page.
 #include "measure.h"
 #include <stdio.h>
+#include <stdlib.h>
 
 static void print_trees(void) {
     print_head("Trees: 8 states, 8 stages, 32 + 32 rules, budget 500", "tree", "loads");
@@ -34,10 +35,62 @@ static void print_equals(void) {
         }
 }
 
+// ---- pages
+
+enum { LAST, DRAWING, STRETCH, ASKED, TURNS = 1000 };
+
+static Tables planned;
+static uint32_t work[HULMEIDE_MAX_CELLS];
+static Answer answer;
+static uint8_t page[HULMEIDE_PAGE_BYTES], glass[HULMEIDE_PAGE_BYTES];
+static uint32_t number;
+static struct hulmeide_part stretch;
+
+static void ask(int what) {
+    if (what == LAST)
+        answer_line(&planned, "last", work, &answer);
+    else if (what == DRAWING)
+        number = hulmeide_draw(&planned, 1, page, sizeof page);
+    else
+        stretch = hulmeide_stretch(glass, sizeof glass, page, sizeof page);
+}
+
+static double time_asked(int what) {
+    double began = seconds();
+    for (int turn = 0; turn < TURNS; turn++)
+        ask(what);
+    return (seconds() - began) / TURNS;
+}
+
+static void print_page(Shape shape) {
+    double best[ASKED] = {1, 1, 1};
+    planned = tables_of(largest(shape));
+    answer_line(&planned, "plan", work, &answer);
+    for (int round = 0; round < ROUNDS * ASKED; round++) {
+        double time = time_asked(round % ASKED);
+        if (time < best[round % ASKED])
+            best[round % ASKED] = time;
+    }
+    if (number != HULMEIDE_ACCEPTED || stretch.count != sizeof page) {
+        printf("no page was drawn\n");
+        exit(1);
+    }
+    printf("%-11s  %8.3f %8.3f %8.3f  %5.3f\n", shape_names[shape], 1e6 * best[LAST], 1e6 * best[DRAWING], 1e6 * best[STRETCH],
+        best[DRAWING] / best[LAST]);
+}
+
+static void print_pages(void) {
+    printf("\nA page of the largest cabinet: processor time in microseconds, best of %d rounds; the drawing over `last`\n", ROUNDS);
+    printf("%-11s  %8s %8s %8s  %5s\n", "tree", "last", "drawing", "stretch", "/last");
+    for (Shape shape = 0; shape < SHAPES; shape++)
+        print_page(shape);
+}
+
 int main(void) {
     printf("A plan: processor time in milliseconds, best of %d rounds; proved over each other one; the answer that all agree on\n", ROUNDS);
     print_trees();
     print_growth();
     print_equals();
+    print_pages();
     return 0;
 }
