@@ -5,6 +5,6 @@ use Prim.Native.Nat.{ℕ, _+_, _*_}
 abbrev pub versionOf : (major minor patch : ℕ) → ℕ
 versionOf major minor patch = major * 10000 + minor * 100 + patch
 
--- the minor number goes up with each request that changes what functions or lines there are, what they answer, or the layout
+-- the minor number goes up with each request that changes what lines and functions there are, what they answer, or the layout
 abbrev pub version : ℕ
 version = versionOf 1 6 0

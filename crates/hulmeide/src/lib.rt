@@ -1,7 +1,7 @@
 // The planner for the switch's firmware: the functions that C calls. The planner stands behind a reference, where the caller keeps it.
 // C may hand in any bytes as a planner: a planner that breaks a limit is refusal 1.
-// Each function with a planner copies it, leaves the work to a function on values, and stores what comes back: the proofs of these three go
-// through their code by hand, so there is as little code in them as can be.
+// Each function with a planner leaves the work to a function on values, copies the planner for it, and stores a planner that comes back: the
+// proofs of these four go through their code by hand, so there is as little code in them as can be.
 use judge::Verdict;
 use page::drawing::draw;
 use page::stretch::Part;

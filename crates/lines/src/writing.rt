@@ -1,4 +1,4 @@
-// Writing answers into the free part of the lent output, which the caller lends on. Each function writes from a place on and returns the
+// Writing answers into the free part of the lent output, which the caller lends on; a byte and a text also serve whoever else writes. Each function writes from a place on and returns the
 // place after what it wrote; all other bytes keep their values.
 use crate::COMMA;
 use crate::LINE_FEED;

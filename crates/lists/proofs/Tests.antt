@@ -12,7 +12,7 @@ use lib.ListN.{length, take, drop, getD, set, length-drop}
 use lib.Seq.{getD-drop}
 use Rattle.lists.specs.Tests.{some, every, everyFrom, distinct, allBelow}
 use Rattle.lists.specs.Arrays.{rest}
-use Rattle.lists.proofs.Bools.{and-left, and-right, and-false, or-left, or-right}
+use Rattle.lists.proofs.Bools.{and-true, and-left, and-right, and-false, or-left, or-right}
 use Rattle.lists.proofs.Arrays.{rest-end, rest-past, rest-cons}
 
 module _ {A : Type 0} where
@@ -43,6 +43,11 @@ module _ {A : Type 0} where
   unfolding some
   some-snoc p [] x h e = rw e
   some-snoc p (y ∷ l) x h e = rw (or-left (p y) (some p l) h) (some-snoc p l x (or-right (p y) (some p l) h) e)
+
+  pub every-append : (p : A → Bool) (xs ys : List A) → every p xs ≡ true → every p ys ≡ true → every p (xs ++ ys) ≡ true
+  unfolding every
+  every-append p [] ys e f = f
+  every-append p (x ∷ xs) ys e f = and-true (p x) (every p (xs ++ ys)) (and-left (p x) (every p xs) e) (every-append p xs ys (and-right (p x) (every p xs) e) f)
 
   pub every-snoc : (p : A → Bool) (l : List A) (x : A) → every p l ≡ true → p x ≡ true → every p (l ++ (x ∷ [])) ≡ true
   unfolding every

@@ -1,18 +1,17 @@
 -- Request Six of the code: what the promises of `draw` and of `stretch` come to, on any planner and after every list of calls. Assumes nothing.
-use Prim.Native.Nat.{ℕ, zero, suc, _+_, _-_, _*_, _≤_, _<_}
+use Prim.Native.Nat.{ℕ, zero, suc, _+_, _-_, _≤_, _<_}
 use mathlib.Core.Path.{_≡_, refl, sym, ap, subst, _∙_}
 use mathlib.Core.Bool.{Bool, true, false}
 use mathlib.Core.List.{List, [], _++_}
 use mathlib.Core.Logic.{_⊎_, inl, inr}
 use native.Mathlib.Omega.{arith}
 use borrow.Author.Tests.{eqb-true, leb-true}
-use lib.Dec.{lit≤, leb}
+use lib.Dec.{leb}
 use lib.ListN.{length, getD, take, drop}
 use Rattle.lists.proofs.Bools.{and-left}
-use Rattle.lines.specs.Grammar.{value}
 use Rattle.tables.specs.Refusals as no
 use Rattle.tables.specs.Tables.{Tables, noLoad}
-use Rattle.tables.specs.Limits.{maxLoads, Limits}
+use Rattle.tables.specs.Limits.{maxLoads}
 use Rattle.tables.proofs.Lawful.{lawful}
 use Rattle.tables.specs.declared.entry.Entry.{Entry}
 use Rattle.meaning.specs.Sets.{worth, power, NoneFits}
@@ -20,22 +19,22 @@ use Rattle.meaning.specs.Best.{bestPlan}
 use Rattle.meaning.specs.Choice.{planEntries, shownSet}
 use Rattle.meaning.specs.Claims.{PlanShown}
 use Rattle.meaning.proofs.Claims.{claims}
-use Rattle.runs.specs.Outcome.{Outcome, nothing, noSet, planned, found, isNothing, entriesOf}
-use Rattle.calls.specs.State.{State, StoredState, fresh, storedState, stateOf, keeps, Within}
+use Rattle.runs.specs.Outcome.{noSet, planned, found, isNothing}
+use Rattle.calls.specs.State.{State, StoredState, storedState, stateOf, Within}
 use Rattle.calls.specs.Rows.{isLoad}
 use Rattle.calls.specs.Last.{current, keptOutcome}
 use Rattle.calls.specs.Demand3.{Exchange, History, last, paper, Demand3}
 use Rattle.calls.proofs.State.{few-loads, state-stored, keeps-stored}
 use Rattle.calls.proofs.Fits.{worth-most}
-use Rattle.calls.proofs.Work.{clash}
 use Rattle.planner.specs.declared.Planner.{Planner}
 use Rattle.planner.specs.Planner as planner
 use Rattle.planner.specs.Planner.{held}
 use Rattle.planner.proofs.Demands.{demand3}
-use Rattle.page.specs.Rows.{rowBytes, pageBytes, loadRowCount, blankRow, planRow, noPlanRow, loadRow, rowOf, loadRows}
-use Rattle.page.specs.Drawing.{firstRow, loadsShown, pageOf, Drawn, drawnOf, drawing}
+use Rattle.page.specs.Rows.{pageBytes, loadRowCount, worthDigits, powerDigits, numberDigits, planRow, noPlanRow, rowOf, loadRows}
+use Rattle.page.specs.Drawing.{pageOf, Drawn, drawnOf, drawing}
 use Rattle.page.specs.Stretch.{rowAt, isPage}
-use Rattle.page.specs.Claims.{DrawingRight, LoadShown, PlanPage, NoPlanPage, PageRight, StretchRight}
+use Rattle.page.specs.Claims.{DrawingRight, LoadShown, PlanPage, NoPlanPage, PageRight, PagesRight, StretchRight}
+use Rattle.page.proofs.Digits.{digits-read}
 use Rattle.page.proofs.RowText.{plan-length, no-plan-length, row-there, row-missing}
 use Rattle.page.proofs.Drawn.{no-plan, unrefused, refused-drawing, done-drawing}
 use Rattle.page.proofs.Pages.{row-first, row-next, row-of-loads, plan-worth, plan-power, load-number, load-mark, load-power}
@@ -88,23 +87,23 @@ module _ (s : State) (h : Within s) (k : ℕ) (low : 1 ≤ k) where
     row-is : (i : ℕ) → i < loadRowCount → rowAt (first ++ below) (suc i) ≡ rowOf (t .loads) σ (k + i)
     row-is i l = row-next first below i (plan-length (worth t σ) (power t σ)) ∙ row-of-loads (t .loads) σ k loadRowCount i l
 
-    load-shown : (i : ℕ) → i < loadRowCount → k + i ≤ length (t .loads) → LoadShown t σ (first ++ below) i (k + i)
+    load-shown : (i : ℕ) → i < loadRowCount → k + i ≤ length (t .loads) → LoadShown t σ (first ++ below) (suc i) (k + i)
     load-shown i l m =
         let w = getD (t .loads) (k + i - 1) noLoad .power in
         let row = row-is i l ∙ row-there (t .loads) σ (k + i) (omega (arith, low)) m in
         let small : w < 1000 = omega (arith, lawful t (h .tables) .load (k + i - 1) (omega (arith, m, low)) .power) in
         record {
-          number = ap (λ (r : List ℕ). value (take 3 (drop 0 r))) row ∙ load-number (k + i) (σ (k + i)) w (omega (arith, m, few-loads t (h .tables)));
+          number = digits-read numberDigits (k + i) (omega (arith, m, few-loads t (h .tables))) (ap (λ (r : List ℕ). take 3 (drop 0 r)) row ∙ load-number (k + i) (σ (k + i)) w);
           mark = ap (λ (r : List ℕ). take 3 (drop 4 r)) row ∙ load-mark (k + i) (σ (k + i)) w;
-          power = ap (λ (r : List ℕ). value (take 3 (drop 8 r))) row ∙ load-power (k + i) (σ (k + i)) w small;
+          power = digits-read powerDigits w small (ap (λ (r : List ℕ). take 3 (drop 8 r)) row ∙ load-power (k + i) (σ (k + i)) w);
         }
 
     plan-page : s .outcome ≡ planned es → PlanPage t σ k (pageOf s k)
     unfolding pageOf
     plan-page e =
         rw e record {
-          worth = ap (λ (r : List ℕ). value (take 5 (drop 6 r))) row-one ∙ plan-worth (worth t σ) (power t σ) small-worth;
-          power = ap (λ (r : List ℕ). value (take 3 (drop 12 r))) row-one ∙ plan-power (worth t σ) (power t σ) small-power;
+          worth = digits-read worthDigits (worth t σ) small-worth (ap (λ (r : List ℕ). take 5 (drop 6 r)) row-one ∙ plan-worth (worth t σ) (power t σ));
+          power = digits-read powerDigits (power t σ) small-power (ap (λ (r : List ℕ). take 3 (drop 12 r)) row-one ∙ plan-power (worth t σ) (power t σ));
           loads = load-shown;
           missing = λ i l m. row-is i l ∙ row-missing (t .loads) σ (k + i) m;
         }
@@ -152,16 +151,15 @@ module _ (n : ℕ) (xs : List Exchange) (d3 : Demand3 n xs) (k : ℕ) (page : Li
     shown = λ e. rw (new (some-outcome e)) (go e (bestPlan (s .tables)) refl);
   }
     where
-      go : current false xs ≡ true → (v : ℕ) → bestPlan (s .tables) ≡ v → ((es : List Entry) × PlanShown (s .tables) es × PlanPage (s .tables) (shownSet es) k (pageOf s k))
+      go : current false xs ≡ true → (v : ℕ) → bestPlan (s .tables) ≡ v → (PlanShown (s .tables) (planEntries (s .tables)) × PlanPage (s .tables) (shownSet (planEntries (s .tables))) k (pageOf s k))
           ⊎ (NoneFits (s .tables) × NoPlanPage (pageOf s k))
       go e zero z = inr (claims (s .tables) (d3 .limits .tables) .refused .0 z, none-page s (d3 .limits) k low (outcome true e ∙ ap (λ (v : ℕ). found v (planEntries (s .tables))) z))
       go e (suc v) z =
           let p = claims (s .tables) (d3 .limits .tables) .planned (omega (arith, z)) in
-          inl (planEntries (s .tables), p, plan-page s (d3 .limits) k low (planEntries (s .tables)) (p .optimum .fits) (outcome true e ∙ ap (λ (v : ℕ). found v (planEntries (s .tables))) z))
+          inl (p, plan-page s (d3 .limits) k low (planEntries (s .tables)) (p .optimum .fits) (outcome true e ∙ ap (λ (v : ℕ). found v (planEntries (s .tables))) z))
 
 -- after every list of lines from a fresh planner: the page of the plan that is current, or 12
-pub page-right : (xs : List Exchange) → History (held planner.fresh) xs → (k : ℕ) (page : List ℕ) → isPage page ≡ true → isLoad (paper maxLoads xs .tables) k ≡ true
-    → (d : Drawn) → d ≡ drawing (last (held planner.fresh) xs) k page → PageRight maxLoads xs k page d
+pub page-right : (xs : List Exchange) → History (held planner.fresh) xs → PagesRight maxLoads xs (last (held planner.fresh) xs)
 page-right xs y k page sized there d is =
     let d3 = demand3 xs y in
     subst (PageRight maxLoads xs k page) (sym (is ∙ ap (λ (p : StoredState). drawing p k page) (d3 .state))) (right maxLoads xs d3 k page sized there)

@@ -1,30 +1,32 @@
--- The stretch between two pages: its loops, what it makes of the glass, and that none is shorter. Assumes nothing.
+-- Two pages row by row: how rows are compared, and where the stretch lies. Assumes nothing.
 use Prim.Native.Nat.{ℕ, zero, suc, _+_, _*_, _-_, _≤_, _<_, zero-le}
 use mathlib.Core.Path.{_≡_, refl, sym, ap, _∙_}
-use mathlib.Core.Bool.{Bool, true, false, _&&_, not}
-use mathlib.Core.List.{List, [], _++_}
+use mathlib.Core.Bool.{Bool, true, false, _&&_, _||_, not}
+use mathlib.Core.List.{List}
 use native.Mathlib.Omega.{arith}
 use borrow.Author.Tests.{eq-eqb, eqb-true, not-true, not-false}
 use lib.Dec.{eqb}
-use lib.ListN.{length, getD, take, drop, length-append, length-take, length-drop, take-append-drop, drop-of-length-le}
-use lib.Seq.{sets, sets-eq, take-add, drop-drop, ext-getD, getD-take, getD-drop, length-take-le, take-append-le, drop-append-le, drop-append-add}
+use lib.ListN.{length, getD, take, drop, length-drop, take-append-drop, drop-of-length-le}
+use lib.Seq.{take-add, drop-drop, ext-getD, getD-take, getD-drop, length-take-le}
 use Rattle.lists.specs.Tests.{pick, allBelow}
-use Rattle.lists.proofs.Bools.{same-test}
+use Rattle.lists.proofs.Bools.{same-test, or-left, or-right}
 use Rattle.lists.proofs.Tests.{below-at, below-all}
 use Rattle.lines.specs.Text.{same}
 use Rattle.lines.proofs.Codes.{same-refl, same-is}
+use Rattle.page.specs.declared.stretch.Rows.{Rows}
+use Rattle.page.specs.declared.stretch.Part.{Part}
 use Rattle.page.specs.Rows.{rowCount, rowBytes, pageBytes}
-use Rattle.page.specs.Stretch.{rowAt, differs, firstOf, endOf, passing, noRows, isPage, differing, place}
-use Rattle.page.proofs.Rowwise.{end-most, after-end, before-first, first-end, end-none, first-passes, end-passes, passing-fits}
+use Rattle.page.specs.Stretch.{rowAt, differs, passing, noRows, isPage, differing, place}
+use Rattle.page.proofs.Rowwise.{passing-fits}
 
 -- ---- a row, byte for byte
 abbrev pub bytesSame : (glass drawn : List ℕ) → (row : ℕ) → (i : ℕ) → Bool
 bytesSame g d r i = eqb (getD g (r * rowBytes + i) 0) (getD d (r * rowBytes + i) 0)
 
 module _ (s : List ℕ) (r : ℕ) (h : r * rowBytes + rowBytes ≤ length s) where
-  row-length : length (rowAt s r) ≡ rowBytes
+  at-length : length (rowAt s r) ≡ rowBytes
   unfolding rowAt
-  row-length = length-take-le rowBytes (drop (r * rowBytes) s) (omega (arith, length-drop (r * rowBytes) s))
+  at-length = length-take-le rowBytes (drop (r * rowBytes) s) (omega (arith, length-drop (r * rowBytes) s))
 
   row-byte : (i : ℕ) → i < rowBytes → getD (rowAt s r) i 0 ≡ getD s (r * rowBytes + i) 0
   unfolding rowAt
@@ -36,8 +38,8 @@ module _ (g d : List ℕ) (r : ℕ) (a : r * rowBytes + rowBytes ≤ length g) (
     where
       to : allBelow (bytesSame g d r) rowBytes ≡ true → same (rowAt g r) (rowAt d r) ≡ true
       to h =
-          let e : rowAt g r ≡ rowAt d r = ext-getD 0 (rowAt g r) (rowAt d r) (row-length g r a ∙ sym (row-length d r b))
-          (λ i l. let m : i < rowBytes = omega (arith, l, row-length g r a) in
+          let e : rowAt g r ≡ rowAt d r = ext-getD 0 (rowAt g r) (rowAt d r) (at-length g r a ∙ sym (at-length d r b))
+          (λ i l. let m : i < rowBytes = omega (arith, l, at-length g r a) in
           row-byte g r a i m ∙ eqb-true _ _ (below-at (bytesSame g d r) rowBytes i h m) ∙ sym (row-byte d r b i m)) in
           rw e (same-refl (rowAt d r))
 
@@ -49,8 +51,8 @@ module _ (g d : List ℕ) where
   pub alike : (i : ℕ) → differs g d i ≡ false → rowAt g i ≡ rowAt d i
   alike i e = same-is (rowAt g i) (rowAt d i) (not-false (same (rowAt g i) (rowAt d i)) e)
 
-  pub unlike : (i : ℕ) → rowAt g i ≡ rowAt d i → differs g d i ≡ false
-  unlike i e = rw (e, same-refl (rowAt d i))
+  pub not-differing : (i : ℕ) → rowAt g i ≡ rowAt d i → differs g d i ≡ false
+  not-differing i e = rw (e, same-refl (rowAt d i))
 
   -- the rows before one
   pub same-front : (k : ℕ) → ((i : ℕ) → i < k → rowAt g i ≡ rowAt d i) → take (k * rowBytes) g ≡ take (k * rowBytes) d
@@ -72,10 +74,18 @@ module _ (g d : List ℕ) where
       ∙ rw (f k (omega arith) (omega arith), drop-drop rowBytes (k * rowBytes) g, e, next, ← e, ← (drop-drop rowBytes (k * rowBytes) d)) (take-append-drop rowBytes (drop (k * rowBytes) d))
 
 -- ---- the rows that differ, and where the stretch lies
+-- are both of 160 bytes, as the code tests it?
+pub pages-bad : (a b : Bool) → not a || not b ≡ true → a && b ≡ false
+pages-bad true b e = not-true b e
+pages-bad false b e = refl
+
+pub pages-good : (a b : Bool) → not a || not b ≡ false → (a ≡ true) × (b ≡ true)
+pages-good a b e = (not-false a (or-left (not a) (not b) e), not-false b (or-right (not a) (not b) e))
+
 module _ (g d : List ℕ) where
-  pub rows-fit : (differing g d .first ≤ differing g d .end) × (differing g d .end ≤ rowCount)
+  pub rows-fit : {r : Rows} → r ≡ differing g d → (r .first ≤ r .end) × (r .end ≤ rowCount)
   unfolding differing
-  rows-fit = go (isPage g && isPage d)
+  rows-fit e = rw e (go (isPage g && isPage d))
     where
       go : (b : Bool) → (pick b (passing (differs g d) rowCount) noRows .first ≤ pick b (passing (differs g d) rowCount) noRows .end)
           × (pick b (passing (differs g d) rowCount) noRows .end ≤ rowCount)
@@ -92,10 +102,13 @@ module _ (g d : List ℕ) where
       go true p false q h = absurd (omega arith)
       go false p b q h = absurd (omega arith)
 
-  pub place-fits : place g d .start + place g d .count ≤ length d
+  pub place-fits : {q : Part} → q ≡ place g d → q .start + q .count ≤ length d
   unfolding place
-  place-fits = go (differing g d .end) refl
+  place-fits is = rw is (go (differing g d .end) refl)
     where
+      f : (differing g d .first ≤ differing g d .end) × (differing g d .end ≤ rowCount)
+      f = rows-fit refl
+
       go : (m : ℕ) → differing g d .end ≡ m → differing g d .first * rowBytes + (differing g d .end - differing g d .first) * rowBytes ≤ length d
-      go zero e = omega (arith, e, rows-fit .0)
-      go (suc m) e = omega (arith, e, rows-fit .0, rows-fit .1, some-rows (omega (arith, e)))
+      go zero e = omega (arith, e, f .0)
+      go (suc m) e = omega (arith, e, f .0, f .1, some-rows (omega (arith, e)))

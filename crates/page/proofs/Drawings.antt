@@ -1,16 +1,14 @@
 -- A drawing of any planner: its number exactly in its case, and the page that it leaves. Assumes nothing.
-use Prim.Native.Nat.{ℕ, zero, suc, _*_, _<_}
-use mathlib.Core.Path.{_≡_, refl, sym, ap, subst, _∙_}
+use Prim.Native.Nat.{ℕ, zero, suc, _<_}
+use mathlib.Core.Path.{_≡_, refl, sym, ap, _∙_}
 use mathlib.Core.Bool.{Bool, true, false}
-use mathlib.Core.List.{List, [], _++_}
-use mathlib.Core.Logic.{_⊎_, inl, inr}
+use mathlib.Core.List.{List}
+use mathlib.Core.Logic.{inl, inr}
 use native.Mathlib.Omega.{arith}
 use borrow.Author.Tests.{eqb-true, eqb-false}
-use lib.Dec.{eqb, ltb}
 use lib.ListN.{length, length-append}
 use Rattle.lists.specs.Tests.{every}
-use Rattle.tables.specs.Refusals as no
-use Rattle.tables.specs.declared.load.Load.{Load}
+use Rattle.lists.proofs.Tests.{every-append}
 use Rattle.tables.specs.Operations.{accepted}
 use Rattle.meaning.specs.Sets.{worth, power}
 use Rattle.meaning.specs.Choice.{shownSet}
@@ -18,13 +16,13 @@ use Rattle.runs.specs.Outcome.{Outcome, nothing, noSet, planned, isNothing, ent
 use Rattle.calls.specs.State.{State, StoredState, stateOf, keeps}
 use Rattle.calls.specs.Rows.{isLoad}
 use Rattle.calls.proofs.Work.{clash}
-use Rattle.page.specs.Rows.{rowBytes, pageBytes, loadRowCount, planRow, noPlanRow, loadRows}
-use Rattle.page.specs.Drawing.{firstRow, loadsShown, pageOf, refusalOf, Drawn, drawing}
+use Rattle.page.specs.Rows.{rowBytes, isAscii, pageBytes, loadRowCount, loadRows}
+use Rattle.page.specs.Drawing.{firstRow, loadsShown, pageOf, refusalOf, drawing}
 use Rattle.page.specs.Stretch.{isPage}
 use Rattle.page.specs.Claims.{NumberRight, DrawingRight}
 use Rattle.page.proofs.RowText.{plan-length, no-plan-length, rows-length}
 use Rattle.page.proofs.Drawn.{no-page, broken, no-load, no-plan, unrefused}
-use Rattle.page.proofs.Pages.{every-both, plan-ascii, no-plan-ascii, rows-ascii}
+use Rattle.page.proofs.Pages.{plan-ascii, no-plan-ascii, rows-ascii}
 
 -- ---- the page
 module _ (s : State) (k : ℕ) where
@@ -36,7 +34,7 @@ module _ (s : State) (k : ℕ) where
   first-length noSet = no-plan-length
   first-length (planned es) = plan-length (worth (s .tables) (shownSet es)) (power (s .tables) (shownSet es))
 
-  pub page-length : length (pageOf s k) ≡ pageBytes
+  page-length : length (pageOf s k) ≡ pageBytes
   unfolding pageOf
   page-length =
       omega (
@@ -46,15 +44,15 @@ module _ (s : State) (k : ℕ) where
         rows-length (loadsShown (s .tables) (s .outcome)) (shownSet (entriesOf (s .outcome))) k loadRowCount,
       )
 
-  first-ascii : (o : Outcome) → every (λ b. ltb b 128) (firstRow (s .tables) o) ≡ true
+  first-ascii : (o : Outcome) → every isAscii (firstRow (s .tables) o) ≡ true
   first-ascii nothing = no-plan-ascii
   first-ascii noSet = no-plan-ascii
   first-ascii (planned es) = plan-ascii (worth (s .tables) (shownSet es)) (power (s .tables) (shownSet es))
 
-  pub page-ascii : every (λ b. ltb b 128) (pageOf s k) ≡ true
+  page-ascii : every isAscii (pageOf s k) ≡ true
   unfolding pageOf
   page-ascii =
-      every-both (firstRow (s .tables) (s .outcome)) below (first-ascii (s .outcome))
+      every-append isAscii (firstRow (s .tables) (s .outcome)) below (first-ascii (s .outcome))
       (rows-ascii (loadsShown (s .tables) (s .outcome)) (shownSet (entriesOf (s .outcome))) k loadRowCount)
 
 -- ---- the number
@@ -77,6 +75,7 @@ module _ (p : StoredState) (k : ℕ) (page : List ℕ) where
         unusable = (λ z. absurd (omega (arith, z, e)), λ z. absurd (split b (z .1)));
         outOfRange = (λ z. absurd (omega (arith, z, e)), λ z. absurd (split c (z .2)));
         noPlan = (λ z. absurd (omega (arith, z, e)), λ z. absurd (no-outcome (z .3) o));
+        none = (λ z. (a, b, c, o), λ z. sym e);
         others = inl (sym e);
       }
 
@@ -88,6 +87,7 @@ module _ (p : StoredState) (k : ℕ) (page : List ℕ) where
         unusable = (λ z. absurd (omega (arith, z, e)), λ z. absurd (split (z .0) a));
         outOfRange = (λ z. absurd (omega (arith, z, e)), λ z. absurd (split (z .0) a));
         noPlan = (λ z. absurd (omega (arith, z, e)), λ z. absurd (split (z .0) a));
+        none = (λ z. absurd (omega (arith, z, e)), λ z. absurd (split (z .0) a));
         others = inr (inl (sym e));
       }
   number true a false b c′ c o′ o =
@@ -97,6 +97,7 @@ module _ (p : StoredState) (k : ℕ) (page : List ℕ) where
         unusable = (λ z. (a, b), λ z. sym e);
         outOfRange = (λ z. absurd (omega (arith, z, e)), λ z. absurd (split (z .1) b));
         noPlan = (λ z. absurd (omega (arith, z, e)), λ z. absurd (split (z .1) b));
+        none = (λ z. absurd (omega (arith, z, e)), λ z. absurd (split (z .1) b));
         others = inr (inr (inl (sym e)));
       }
   number true a true b false c o′ o =
@@ -106,6 +107,7 @@ module _ (p : StoredState) (k : ℕ) (page : List ℕ) where
         unusable = (λ z. absurd (omega (arith, z, e)), λ z. absurd (split b (z .1)));
         outOfRange = (λ z. (a, b, c), λ z. sym e);
         noPlan = (λ z. absurd (omega (arith, z, e)), λ z. absurd (split (z .2) c));
+        none = (λ z. absurd (omega (arith, z, e)), λ z. absurd (split (z .2) c));
         others = inr (inr (inr (inl (sym e))));
       }
   number true a true b true c nothing o =
@@ -115,6 +117,7 @@ module _ (p : StoredState) (k : ℕ) (page : List ℕ) where
         unusable = (λ z. absurd (omega (arith, z, e)), λ z. absurd (split b (z .1)));
         outOfRange = (λ z. absurd (omega (arith, z, e)), λ z. absurd (split c (z .2)));
         noPlan = (λ z. (a, b, c, o), λ z. sym e);
+        none = (λ z. absurd (omega (arith, z, e)), λ z. absurd (split (ap isNothing o) (z .3)));
         others = inr (inr (inr (inr (sym e))));
       }
   number true a true b true c noSet o = drawn a b c (ap isNothing o)
@@ -123,22 +126,14 @@ module _ (p : StoredState) (k : ℕ) (page : List ℕ) where
   number-right : NumberRight p k page n
   number-right = number (isPage page) refl (keeps p) refl (isLoad (stateOf p .tables) k) refl (stateOf p .outcome) refl
 
-  -- 0 is given only for a page
-  sized : n ≡ 0 → length page ≡ pageBytes
-  sized z = go (isPage page) refl
-    where
-      go : (a : Bool) → isPage page ≡ a → length page ≡ pageBytes
-      go true e = eqb-true (length page) pageBytes e
-      go false e = absurd (omega (arith, z, number-right .notAPage .1 e))
-
   pub drawing-right : DrawingRight p k page (drawing p k page)
   unfolding drawing
   drawing-right = record {
     number = number-right;
     refused = λ h. old n h;
     drawn = λ z. new n z;
-    size = size n refl;
-    ascii = λ z. ap (every (λ b. ltb b 128)) (new n z) ∙ page-ascii (stateOf p) k;
+    size = λ z. ap length (new n z) ∙ page-length (stateOf p) k;
+    ascii = λ z. ap (every isAscii) (new n z) ∙ page-ascii (stateOf p) k;
   }
     where
       old : (m : ℕ) → 0 < m → accepted m (pageOf (stateOf p) k) page ≡ page
@@ -148,7 +143,3 @@ module _ (p : StoredState) (k : ℕ) (page : List ℕ) where
       new : (m : ℕ) → m ≡ 0 → accepted m (pageOf (stateOf p) k) page ≡ pageOf (stateOf p) k
       new zero z = refl
       new (suc m) z = absurd (omega arith)
-
-      size : (m : ℕ) → n ≡ m → length (accepted m (pageOf (stateOf p) k) page) ≡ length page
-      size zero e = page-length (stateOf p) k ∙ sym (sized e)
-      size (suc m) e = refl

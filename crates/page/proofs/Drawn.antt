@@ -1,25 +1,29 @@
--- What refuses a drawing, test by test. Assumes nothing.
-use Prim.Native.Nat.{ℕ, zero, suc, _+_, _*_, _≤_, _<_}
+-- A drawing: what refuses it, test by test, its page, and what it leaves. Assumes nothing.
+use Prim.Native.Nat.{ℕ, zero, suc, _+_, _*_, _≤_}
 use mathlib.Core.Path.{_≡_, refl, sym, _∙_}
-use mathlib.Core.Bool.{Bool, true, false, _||_}
-use borrow.Author.Tests.{eq-eqb, ne-eqb, ltb-true, ltb-false, le-leb, lt-leb}
-use lib.Dec.{leb, ltb}
-use Rattle.lists.proofs.Bools.{and-false, or-left, or-right}
-use Rattle.tables.specs.Refusals as no
-use Rattle.tables.specs.Limits.{between}
-use Rattle.tables.specs.declared.entry.Entry.{Entry}
+use mathlib.Core.Bool.{Bool, true, false, _&&_, _||_, not}
 use mathlib.Core.List.{List, [], _++_, append-nil}
 use native.Mathlib.Omega.{arith}
+use borrow.Author.Tests.{not-true, not-false, eq-eqb, ne-eqb, ltb-true, ltb-false, le-leb, lt-leb}
+use lib.Dec.{leb, ltb}
 use lib.ListN.{length, drop, replicate, drop-of-length-le}
 use lib.Seq.{sets-eq}
+use Rattle.lists.proofs.Bools.{and-left, and-right, and-false, or-left, or-right}
 use Rattle.lines.specs.Answers.{Wrote}
+use Rattle.tables.specs.Refusals as no
+use Rattle.tables.specs.Limits.{maxLoads, between}
+use Rattle.tables.specs.Stored.{keepsLimits, Holds}
+use Rattle.tables.specs.declared.entry.Entry.{Entry}
 use Rattle.meaning.specs.Sets.{worth, power}
 use Rattle.meaning.specs.Choice.{shownSet}
-use Rattle.runs.specs.Outcome.{noSet, planned, isNothing, ofKind}
+use Rattle.runs.specs.Outcome.{noSet, planned, isNothing, ofKind, heldRange, keepsOutcome}
 use Rattle.calls.specs.State.{State, StoredState, stateOf, keeps}
 use Rattle.calls.specs.Rows.{isLoad}
 use Rattle.calls.specs.Causes.{lowest}
 use Rattle.calls.proofs.Work.{clash}
+use Rattle.planner.specs.declared.Planner.{Planner}
+use Rattle.planner.specs.Planner.{held, stateIn, Lawful}
+use Rattle.planner.proofs.Commands.{tables-count}
 use Rattle.page.specs.Rows.{pageBytes, rowBytes, loadRowCount, blank, planRow, noPlanRow, loadRows}
 use Rattle.page.specs.Drawing.{pageOf, refusalOf, drawnOf, drawing}
 use Rattle.page.proofs.RowText.{rows-blank}
@@ -46,6 +50,22 @@ module _ (p : StoredState) (k n : ℕ) where
       pub unrefused : isLoad (stateOf p .tables) k ≡ true → isNothing (stateOf p .outcome) ≡ false → 0 ≡ refusalOf p k n
       unfolding refusalOf lowest
       unrefused l b = rw (eq-eqb n pageBytes e, h, l, b)
+
+-- the two tests of a planner, as the code makes them
+pub record Tested (p : Planner) : Type 0 where
+  pub kept : keeps (held p) ≡ true
+  pub lawful : Lawful p
+  pub count : p .tables .loads .count ≡ length (stateIn p .tables .loads)
+
+module _ (p : Planner) {a b : Bool} (t : a ≡ keepsLimits (p .tables)) (o : b ≡ keepsOutcome (heldRange (p .tables)) (p .outcome)) where
+  pub test-failed : not (a && b) ≡ true → keeps (held p) ≡ false
+  test-failed e = rw (← t, ← o) (not-true (a && b) e)
+
+  pub test-passed : (a ≡ true → Holds maxLoads (p .tables)) → (b ≡ true → Holds maxLoads (p .tables) → Lawful p) → not (a && b) ≡ false → Tested p
+  test-passed f g e =
+      let both = not-false (a && b) e in
+      let h = g (and-right a b both) (f (and-left a b both)) in
+      record { kept = rw (← t, ← o) both; lawful = h; count = tables-count (p .tables) (h .tables) }
 
 -- the kind of an outcome
 pub kind-nothing : (k : ℕ) (es : List Entry) → k ≡ 0 → isNothing (ofKind k es) ≡ true

@@ -1,26 +1,26 @@
--- What is read off a drawn page. Assumes nothing.
-use Prim.Native.Nat.{ℕ, zero, suc, _+_, _*_, _-_, _^_, _≤_, _<_}
+-- What is read off a drawn page, and that its bytes are ASCII. Assumes nothing.
+use Prim.Native.Nat.{ℕ, zero, suc, _+_, _*_, _-_, _≤_, _<_}
 use mathlib.Core.Path.{_≡_, refl, sym, ap, _∙_}
-use mathlib.Core.Bool.{Bool, true, false, _&&_}
+use mathlib.Core.Bool.{Bool, true, false}
 use mathlib.Core.List.{List, [], _∷_, _++_, append-assoc}
 use mathlib.Core.Logic.{_⊎_, inl, inr}
 use native.Mathlib.Omega.{arith}
 use borrow.Author.Tests.{lt-ltb}
-use lib.Dec.{ltb}
 use lib.ListN.{length, getD, take, drop, replicate, length-append, length-drop}
 use lib.Seq.{append-snoc, take-at, drop-at, drop-append-le, take-append-le, drop-append-add, take-all}
 use Rattle.lists.specs.Tests.{pick, every}
+use Rattle.lists.proofs.Tests.{every-append}
 use Rattle.lists.proofs.Bools.{and-true, and-left, and-right, below-or}
 use Rattle.lines.specs.Text.{bytes}
-use Rattle.lines.specs.Grammar.{isDigit, value}
+use Rattle.lines.specs.Grammar.{isDigit}
 use Rattle.lines.proofs.Decimal.{digit-range}
 use Rattle.tables.specs.declared.load.Load.{Load}
 use Rattle.tables.specs.Tables.{noLoad}
 use Rattle.tables.specs.Limits.{between}
-use Rattle.page.specs.Rows.{rowBytes, blank, digits, filled, blankRow, worthDigits, powerDigits, numberDigits, watts, planRow, noPlanRow, onOff, loadRow, rowOf, loadRows}
+use Rattle.page.specs.Rows.{rowBytes, isAscii, blank, digits, filled, blankRow, worthDigits, powerDigits, numberDigits, watts, planRow, noPlanRow, onOff, loadRow, rowOf, loadRows}
 use Rattle.page.specs.Stretch.{rowAt}
-use Rattle.page.proofs.Digits.{digits-length, digits-value, digits-digits}
-use Rattle.page.proofs.RowText.{watts-length, mark-length, worth-bytes, mark-bytes, plan-length, no-plan-length, blank-length, load-length, row-length, rows-more, rows-length}
+use Rattle.page.proofs.Digits.{digits-length, digits-digits}
+use Rattle.page.proofs.RowText.{mark-length, worth-bytes, mark-bytes, row-length, rows-length}
 
 -- ---- a row of a page
 -- the first, where so many bytes stand before the rest
@@ -78,16 +78,16 @@ module _ (v w : ℕ) where
   abbrev front : List ℕ
   front = bytes "worth " ++ digits worthDigits v
 
-  pub plan-worth : v < 10 ^ worthDigits → value (take worthDigits (drop 6 (planRow v w))) ≡ v
+  pub plan-worth : take worthDigits (drop 6 (planRow v w)) ≡ digits worthDigits v
   unfolding planRow filled
-  plan-worth h =
+  plan-worth =
       let r = rest (front ++ watts w) in
-      ap (λ (x : List ℕ). value (take worthDigits (drop 6 x))) (append-assoc front (watts w) r)
-      ∙ ap value (mid (bytes "worth ") (digits worthDigits v) (watts w ++ r) 6 worthDigits refl (digits-length worthDigits v)) ∙ digits-value worthDigits v h
+      ap (λ (x : List ℕ). take worthDigits (drop 6 x)) (append-assoc front (watts w) r)
+      ∙ mid (bytes "worth ") (digits worthDigits v) (watts w ++ r) 6 worthDigits refl (digits-length worthDigits v)
 
-  pub plan-power : w < 10 ^ powerDigits → value (take powerDigits (drop 12 (planRow v w))) ≡ w
+  pub plan-power : take powerDigits (drop 12 (planRow v w)) ≡ digits powerDigits w
   unfolding planRow filled
-  plan-power h = ap value (watts-digits front w (rest (front ++ watts w)) 11 (worth-bytes v)) ∙ digits-value powerDigits w h
+  plan-power = watts-digits front w (rest (front ++ watts w)) 11 (worth-bytes v)
 
 -- ---- the row of a load
 module _ (k m w : ℕ) where
@@ -101,10 +101,10 @@ module _ (k m w : ℕ) where
   unfolding loadRow filled
   parts = append-assoc head (watts w) (rest (head ++ watts w))
 
-  pub load-number : k < 10 ^ numberDigits → value (take numberDigits (drop 0 (loadRow k m w))) ≡ k
-  load-number h =
-      ap (λ (x : List ℕ). value (take numberDigits x)) (parts ∙ append-assoc (digits numberDigits k) (blank ∷ onOff m) tail)
-      ∙ ap value (take-at (digits numberDigits k) ((blank ∷ onOff m) ++ tail) numberDigits (digits-length numberDigits k)) ∙ digits-value numberDigits k h
+  pub load-number : take numberDigits (drop 0 (loadRow k m w)) ≡ digits numberDigits k
+  load-number =
+      ap (take numberDigits) (parts ∙ append-assoc (digits numberDigits k) (blank ∷ onOff m) tail)
+      ∙ take-at (digits numberDigits k) ((blank ∷ onOff m) ++ tail) numberDigits (digits-length numberDigits k)
 
   pub load-mark : take 3 (drop 4 (loadRow k m w)) ≡ onOff m
   load-mark =
@@ -113,67 +113,59 @@ module _ (k m w : ℕ) where
       ap (λ (x : List ℕ). take 3 (drop 4 x)) (parts ∙ ap (λ (x : List ℕ). x ++ tail) (sym (append-snoc (digits numberDigits k) blank (onOff m))))
       ∙ mid number (onOff m) tail 4 3 four (mark-length m)
 
-  pub load-power : w < 10 ^ powerDigits → value (take powerDigits (drop 8 (loadRow k m w))) ≡ w
+  pub load-power : take powerDigits (drop 8 (loadRow k m w)) ≡ digits powerDigits w
   unfolding loadRow filled
-  load-power h = ap value (watts-digits head w (rest (head ++ watts w)) 7 (mark-bytes k m)) ∙ digits-value powerDigits w h
+  load-power = watts-digits head w (rest (head ++ watts w)) 7 (mark-bytes k m)
 
 -- ---- ASCII
-abbrev ascii : ℕ → Bool
-ascii b = ltb b 128
-
-pub every-both : (xs ys : List ℕ) → every ascii xs ≡ true → every ascii ys ≡ true → every ascii (xs ++ ys) ≡ true
-unfolding every
-every-both [] ys e f = f
-every-both (x ∷ xs) ys e f = and-true (ascii x) (every ascii (xs ++ ys)) (and-left (ascii x) (every ascii xs) e) (every-both xs ys (and-right (ascii x) (every ascii xs) e) f)
-
-every-digit : (xs : List ℕ) → every isDigit xs ≡ true → every ascii xs ≡ true
+every-digit : (xs : List ℕ) → every isDigit xs ≡ true → every isAscii xs ≡ true
 unfolding every
 every-digit [] e = refl
 every-digit (x ∷ xs) e =
     let d = digit-range x (and-left (isDigit x) (every isDigit xs) e) in
-    and-true (ascii x) (every ascii xs) (lt-ltb x 128 (omega (arith, d .1))) (every-digit xs (and-right (isDigit x) (every isDigit xs) e))
+    and-true (isAscii x) (every isAscii xs) (lt-ltb x 128 (omega (arith, d .1))) (every-digit xs (and-right (isDigit x) (every isDigit xs) e))
 
-every-blank : (n : ℕ) → every ascii (replicate n blank) ≡ true
+every-blank : (n : ℕ) → every isAscii (replicate n blank) ≡ true
 unfolding every
 every-blank zero = refl
 every-blank (suc n) = every-blank n
 
-filled-ascii : (s : List ℕ) → every ascii s ≡ true → every ascii (filled s) ≡ true
+filled-ascii : (s : List ℕ) → every isAscii s ≡ true → every isAscii (filled s) ≡ true
 unfolding filled
-filled-ascii s e = every-both s (rest s) e (every-blank (rowBytes - length s))
+filled-ascii s e = every-append isAscii s (rest s) e (every-blank (rowBytes - length s))
 
-digits-ascii : (k n : ℕ) → every ascii (digits k n) ≡ true
+digits-ascii : (k n : ℕ) → every isAscii (digits k n) ≡ true
 digits-ascii k n = every-digit (digits k n) (digits-digits k n)
 
-watts-ascii : (w : ℕ) → every ascii (watts w) ≡ true
+watts-ascii : (w : ℕ) → every isAscii (watts w) ≡ true
 unfolding watts every
-watts-ascii w = every-both (digits powerDigits w) (bytes "W") (digits-ascii powerDigits w) refl
+watts-ascii w = every-append isAscii (digits powerDigits w) (bytes "W") (digits-ascii powerDigits w) refl
 
-mark-ascii : (m : ℕ) → every ascii (blank ∷ onOff m) ≡ true
+mark-ascii : (m : ℕ) → every isAscii (blank ∷ onOff m) ≡ true
 unfolding every
 mark-ascii zero = refl
 mark-ascii (suc m) = refl
 
-pub plan-ascii : (v w : ℕ) → every ascii (planRow v w) ≡ true
+pub plan-ascii : (v w : ℕ) → every isAscii (planRow v w) ≡ true
 unfolding planRow every
-plan-ascii v w = filled-ascii (front v w ++ watts w) (every-both (front v w) (watts w) (every-both (bytes "worth ") (digits worthDigits v) refl (digits-ascii worthDigits v)) (watts-ascii w))
+plan-ascii v w = filled-ascii (front v w ++ watts w) (every-append isAscii (front v w) (watts w) (every-append isAscii (bytes "worth ") (digits worthDigits v) refl (digits-ascii worthDigits v)) (watts-ascii w))
 
-pub no-plan-ascii : every ascii noPlanRow ≡ true
+pub no-plan-ascii : every isAscii noPlanRow ≡ true
 unfolding noPlanRow every
 no-plan-ascii = filled-ascii (bytes "no plan") refl
 
-row-ascii : (ls : List Load) (σ : ℕ → ℕ) (k : ℕ) → every ascii (rowOf ls σ k) ≡ true
+row-ascii : (ls : List Load) (σ : ℕ → ℕ) (k : ℕ) → every isAscii (rowOf ls σ k) ≡ true
 unfolding rowOf loadRow every
 row-ascii ls σ k = go (between 1 (length ls) k)
   where
     w : ℕ
     w = getD ls (k - 1) noLoad .power
 
-    go : (b : Bool) → every ascii (pick b (loadRow k (σ k) w) blankRow) ≡ true
-    go true = filled-ascii (head k (σ k) w ++ watts w) (every-both (head k (σ k) w) (watts w) (every-both (digits numberDigits k) (blank ∷ onOff (σ k)) (digits-ascii numberDigits k) (mark-ascii (σ k))) (watts-ascii w))
+    go : (b : Bool) → every isAscii (pick b (loadRow k (σ k) w) blankRow) ≡ true
+    go true = filled-ascii (head k (σ k) w ++ watts w) (every-append isAscii (head k (σ k) w) (watts w) (every-append isAscii (digits numberDigits k) (blank ∷ onOff (σ k)) (digits-ascii numberDigits k) (mark-ascii (σ k))) (watts-ascii w))
     go false = filled-ascii [] refl
 
-pub rows-ascii : (ls : List Load) (σ : ℕ → ℕ) (k n : ℕ) → every ascii (loadRows ls σ k n) ≡ true
+pub rows-ascii : (ls : List Load) (σ : ℕ → ℕ) (k n : ℕ) → every isAscii (loadRows ls σ k n) ≡ true
 unfolding loadRows every
 rows-ascii ls σ k zero = refl
-rows-ascii ls σ k (suc n) = every-both (loadRows ls σ k n) (rowOf ls σ (k + n)) (rows-ascii ls σ k n) (row-ascii ls σ (k + n))
+rows-ascii ls σ k (suc n) = every-append isAscii (loadRows ls σ k n) (rowOf ls σ (k + n)) (rows-ascii ls σ k n) (row-ascii ls σ (k + n))

@@ -2,7 +2,7 @@
 use Prim.Native.Nat.{ℕ, zero, suc, _+_, _*_, _-_, _≤_, _<_}
 use mathlib.Core.Path.{_≡_, refl, sym, ap, _∙_}
 use mathlib.Core.Bool.{Bool, true, false}
-use mathlib.Core.List.{List, [], _∷_, _++_, append-assoc}
+use mathlib.Core.List.{List, [], _∷_, _++_}
 use native.Mathlib.Numerals.{add-one}
 use native.Mathlib.Omega.{arith}
 use borrow.Author.Tests.{le-leb, lt-leb}
@@ -28,7 +28,7 @@ pub mark-length : (m : ℕ) → length (onOff m) ≡ 3
 mark-length zero = refl
 mark-length (suc m) = refl
 
-pub filled-length : (s : List ℕ) → length s ≤ rowBytes → length (filled s) ≡ rowBytes
+filled-length : (s : List ℕ) → length s ≤ rowBytes → length (filled s) ≡ rowBytes
 unfolding filled
 filled-length s h = omega (arith, length-append s (replicate (rowBytes - length s) blank), length-replicate {A = ℕ} (rowBytes - length s) blank)
 
@@ -38,11 +38,11 @@ worth-bytes v = omega (arith, length-append (bytes "worth ") (digits worthDigits
 pub mark-bytes : (k m : ℕ) → length (digits numberDigits k ++ (blank ∷ onOff m)) ≡ 7
 mark-bytes k m = omega (arith, length-append (digits numberDigits k) (blank ∷ onOff m), digits-length numberDigits k, mark-length m)
 
-plan-bytes : (v w : ℕ) → length (bytes "worth " ++ digits worthDigits v ++ watts w) ≡ 16
+pub plan-bytes : (v w : ℕ) → length (bytes "worth " ++ digits worthDigits v ++ watts w) ≡ 16
 plan-bytes v w =
     omega (arith, length-append (bytes "worth " ++ digits worthDigits v) (watts w), worth-bytes v, watts-length w)
 
-load-bytes : (k m w : ℕ) → length (digits numberDigits k ++ (blank ∷ onOff m) ++ watts w) ≡ 12
+pub load-bytes : (k m w : ℕ) → length (digits numberDigits k ++ (blank ∷ onOff m) ++ watts w) ≡ 12
 load-bytes k m w =
     omega (arith, length-append (digits numberDigits k ++ (blank ∷ onOff m)) (watts w), mark-bytes k m, watts-length w)
 
@@ -54,10 +54,10 @@ pub no-plan-length : length noPlanRow ≡ rowBytes
 unfolding noPlanRow
 no-plan-length = filled-length (bytes "no plan") (omega arith)
 
-pub blank-length : length blankRow ≡ rowBytes
+blank-length : length blankRow ≡ rowBytes
 blank-length = filled-length [] (omega arith)
 
-pub load-length : (k m w : ℕ) → length (loadRow k m w) ≡ rowBytes
+load-length : (k m w : ℕ) → length (loadRow k m w) ≡ rowBytes
 unfolding loadRow
 load-length k m w = filled-length (digits numberDigits k ++ (blank ∷ onOff m) ++ watts w) (omega (arith, load-bytes k m w))
 
@@ -116,15 +116,3 @@ unfolding filled
 wrote-filled {l} {m} {k} {at} {i} {j} {s} h w v =
     let e : at + rowBytes - i ≡ rowBytes - length s = omega (arith, w .end) in
     wrote-then w (rw e at v)
-
--- a text, and blanks up to a place
-pub wrote-to : {l m k : List ℕ} {at i j : ℕ} {s : List ℕ} (end : ℕ) → Wrote l m at i s → Wrote m k i j (replicate (end - i) blank) → Wrote l k at j (s ++ replicate (end - (at + length s)) blank)
-wrote-to {l} {m} {k} {at} {i} {j} {s} end w v = let e : end - i ≡ end - (at + length s) = ap (λ (n : ℕ). end - n) (w .end) in wrote-then w (rw e at v)
-
--- a text, and the power that ends a row
-pub wrote-watts : {l m k : List ℕ} {at i j : ℕ} {s : List ℕ} (w : ℕ) → length s + 5 ≤ rowBytes → Wrote l m at i s
-    → Wrote m k i j (watts w ++ replicate (at + rowBytes - (i + length (watts w))) blank) → Wrote l k at j (filled (s ++ watts w))
-unfolding filled
-wrote-watts {l} {m} {k} {at} {i} {j} {s} w h a b =
-    let e : at + rowBytes - (i + length (watts w)) ≡ rowBytes - length (s ++ watts w) = omega (arith, a .end, length-append s (watts w), watts-length w) in
-    rw (append-assoc s (watts w) (replicate (rowBytes - length (s ++ watts w)) blank)) (wrote-then a (rw e at b))

@@ -1,23 +1,23 @@
 -- The first and the last of some rows that pass a test. Assumes nothing.
 use Prim.Native.Nat.{ℕ, zero, suc, _+_, _-_, _≤_, _<_, zero-le}
-use mathlib.Core.Path.{_≡_, refl, sym, ap, _∙_}
-use mathlib.Core.Bool.{Bool, true, false, _&&_, _||_, not}
+use mathlib.Core.Path.{_≡_, refl, ap, _∙_}
+use mathlib.Core.Bool.{Bool, true, false}
 use native.Mathlib.Numerals.{add-one}
 use native.Mathlib.Omega.{arith}
-use borrow.Author.Tests.{eq-eqb, ne-eqb, eqb-true, eqb-false}
+use borrow.Author.Tests.{ne-eqb, eqb-true, eqb-false}
 use lib.Dec.{eqb}
 use Rattle.lists.specs.Tests.{pick}
 use Rattle.page.specs.declared.stretch.Rows.{Rows}
 use Rattle.page.specs.Stretch.{firstOf, endOf, passing}
 
 -- ---- the first
-pub first-is : (p : ℕ → Bool) (n k : ℕ) → k < n → p k ≡ true → ((i : ℕ) → i < k → p i ≡ false) → firstOf p n ≡ k
+first-is : (p : ℕ → Bool) (n k : ℕ) → k < n → p k ≡ true → ((i : ℕ) → i < k → p i ≡ false) → firstOf p n ≡ k
 unfolding firstOf
 first-is p zero k h e f = absurd (omega arith)
 first-is p (suc n) zero h e f = rw e
 first-is p (suc n) (suc k) h e f = rw (f 0 (omega arith)) (ap suc (first-is (λ i. p (suc i)) n k (omega arith) e (λ i l. f (suc i) (omega arith))))
 
-pub first-below : (p : ℕ → Bool) (n j : ℕ) → j < n → p j ≡ true → firstOf p n ≤ j
+first-below : (p : ℕ → Bool) (n j : ℕ) → j < n → p j ≡ true → firstOf p n ≤ j
 unfolding firstOf
 first-below p zero j h e = absurd (omega arith)
 first-below p (suc n) zero h e = rw e zero-le
@@ -121,14 +121,3 @@ passing-fits p n = (go (endOf p n) refl, end-most p n)
     go : (m : ℕ) → endOf p n ≡ m → pick (eqb m 0) 0 (firstOf p n) ≤ m
     go zero z = zero-le
     go (suc m) z = rw (ne-eqb (suc m) 0 (λ q. absurd (omega arith))) (omega (arith, z, first-end p n (omega (arith, z))))
-
--- ---- tests as the code makes them
-pub pages-bad : (a b : Bool) → not a || not b ≡ true → a && b ≡ false
-pages-bad true true e = absurd (let z : _≡_ {A = ℕ} 0 1 = cc in omega arith)
-pages-bad true false e = refl
-pages-bad false b e = refl
-
-pub pages-good : (a b : Bool) → not a || not b ≡ false → (a ≡ true) × (b ≡ true)
-pages-good true true e = (refl, refl)
-pages-good true false e = absurd (let z : _≡_ {A = ℕ} 0 1 = cc in omega arith)
-pages-good false b e = absurd (let z : _≡_ {A = ℕ} 0 1 = cc in omega arith)

@@ -2,7 +2,7 @@
 use Prim.Native.Nat.{ℕ, zero, suc, _+_, _*_, _-_, _≤_, _<_, zero-le}
 use mathlib.Core.Path.{_≡_, refl, sym, ap, _∙_}
 use mathlib.Core.Bool.{Bool, true, false, _&&_}
-use mathlib.Core.List.{List, [], _∷_, _++_, append-assoc}
+use mathlib.Core.List.{List, [], _++_, append-assoc}
 use mathlib.Core.Logic.{_⊎_, inl, inr, _↔_}
 use native.Mathlib.Omega.{arith}
 use borrow.Author.Tests.{eq-eqb, ne-eqb, eqb-true}
@@ -17,7 +17,7 @@ use Rattle.page.specs.Rows.{rowCount, rowBytes, pageBytes}
 use Rattle.page.specs.Stretch.{rowAt, differs, firstOf, endOf, passing, noRows, isPage, differing, place, stretch, beginning}
 use Rattle.page.specs.Claims.{StretchRight}
 use Rattle.page.proofs.Rowwise.{end-most, after-end, before-first, first-end, end-none, first-passes, end-passes}
-use Rattle.page.proofs.Differing.{alike, unlike, same-front, same-back, rows-fit, place-fits}
+use Rattle.page.proofs.Differing.{alike, not-differing, same-front, same-back, rows-fit, place-fits}
 use Rattle.page.proofs.Pages.{row-inside}
 
 -- ---- a part of a page put on another that is the same before and behind it
@@ -48,12 +48,12 @@ module _ (g rows : List ℕ) (i n : ℕ) (size : length rows ≡ n * rowBytes) (
   put-is : sets g (i * rowBytes) rows ≡ p ++ rows ++ z
   put-is = sets-eq rows g (i * rowBytes) (omega (arith, size))
 
-  pub row-before : (r : ℕ) → r < i → rowAt g r ≡ rowAt (sets g (i * rowBytes) rows) r
+  row-before : (r : ℕ) → r < i → rowAt g r ≡ rowAt (sets g (i * rowBytes) rows) r
   row-before r h =
       ap (λ (x : List ℕ). rowAt x r) (sym (take-append-drop (i * rowBytes) g)) ∙ row-inside p (drop (i * rowBytes) g) r (omega (arith, before))
       ∙ sym (row-inside p (rows ++ z) r (omega (arith, before))) ∙ ap (λ (x : List ℕ). rowAt x r) (sym (append-assoc p rows z) ∙ sym put-is)
 
-  pub row-after : (r : ℕ) → i + n ≤ r → rowAt g r ≡ rowAt (sets g (i * rowBytes) rows) r
+  row-after : (r : ℕ) → i + n ≤ r → rowAt g r ≡ rowAt (sets g (i * rowBytes) rows) r
   row-after r h =
       let all = i * rowBytes + length rows in
       let head : length (take all g) ≡ (i + n) * rowBytes = length-take-le all g (omega (arith, size)) ∙ omega (arith, size) in
@@ -68,12 +68,12 @@ module _ (g d : List ℕ) where
 
   stretch-length : length (stretch g d) ≡ place g d .count
   unfolding stretch
-  stretch-length = length-take-le (place g d .count) (drop (place g d .start) d) (omega (arith, length-drop (place g d .start) d, place-fits g d))
+  stretch-length = length-take-le (place g d .count) (drop (place g d .start) d) (omega (arith, length-drop (place g d .start) d, place-fits g d refl))
 
   -- it is empty exactly where no row is named
   end-empty : differing g d .end ≡ 0 → length (stretch g d) ≡ 0
   unfolding place
-  end-empty e = stretch-length ∙ omega (arith, e, rows-fit g d .0)
+  end-empty e = stretch-length ∙ omega (arith, e, rows-fit g d refl .0)
 
   not-pages : (isPage g ≡ false) ⊎ (isPage d ≡ false) → differing g d ≡ noRows
   unfolding differing
@@ -117,9 +117,9 @@ module _ (g d : List ℕ) where
       unfolding stretch place
       stretch-is = rw rows-are
 
-      begins : beginning g d - 1 ≡ f
-      unfolding beginning
-      begins = let s : suc f - 1 ≡ f = omega arith in rw (rows-are, ne-eqb e 0 (λ z. absurd (omega (arith, h, z)))) s
+      starts : place g d .start ≡ f * rowBytes
+      unfolding place
+      starts = rw rows-are
 
       puts-rows : sets g (f * rowBytes) (take ((e - f) * rowBytes) (drop (f * rowBytes) d)) ≡ d
       puts-rows =
@@ -138,28 +138,28 @@ module _ (g d : List ℕ) where
         not-before = go (below-or f i)
           where
             go : (f < i) ⊎ (i ≤ f) → i ≤ f
-            go (inl l) = absurd (clash (sym (first-passes test rowCount (omega (arith, later, end-most test rowCount))) ∙ unlike g d f (row-before g rows i n size fits f l ∙ ap (λ (x : List ℕ). rowAt x f) same)))
+            go (inl l) = absurd (clash (sym (first-passes test rowCount (omega (arith, later, end-most test rowCount))) ∙ not-differing g d f (row-before g rows i n size fits f l ∙ ap (λ (x : List ℕ). rowAt x f) same)))
             go (inr l) = l
 
         not-after : e ≤ i + n
         not-after = go (below-or (i + n) e)
           where
             go : (i + n < e) ⊎ (e ≤ i + n) → e ≤ i + n
-            go (inl l) = absurd (clash (sym (end-passes test rowCount h) ∙ unlike g d (e - 1) (row-after g rows i n size fits (e - 1) (omega (arith, l)) ∙ ap (λ (x : List ℕ). rowAt x (e - 1)) same)))
+            go (inl l) = absurd (clash (sym (end-passes test rowCount h) ∙ not-differing g d (e - 1) (row-after g rows i n size fits (e - 1) (omega (arith, l)) ∙ ap (λ (x : List ℕ). rowAt x (e - 1)) same)))
             go (inr l) = l
 
         covers : length (stretch g d) ≤ length rows
         unfolding place
         covers = omega (arith, stretch-length ∙ ap (λ (r : Rows). (r .end - r .first) * rowBytes) rows-are, not-before, not-after, size)
 
-    pub puts : sets g ((beginning g d - 1) * rowBytes) (stretch g d) ≡ d
+    puts : sets g (place g d .start) (stretch g d) ≡ d
     puts = go (endOf test rowCount) refl
       where
-        go : (m : ℕ) → endOf test rowCount ≡ m → sets g ((beginning g d - 1) * rowBytes) (stretch g d) ≡ d
+        go : (m : ℕ) → endOf test rowCount ≡ m → sets g (place g d .start) (stretch g d) ≡ d
         go zero q = rw (nothing-to-put q) (equal q)
-        go (suc m) q = let h : 0 < endOf test rowCount = omega (arith, q) in rw (begins h, stretch-is h) (puts-rows h)
+        go (suc m) q = let h : 0 < endOf test rowCount = omega (arith, q) in rw (starts h, stretch-is h) (puts-rows h)
 
-    pub shortest : (i n : ℕ) (rows : List ℕ) → length rows ≡ n * rowBytes → i + n ≤ rowCount → sets g (i * rowBytes) rows ≡ d → length (stretch g d) ≤ length rows
+    shortest : (i n : ℕ) (rows : List ℕ) → length rows ≡ n * rowBytes → i + n ≤ rowCount → sets g (i * rowBytes) rows ≡ d → length (stretch g d) ≤ length rows
     shortest i n rows size inside same = go (endOf test rowCount) refl
       where
         go : (m : ℕ) → endOf test rowCount ≡ m → length (stretch g d) ≤ length rows
@@ -167,7 +167,7 @@ module _ (g d : List ℕ) where
         go (suc m) q = covers (omega (arith, q)) i n rows size inside same
 
   -- empty exactly where no row is named
-  pub none-named : (beginning g d ≡ 0) ↔ (length (stretch g d) ≡ 0)
+  none-named : (beginning g d ≡ 0) ↔ (length (stretch g d) ≡ 0)
   unfolding beginning differing place
   none-named = go (isPage g) refl (isPage d) refl
     where
@@ -178,7 +178,6 @@ module _ (g d : List ℕ) where
       named zero a b q = (λ z. end-empty (ap (λ (r : Rows). r .end) (pages a b) ∙ q), λ z. rw (pages a b, q))
       named (suc m) a b q =
           let h : 0 < endOf test rowCount = omega (arith, q) in
-          let row = begins a b h in
           let some : place g d .count ≡ (e a b h - f a b h) * rowBytes = ap (λ (r : Rows). (r .end - r .first) * rowBytes) (rows-are a b h) in
           (λ z. absurd (omega (arith, z, rw (rows-are a b h, ne-eqb (e a b h) 0 (λ y. absurd (omega (arith, h, y)))) at z)), λ z. absurd (omega (arith, z, stretch-length, some, later a b h)))
 
@@ -187,18 +186,28 @@ module _ (g d : List ℕ) where
       go true p false q = bad (not-pages (inr q))
       go false p b q = bad (not-pages (inl p))
 
-  pub equal-pages : g ≡ d → length (stretch g d) ≡ 0
+  row-of-place : place g d .start ≡ (beginning g d - 1) * rowBytes
+  unfolding place beginning
+  row-of-place = go (differing g d .end) refl
+    where
+      go : (m : ℕ) → differing g d .end ≡ m → differing g d .first * rowBytes ≡ (pick (eqb (differing g d .end) 0) 0 (suc (differing g d .first)) - 1) * rowBytes
+      go zero e = rw (eq-eqb (differing g d .end) 0 e) (omega (arith, e, rows-fit g d refl .0))
+      go (suc m) e = rw (ne-eqb (differing g d .end) 0 (λ z. absurd (omega (arith, e, z)))) (omega arith)
+
+  equal-pages : g ≡ d → length (stretch g d) ≡ 0
   unfolding differing
   equal-pages e = end-empty (go (isPage g && isPage d))
     where
       go : (b : Bool) → pick b (passing test rowCount) noRows .end ≡ 0
-      go true = end-none test rowCount (λ i l. unlike g d i (ap (λ (x : List ℕ). rowAt x i) e))
+      go true = end-none test rowCount (λ i l. not-differing g d i (ap (λ (x : List ℕ). rowAt x i) e))
       go false = refl
 
   pub stretch-right : StretchRight g d
   stretch-right = record {
     puts = puts;
     shortest = λ i n rows a b. shortest a b i n rows;
+    row = row-of-place;
+    count = stretch-length;
     same = equal-pages;
     noPage = λ o. end-empty (ap (λ (r : Rows). r .end) (not-pages o));
     none = none-named;

@@ -40,7 +40,8 @@ unfoldable pub pageOf : State → (load : ℕ) → List ℕ
 pageOf s k = firstRow (s .tables) (s .outcome) ++ loadRows (loadsShown (s .tables) (s .outcome)) (shownSet (entriesOf (s .outcome))) k loadRowCount
 
 -- ---- a drawing
--- what refuses it, in the order of the tests: "13 .. tested first", a planner that breaks a limit, 5 and 12
+-- what refuses it, in the order of the tests: "13 .. tested first", a planner that breaks a limit, 5 and 12. (The number is that of the first
+-- that applies: `lowest` of `calls`, whose causes stand in the order of their numbers, takes the first.)
 abbrev pub causes : StoredState → (load bytes : ℕ) → List Cause
 causes p k n =
     (no.notAPage if not (eqb n pageBytes))

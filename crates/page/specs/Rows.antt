@@ -1,7 +1,9 @@
 -- The rows of a page, byte for byte.
 -- They stand for "A page is 8 rows of 20 ASCII bytes" of request Six of paper 02 and the sentences after it. Assumes nothing.
 use Prim.Native.Nat.{ℕ, zero, suc, _+_, _*_, _-_, _/_, _%_}
+use mathlib.Core.Bool.{Bool}
 use mathlib.Core.List.{List, [], _∷_, _++_}
+use lib.Dec.{ltb}
 use lib.ListN.{length, getD, replicate}
 use Rattle.lists.specs.Tests.{pick}
 use Rattle.lines.specs.Text.{bytes, nought}
@@ -22,6 +24,9 @@ pageBytes = rowCount * rowBytes
 -- "Rows two to eight show loads"
 abbrev pub loadRowCount : ℕ
 loadRowCount = rowCount - 1
+
+abbrev pub isAscii : ℕ → Bool
+isAscii b = ltb b 128
 
 abbrev pub blank : ℕ
 blank = 32

@@ -15,7 +15,6 @@ use tables::refusal::UNUSABLE;
 ghost use mathlib.Core.Path.{_≡_};
 ghost use lib.ListN.{length};
 ghost use Rattle.planner.specs.Planner.{held, stateIn};
-ghost use Rattle.page.specs.Rows.{pageBytes};
 ghost use Rattle.page.specs.Drawing.{pageOf, refusalOf, drawnOf, drawing, Drawable};
 
 // What refuses a drawing, the page first; 0 where nothing does.
@@ -26,7 +25,7 @@ fn refusal(planner: Planner, load: usize, bytes: usize) -> u8
     if bytes != PAGE_BYTES {
         return NOT_A_PAGE;
     }
-    if !planner.keeps_limits() {
+    if !(planner.tables.keeps_limits() & planner.keeps_outcome()) {
         return UNUSABLE;
     }
     if (load < 1) | (planner.tables.loads.count < load) {

@@ -9,7 +9,6 @@ use marks::LoadSet;
 use tables::load::LoadList;
 ghost use mathlib.Core.Path.{_≡_};
 ghost use Prim.Native.Nat.{_+_, _*_, _-_, _%_, _≤_, _<_};
-ghost use mathlib.Core.List.{_++_};
 ghost use lib.ListN.{length, replicate};
 ghost use Rattle.lists.specs.Argmax.{guard};
 ghost use Rattle.marks.specs.Sets.{markIn};
@@ -62,15 +61,14 @@ pub(crate) fn put_blanks(page: &mut [u8], at: usize, end: usize) -> usize
     next
 }
 
-// A power, and blanks up to the end of the row.
-fn put_watts(page: &mut [u8], at: usize, power: u32, end: usize) -> usize
-    requires { ⌜ (at + length (watts power) ≤ end) × (end ≤ length (now page)) ⌝ }
-    ensures { λ r. ⌜ Wrote (now (page .entry)) (now (page .exit)) at r (watts power ++ replicate (end - (at + length (watts power))) blank) ⌝ }
+// A power, with the blank before it.
+fn put_watts(page: &mut [u8], at: usize, power: u32) -> usize
+    requires { ⌜ at + length (watts power) ≤ length (now page) ⌝ }
+    ensures { λ r. ⌜ Wrote (now (page .entry)) (now (page .exit)) at r (watts power) ⌝ }
 {
     let a = put(&mut *page, at, BLANK);
     let b = put_digits(&mut *page, a, POWER_DIGITS, power);
-    let c = put_text(&mut *page, b, b"W");
-    put_blanks(&mut *page, c, end)
+    put_text(&mut *page, b, b"W")
 }
 
 // Row one of a plan.
@@ -80,7 +78,8 @@ pub(crate) fn put_plan(page: &mut [u8], at: usize, worth: u32, power: u32) -> us
 {
     let a = put_text(&mut *page, at, b"worth ");
     let b = put_digits(&mut *page, a, WORTH_DIGITS, worth);
-    put_watts(&mut *page, b, power, at + ROW_BYTES)
+    let c = put_watts(&mut *page, b, power);
+    put_blanks(&mut *page, c, at + ROW_BYTES)
 }
 
 // Row one after refusal 9.
@@ -92,7 +91,7 @@ pub(crate) fn put_no_plan(page: &mut [u8], at: usize) -> usize
     put_blanks(&mut *page, a, at + ROW_BYTES)
 }
 
-// Is a load on?
+// The mark of a load, in a word.
 fn put_mark(page: &mut [u8], at: usize, on: bool) -> usize
     requires { ⌜ at + 3 ≤ length (now page) ⌝ }
     ensures { λ r. ⌜ Wrote (now (page .entry)) (now (page .exit)) at r (onOff (guard on 1)) ⌝ }
@@ -111,10 +110,11 @@ fn put_load(page: &mut [u8], at: usize, number: usize, on: bool, power: u16) -> 
     let a = put_digits(&mut *page, at, NUMBER_DIGITS, number as u32);
     let b = put(&mut *page, a, BLANK);
     let c = put_mark(&mut *page, b, on);
-    put_watts(&mut *page, c, power as u32, at + ROW_BYTES)
+    let d = put_watts(&mut *page, c, power as u32);
+    put_blanks(&mut *page, d, at + ROW_BYTES)
 }
 
-// The row of this number: blank where there is no such load.
+// The row of this number: blank where there is no such load. (In the archive it is one with its caller, and no list is copied for a row.)
 fn put_row(page: &mut [u8], at: usize, loads: LoadList, set: LoadSet, number: usize) -> usize
     requires { ⌜ (at + rowBytes ≤ length (now page)) × (1 ≤ number) × (loads .count ≤ maxLoads) ⌝ }
     ensures { λ r. ⌜ Wrote (now (page .entry)) (now (page .exit)) at r (rowOf (loadsOf loads) (markIn set) number) ⌝ }

@@ -15,7 +15,7 @@ struct Rows {
     end: usize,
 }
 
-// A part of a page: the place of its first byte, and how many bytes it has.
+// A part of a page: the place of its first byte, and how many bytes it has. C gets it so.
 #[repr(C)]
 pub struct Part {
     pub start: usize,
@@ -35,7 +35,7 @@ fn same_row(glass: &[u8], drawn: &[u8], row: usize) -> bool
     same
 }
 
-// The rows from the first in which they differ to the last.
+// The rows from the first in which they differ to the last; none where either is no page.
 fn differing(glass: &[u8], drawn: &[u8]) -> Rows
     ensures { λ r. ⌜ r ≡ differing (now (glass .entry)) (now (drawn .entry)) ⌝ }
 {

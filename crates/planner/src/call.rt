@@ -75,7 +75,7 @@ impl Planner {
     }
 
     // Does a planner that is handed in keep the limits?
-    pub fn keeps_limits(self) -> bool
+    fn keeps_limits(self) -> bool
         ensures test { λ r. ⌜ r ≡ keeps (held self) ⌝ }
         ensures kept { λ r. ⌜ (r ≡ true → Lawful self) ⌝ }
     {

@@ -4,8 +4,11 @@ use runs::outcome::RunRange;
 use runs::outcome::StoredOutcome;
 use tables::tables::StoredTables;
 ghost use mathlib.Core.Path.{_≡_};
+ghost use mathlib.Core.Bool.{true};
+ghost use Rattle.tables.specs.Limits.{maxLoads};
+ghost use Rattle.tables.specs.Stored.{Holds};
 ghost use Rattle.runs.specs.Outcome.{heldRange, keepsOutcome};
-ghost use Rattle.planner.specs.Planner.{held, fresh};
+ghost use Rattle.planner.specs.Planner.{held, fresh, Lawful};
 ghost use Rattle.planner.specs.Verdict.{judgedBy};
 
 mod answers;
@@ -31,9 +34,10 @@ impl Planner {
         }
     }
 
-    // Are the figures of the outcome in range for the tables?
-    pub(crate) fn keeps_outcome(self) -> bool
-        ensures { λ r. ⌜ r ≡ keepsOutcome (heldRange (self .tables)) (self .outcome) ⌝ }
+    // Are the figures of the outcome in range for the tables? Where the tables keep their limits too, the planner does.
+    pub fn keeps_outcome(self) -> bool
+        ensures test { λ r. ⌜ r ≡ keepsOutcome (heldRange (self .tables)) (self .outcome) ⌝ }
+        ensures kept { λ r. ⌜ (r ≡ true → Holds maxLoads (self .tables) → Lawful self) ⌝ }
     {
         self.outcome.keeps_limits(RunRange::of(self.tables))
     }

@@ -1,5 +1,5 @@
 // The handheld: a page is drawn, and what the glass does not show yet goes to the glass. Its report: the step, the number of the drawing, how
-// many of the bytes lent still hold what they held before, the stretch, and, where a page was drawn, the rows that the glass shows then.
+// many of its 200 bytes still hold what they held before, the stretch, and, where a page was drawn, the rows that the glass shows then.
 use crate::call::RUBBISH_BYTE;
 use crate::call::bytes_kept;
 use crate::call::least;
@@ -63,7 +63,7 @@ fn print_drawing(line: &[u8], number: u8, kept: usize, row: usize, count: usize)
     print(b" bytes\n");
 }
 
-// The drawing itself, apart from what lends to it: its contract is long.
+// The drawing itself, apart from what lends to it: its promise is long, and the proof of a function has those of all that it calls.
 fn drawn(p: Planner, load: usize, bytes: &mut [u8]) -> u8 {
     draw(p, load, bytes)
 }
@@ -80,7 +80,7 @@ fn shown(glass: Glass, number: u8, bytes: &[u8]) -> Glass {
     next
 }
 
-// The same, drawn on the first of these bytes.
+// The glass after a step: the page is drawn on as many of these bytes as the line says.
 fn drawn_on(p: Planner, glass: Glass, line: &[u8], bytes: &mut [u8]) -> Glass {
     let found = numbers(line);
     let n = found.items;

@@ -3,7 +3,7 @@ use Prim.Native.Nat.{ℕ, _-_, _*_}
 use mathlib.Core.Path.{_≡_, ap, _∙_}
 use native.Mathlib.Omega.{arith}
 use borrow.Author.Needs.{needs}
-use lib.ListN.{length, replicate, length-append, length-replicate}
+use lib.ListN.{replicate, length-append, length-replicate}
 use Rattle.lines.proofs.Wrote.{wrote-length, wrote-then}
 use Rattle.marks.specs.Sets.{markIn}
 use Rattle.tables.specs.Stored.{tablesOf, loadsOf}

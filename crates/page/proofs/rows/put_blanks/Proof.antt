@@ -2,8 +2,7 @@
 use Prim.Native.Nat.{_-_, _≤_}
 use mathlib.Core.Path.{_≡_}
 use native.Mathlib.Omega.{arith}
-use borrow.Author.Needs.{needs}
-use lib.ListN.{length, replicate}
+use lib.ListN.{replicate}
 use Rattle.lines.specs.Answers.{Wrote}
 use Rattle.lines.proofs.Wrote.{wrote-length}
 use Rattle.page.specs.Rows.{blank}

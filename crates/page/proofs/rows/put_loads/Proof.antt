@@ -2,7 +2,6 @@
 use Prim.Native.Nat.{ℕ, _+_, _-_, _≤_}
 use mathlib.Core.List.{List}
 use native.Mathlib.Omega.{arith}
-use lib.ListN.{length}
 use Rattle.marks.specs.Sets.{markIn}
 use Rattle.marks.specs.declared.LoadSet.{LoadSet}
 use Rattle.lines.specs.Answers.{Wrote}

@@ -1,6 +1,6 @@
 -- `beginning` meets its contract. Assumes nothing.
-use Prim.Native.Nat.{suc, _+_}
-use mathlib.Core.Path.{_≡_, sym, ap, _∙_}
+use Prim.Native.Nat.{_+_}
+use mathlib.Core.Path.{sym, ap, _∙_}
 use native.Mathlib.Numerals.{add-one}
 use native.Mathlib.Omega.{arith}
 use borrow.Author.Needs.{needs}
@@ -20,10 +20,8 @@ returns c =
 
 add-result : tie.Need-add-result
 add-result c =
-    let r = c .before .before .before in
-    let a = r .before .before .before .args in
-    let f = rows-fit (a .glass .now) (a .drawn .now) in
-    omega (arith, f .0, f .1, ap (λ (x : Rows). x .first) (r .differing .ensures))
+    let f = rows-fit _ _ (c .before .before .before .differing .ensures) in
+    omega (arith, f .0, f .1)
 
 returns-2 : tie.Need-returns-2
 unfolding beginning

@@ -9,7 +9,8 @@ use lib.ListN.{length}
 use Rattle.page.specs.declared.stretch.Rows.{Rows}
 use Rattle.page.specs.Rows.{rowCount, pageBytes}
 use Rattle.page.specs.Stretch.{differs, endOf, passing, isPage, differing}
-use Rattle.page.proofs.Rowwise.{passing-miss, passing-first, passing-later, pages-bad, pages-good}
+use Rattle.page.proofs.Rowwise.{passing-miss, passing-first, passing-later}
+use Rattle.page.proofs.Differing.{pages-bad, pages-good}
 use Rattle.page.proofs.stretch.differing.Statement.{statement}
 use Rattle.page.proofs.stretch.differing.Tie as tie
 

@@ -2,7 +2,6 @@
 use Prim.Native.Nat.{_-_, _≤_}
 use mathlib.Core.Path.{_≡_, refl, sym, _∙_}
 use native.Mathlib.Omega.{arith}
-use borrow.Author.Needs.{needs}
 use Rattle.lists.specs.Tests.{allBelow}
 use Rattle.lists.proofs.Tests.{below-zero, below-step}
 use Rattle.page.specs.Rows.{rowBytes}
