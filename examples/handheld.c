@@ -7,14 +7,15 @@
  * `|row| number`, and so is each turn of the lamp. A handheld has its own functions in the place of open_glass, send_row, switch_lamp and
  * close_glass. Nothing is allocated.
  *
- * The line `page,K` is the handheld's own, and not the planner's: it scrolls to load K, and prints only `no,N`, where that page cannot be
- * drawn. The program ends with its input (Ctrl-D at a terminal).
+ * The line `page,K` is the handheld's own, and not the planner's: it scrolls to load K and prints nothing, or, where that page cannot be drawn,
+ * `no,N`. The program ends with its input (Ctrl-D at a terminal).
  */
 #include "hulmeide.h"
 #include "port.h"
 
 #include <stdbool.h>
 #include <stdio.h>
+#include <stdlib.h>
 #include <string.h>
 #include <unistd.h>
 
@@ -91,11 +92,11 @@ static void switch_lamp(bool on)
     lit = on;
 }
 
-/* The terminal scrolls as a whole again. */
+/* The terminal scrolls as a whole again, however the program ends. (It does not go through the port, which may have failed.) */
 static void close_glass(void)
 {
     if (on_terminal) {
-        send_text("\0337\033[r\0338");
+        fputs("\0337\033[r\0338", stdout);
     }
 }
 
@@ -177,7 +178,7 @@ int main(void)
     }
     hulmeide_fresh(&planner);
     open_glass();
+    atexit(close_glass);
     serve(answer);
-    close_glass();
     return 0;
 }

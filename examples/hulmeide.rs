@@ -177,7 +177,7 @@ impl Refusal {
         Refusal::NotAPage,
     ];
 
-    /// Its number, 1 to 13. The line `no,N` prints that of a line.
+    /// Its number, 1 to 13. That of a line is printed as `no,N`, but for 1; that of a drawing is only returned.
     pub fn number(self) -> u32 {
         self as u32
     }
@@ -305,7 +305,7 @@ impl Planner {
         Refusal::of(number).map_or(Ok(true), Err)
     }
 
-    /// Draws the latest plan on a page, with the loads from one on. It is refused where the page is not of [`PAGE_BYTES`] bytes, where there
+    /// Draws the latest plan on a page, with the loads from `load` on. It is refused where the page is not of [`PAGE_BYTES`] bytes, where there
     /// is no such load, and where no plan is current, and leaves the page as it was then.
     pub fn draw(&self, load: usize, page: &mut [u8]) -> Result<(), Refusal> {
         // SAFETY: as in `call`. The planner is only read.

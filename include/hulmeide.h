@@ -77,7 +77,7 @@ extern "C" {
 #define HULMEIDE_MAX_WORTH 1000
 #define HULMEIDE_MAX_BUDGET 500
 
-/* A page of the handheld: rows of ASCII bytes, one after the other, with nothing between them. */
+/* A page of the handheld: rows of ASCII bytes, one after the other, with nothing between them and no NUL byte at the end. */
 #define HULMEIDE_PAGE_ROWS 8
 #define HULMEIDE_ROW_BYTES 20
 #define HULMEIDE_PAGE_BYTES (HULMEIDE_PAGE_ROWS * HULMEIDE_ROW_BYTES)
@@ -192,7 +192,8 @@ struct hulmeide_run {
 };
 
 /* The outcome of the latest plan, an enum hulmeide_outcome_kind and the run. Where it is no plan, every place of the run holds 0 and the set is
- * empty. Worth, power and the number of loads on are not stored: `last` works them out from the set and the loads. */
+ * empty. Worth, power and the number of loads on are not stored: `last` and a drawing work
+ * them out from the set and the loads. */
 struct hulmeide_outcome {
     uint8_t kind;
     struct hulmeide_run run;
@@ -310,8 +311,9 @@ uint32_t hulmeide_draw(const struct hulmeide_planner *planner, size_t load, uint
 
 /*
  * What of a page just drawn does the glass not show yet? The stretch of the drawn page from the first row that differs to the last that
- * does, whole rows: put on the glass at the row of hulmeide_stretch_row, it makes the glass the drawn page. It is empty, 0 and 0, where no
- * row differs, and where either is not of HULMEIDE_PAGE_BYTES bytes. Both are only read, and may be the same memory.
+ * does, whole rows. Put on the glass at the same place, as memcpy(glass + start, drawn + start, count) does, or at the row of
+ * hulmeide_stretch_row, it makes the glass the drawn page. It is empty, 0 and 0, where no row differs, and where either is not of
+ * HULMEIDE_PAGE_BYTES bytes. Both are only read, and may be the same memory.
  */
 struct hulmeide_part hulmeide_stretch(const uint8_t *glass, size_t glass_length, const uint8_t *drawn, size_t drawn_length);
 

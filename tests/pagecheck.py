@@ -8,16 +8,18 @@ planners handed in: cabinets of any size with any outcome, in range or not, and 
 around every end, on pages of every length around theirs, with rubbish on them. Compared are the number and every byte of the page; the planner
 and the bytes around the page must stay as they are. What is drawn goes to a glass: compared are the place, the count and the row of each stretch,
 and the glass with the stretch on it. So are stretches of every set of differing rows, of each single bit, and of other lengths. The pages of
-page_edges.py stand there by hand, and must be those of the library and of the model.
+page_edges.py stand there by hand, and must be those of the library and of the model; those that docs/ELECTRICIAN.md shows must be among them.
 Then the same is asked of models that are wrong on purpose (wrong_pages.py), and each must be told apart.
 The last line is 'N passed, M failed'.
 """
 import argparse
 import copy
 import random
+import re
 import sys
 from collections import Counter
 from itertools import product
+from pathlib import Path
 
 from crosscheck import Figures, any_book, budget_line, load_line, session
 from edges import ALL_ON
@@ -215,6 +217,20 @@ def edge_fault(planner, model, edges):
     return None
 
 
+def documented():
+    """The pages that docs/ELECTRICIAN.md shows, each in a frame."""
+    text = (Path(__file__).parent.parent / 'docs' / 'ELECTRICIAN.md').read_text()
+    frames = re.findall(r'\+-{20}\+\n(.*?)\+-{20}\+', text, re.DOTALL)
+    return [''.join(re.findall(r'\|(.{20})\|', frame)).encode() for frame in frames]
+
+
+def document_fault():
+    """None, or that the document does not show the worked cabinet after its plan, at its second screen, and a page after refusal 9."""
+    after_plan, _, second_screen = [edge.page for edge in EDGES['the worked cabinet'][:3]]
+    expected = [after_plan, second_screen, b'no plan'.ljust(PAGE_BYTES)]
+    return None if documented() == expected else 'docs/ELECTRICIAN.md shows other pages'
+
+
 # ---- all of it
 
 
@@ -249,7 +265,7 @@ def main():
     observed = observed_of(random.Random(args.seed), library, args.cases)
     faults = list(faults_of(observed))
     named = {name: edge_fault(Planner(library).fresh(), Pages(), edges) for name, edges in EDGES.items()}
-    faults += ['%s: %s' % (name, fault) for name, fault in named.items() if fault]
+    faults += ['%s: %s' % (name, fault) for name, fault in named.items() if fault] + [fault for fault in [document_fault()] if fault]
     untold = [wrong.__name__ for wrong in WRONG if not differs(wrong(), observed)]
     for fault in faults[:5]:
         print('DIFFERS: ' + fault)
@@ -261,7 +277,7 @@ def main():
         len(observed.stretches), empty, len(EDGES), sum(map(len, EDGES.values()))))
     print('%d wrong models, of which %d are told apart' % (len(WRONG), len(WRONG) - len(untold)))
     failed = len(faults) + len(untold)
-    print('%d passed, %d failed' % (len(observed.drawings) + len(observed.stretches) + len(EDGES) + len(WRONG) - failed, failed))
+    print('%d passed, %d failed' % (len(observed.drawings) + len(observed.stretches) + len(EDGES) + 1 + len(WRONG) - failed, failed))
     return 1 if failed else 0
 
 
