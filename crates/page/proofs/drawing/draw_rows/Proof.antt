@@ -34,7 +34,7 @@ returns c =
     let rest = replicate (loadRowCount * rowBytes) blank in
     wrote-whole (omega (arith, s .pre .page, length-append noPlanRow rest, no-plan-length, length-replicate {A = ℕ} (loadRowCount * rowBytes) blank))
     (wrote-then (n .put-no-plan .ensures) (rw e at (b .put-blanks .ensures)))
-    ∙ page-none (stateIn p) (s .args .load) (s .pre .low) (kind-no-set (p .outcome .kind) _ (i .if1 .taken))
+    ∙ page-none (stateIn p) (s .args .load) (s .pre .low) (kind-no-set (p .outcome .kind) _ (omega (arith, i .if1 .taken, s .pre .current)))
 
 figures-of-requires : tie.Need-figures-of-requires
 figures-of-requires c κs = let s = c .before .before .before .before .before .before in few (s .args .planner) (s .pre .lawful)
@@ -58,12 +58,13 @@ returns-2 c =
     let s = i .before .before .before in
     let p = s .args .planner in
     let h = s .pre .lawful in
+    let fits : p .outcome .kind ≡ 1 → ⊥ = λ z. omega (arith, z, i .if1 .left) in
     let v = f .figures-of .result in
     let σ = markIn (p .outcome .run .set) in
     let rest = loadRows (loadsOf (p .tables .loads)) σ (s .args .load) loadRowCount in
     wrote-whole (omega (arith, s .pre .page, length-append (planRow (v .worth) (v .power)) rest, plan-length (v .worth) (v .power), rows-length (loadsOf (p .tables .loads)) σ (s .args .load) loadRowCount))
     (wrote-then (q .put-plan .ensures) (r .put-loads .ensures))
-    ∙ page-plan (stateIn p) (s .args .load) (shown-lines p h) σ (v .worth) (v .power) (planned-is p h (s .pre .current) (i .if1 .left)) (set-is p h (s .pre .current) (i .if1 .left))
+    ∙ page-plan (stateIn p) (s .args .load) (shown-lines p h) σ (v .worth) (v .power) (planned-is p h (s .pre .current) fits) (set-is p h (s .pre .current) fits)
     (ap (λ (x : Figures). x .worth) (f .figures-of .ensures)) (ap (λ (x : Figures). x .power) (f .figures-of .ensures))
 
 pub draw-rows-spec : {M : Type 1} → statement M

@@ -7,7 +7,7 @@ use Rattle.page.proofs.drawing.refusal.Statement.{statement}
 use Rattle.page.proofs.drawing.refusal.Tie as tie
 
 returns : tie.Need-returns
-returns c = let a = c .before .args in (no-page (held (a .planner)) (a .load) (a .bytes) (c .if1 .taken), λ z. absurd (omega arith))
+returns c = let a = c .before .args in (no-page (held (a .planner)) (a .load) (a .bytes) (λ e. omega (arith, e, c .if1 .taken)), λ z. absurd (omega arith))
 
 returns-2 : tie.Need-returns-2
 returns-2 c =
@@ -16,7 +16,7 @@ returns-2 c =
     let a = k .before .before .args in
     let p = a .planner in
     let kept = test-failed p (k .keeps-limits .ensures .0) (o .keeps-outcome .ensures .0) (c .if2 .taken) in
-    (broken (held p) (a .load) (a .bytes) (k .before .if1 .left) kept, λ z. absurd (omega arith))
+    (broken (held p) (a .load) (a .bytes) (omega (arith, k .before .if1 .left)) kept, λ z. absurd (omega arith))
 
 returns-3 : tie.Need-returns-3
 returns-3 c =
@@ -26,7 +26,7 @@ returns-3 c =
     let a = k .before .before .args in
     let p = a .planner in
     let t = test-passed p (k .keeps-limits .ensures .0) (o .keeps-outcome .ensures .0) (k .keeps-limits .ensures .1 .0) (o .keeps-outcome .ensures .1) (i .if2 .left) in
-    (no-load (held p) (a .load) (a .bytes) (k .before .if1 .left) (t .kept) (load-out (a .load) (p .tables .loads .count) _ (t .count) (c .if3 .taken)), λ z. absurd (omega arith))
+    (no-load (held p) (a .load) (a .bytes) (omega (arith, k .before .if1 .left)) (t .kept) (load-out (a .load) (p .tables .loads .count) _ (t .count) (c .if3 .taken)), λ z. absurd (omega arith))
 
 returns-4 : tie.Need-returns-4
 returns-4 c =
@@ -38,7 +38,7 @@ returns-4 c =
     let p = a .planner in
     let t = test-passed p (k .keeps-limits .ensures .0) (o .keeps-outcome .ensures .0) (k .keeps-limits .ensures .1 .0) (o .keeps-outcome .ensures .1) (i .if2 .left) in
     let there = load-in (a .load) (p .tables .loads .count) (j .if3 .left) in
-    (no-plan (held p) (a .load) (a .bytes) (k .before .if1 .left) (t .kept) (load-there (a .load) (p .tables .loads .count) _ (t .count) there) (kind-nothing (p .outcome .kind) _ (c .if4 .taken)), λ z. absurd (omega arith))
+    (no-plan (held p) (a .load) (a .bytes) (omega (arith, k .before .if1 .left)) (t .kept) (load-there (a .load) (p .tables .loads .count) _ (t .count) there) (kind-nothing (p .outcome .kind) _ (omega (arith, c .if4 .taken))), λ z. absurd (omega arith))
 
 returns-5 : tie.Need-returns-5
 returns-5 c =
@@ -50,8 +50,8 @@ returns-5 c =
     let p = a .planner in
     let t = test-passed p (k .keeps-limits .ensures .0) (o .keeps-outcome .ensures .0) (k .keeps-limits .ensures .1 .0) (o .keeps-outcome .ensures .1) (i .if2 .left) in
     let there = load-in (a .load) (p .tables .loads .count) (j .if3 .left) in (
-      unrefused (held p) (a .load) (a .bytes) (k .before .if1 .left) (t .kept) (load-there (a .load) (p .tables .loads .count) _ (t .count) there) (kind-something (p .outcome .kind) _ (c .if4 .left)),
-      λ z. record { page = k .before .if1 .left; lawful = t .lawful; low = there .0; high = there .1; current = c .if4 .left },
+      unrefused (held p) (a .load) (a .bytes) (omega (arith, k .before .if1 .left)) (t .kept) (load-there (a .load) (p .tables .loads .count) _ (t .count) there) (kind-something (p .outcome .kind) _ (λ z. omega (arith, z, c .if4 .left))),
+      λ z. record { page = omega (arith, k .before .if1 .left); lawful = t .lawful; low = there .0; high = there .1; current = λ z. omega (arith, z, c .if4 .left) },
     )
 
 pub refusal-spec : {M : Type 1} → statement M

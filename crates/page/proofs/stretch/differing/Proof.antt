@@ -52,8 +52,8 @@ loop-again c =
       omega (arith, t .loop-test .taken),
       ⊎-elim
           (λ w. ⊎-elim
-          (λ v. rw (w .2, w .3, v .1) (passing-first p n (sym test ∙ w .0 .taken) (sym ends ∙ v .0 .taken)))
-          (λ v. rw (w .2, w .3, v .1, firsts) (passing-later p n (sym test ∙ w .0 .taken) (λ z. v .0 .left (ends ∙ z))))
+          (λ v. rw (w .2, w .3, v .1) (passing-first p n (sym test ∙ w .0 .taken) (omega (arith, ends, v .0 .taken))))
+          (λ v. rw (w .2, w .3, v .1, firsts) (passing-later p n (sym test ∙ w .0 .taken) (λ z. omega (arith, z, ends, v .0 .left))))
           (w .1 .came))
           (λ w. rw (w .1, w .2) (i ∙ passing-miss p n (sym test ∙ w .0 .left)))
           (c .if2 .came),
