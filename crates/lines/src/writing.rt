@@ -1,5 +1,5 @@
-// Writing answers into the free part of the lent output, which the caller lends on; a byte and a text also serve whoever else writes. Each function writes from a place on and returns the
-// place after what it wrote; all other bytes keep their values.
+// Writing answers into the free part of the lent output, which the caller lends on; a byte and a text serve other crates too. Each function
+// writes from a place on and returns the place after what it wrote; all other bytes keep their values.
 use crate::COMMA;
 use crate::LINE_FEED;
 use crate::MOST_NUMBERS;
