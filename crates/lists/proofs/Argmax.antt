@@ -1,13 +1,13 @@
 -- The laws of `argmax`: it bounds every value; where it is not 0 some number has it, and no lower number does; it depends only on the
 -- values below n; and what a turn of a loop that keeps it does. Assumes nothing.
-use Prim.Native.Nat.{ℕ, zero, suc, _≤_, _<_, zero-le}
-use mathlib.Core.Path.{_≡_, refl, ap₂}
+use Prim.Native.Nat.{ℕ, zero, suc, _+_, _≤_, _<_, zero-le}
+use mathlib.Core.Path.{_≡_, refl, ap, ap₂, _∙_}
 use mathlib.Core.Bool.{Bool, true, false, cond}
 use mathlib.Core.Logic.{_⊎_, inl, inr}
 use native.Mathlib.Nat.{le-refl, not-suc-le-zero, eq-or-lt-of-le, le-of-suc-le-suc, le-step, lt-suc-self}
 use native.Mathlib.Omega.{arith}
 use lib.Dec.{ltb}
-use borrow.Author.Tests.{ltb-true, ltb-false}
+use borrow.Author.Tests.{ltb-true, ltb-false, le-ltb}
 use Rattle.lists.specs.Argmax.{Greatest, argmax, improve}
 
 -- q is p after the value x at number i: either x is greater and taken, or it is not and p stays
@@ -70,6 +70,17 @@ argmax-within f (suc n) m h k = go (ltb (argmax f n .value) (f n)) (argmax-withi
     go : (t : Bool) → argmax f n .index < m → cond t (record { value = f n; index = n }) (argmax f n) .index < m
     go true ih = h
     go false ih = ih
+
+-- values of 0 change nothing
+improve-none : (p : Greatest) (i x : ℕ) → x ≡ 0 → improve p i x ≡ p
+improve-none p i x e = rw (e, le-ltb (p .value) 0 zero-le)
+
+pub argmax-still : (f : ℕ → ℕ) (n m : ℕ) → ((i : ℕ) → n ≤ i → i < n + m → f i ≡ 0) → argmax f (n + m) ≡ argmax f n
+unfolding argmax
+argmax-still f n zero h = let e : n + 0 ≡ n = omega arith in ap (argmax f) e
+argmax-still f n (suc m) h =
+    let e : n + suc m ≡ suc (n + m) = omega arith in
+    ap (argmax f) e ∙ improve-none (argmax f (n + m)) (n + m) (f (n + m)) (h (n + m) (omega arith) (omega arith)) ∙ argmax-still f n m (λ i l k. h i l (omega arith))
 
 pub argmax-agree : (f g : ℕ → ℕ) (n : ℕ) → ((i : ℕ) → i < n → f i ≡ g i) → argmax f n ≡ argmax g n
 unfolding argmax

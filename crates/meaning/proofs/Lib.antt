@@ -15,6 +15,7 @@ pub mod Agree
 pub mod Rows
 pub mod Bound
 pub mod Cells
+pub mod SameRows
 pub mod Claims
 pub mod Leaving
 pub mod Cases

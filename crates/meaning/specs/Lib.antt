@@ -10,6 +10,7 @@ pub mod Choice
 pub mod Order
 pub mod Judge
 pub mod Cells
+pub mod Agree
 pub mod Claims
 pub mod Leaving
 pub mod Cases
