@@ -1,6 +1,6 @@
 -- From a cell's place in the work to its load, state or stage, and allowance; and one stretch after another is filled.
 -- Assumes nothing.
-use Prim.Native.Nat.{ℕ, _+_, _-_, _*_, _/_, _%_, _≤_, _<_}
+use Prim.Native.Nat.{ℕ, zero, suc, _+_, _-_, _*_, _/_, _%_, _≤_, _<_}
 use mathlib.Core.Path.{_≡_, refl, sym, ap, _∙_}
 use mathlib.Core.List.{List}
 use native.Mathlib.Nat.{mul-le-mul-right, add-mul, mul-zero, zero-mul, mod-lt, div-add-mod', div-lt-iff-lt-mul}
@@ -12,7 +12,9 @@ use Rattle.cells.specs.declared.problem.Problem.{Problem}
 use Rattle.cells.specs.declared.problem.Shape.{Shape}
 use Rattle.cells.specs.Problem.{shapeOf}
 use Rattle.cells.specs.Work.{placeOf, cellsNeeded, cellOf, FilledTo, Filled}
-use Rattle.cells.specs.Strip.{Stored}
+use Rattle.cells.specs.Outline.{Outlines}
+use Rattle.cells.specs.Stretch.{Worked, FilledBy}
+use Rattle.cells.proofs.Stretches.{stretch-reached, stretch-sound}
 
 -- the quotient is known from the number
 quotient : (n u v a b : ℕ) → a < n → b < n → u * n + a ≡ v * n + b → u ≡ v
@@ -98,24 +100,37 @@ module _ (p : Problem) where
       ext-getD 0 (drop to v) (drop to w) (length-drop to v ∙ ap (λ z. z - to) e ∙ sym (length-drop to w))
       (λ i l. getD-drop to v i 0 ∙ f .above (to + i) (omega arith) ∙ sym (getD-drop to w i 0))
 
-  -- a strip that is stored at its places fills its stretch
-  module _ (w v s : List ℕ) (k x from to at : ℕ) (lk : k ≤ shapeOf p .loads) (lx : x < shapeOf p .states + shapeOf p .stages)
-      (le : to ≤ shapeOf p .budget + 1) (e : at ≡ placeOf (shapeOf p) k x) (st : Stored w s v at from to)
-      (cells : FilledTo p w (placeOf (shapeOf p) k x) → (a : ℕ) → from ≤ a → a < to → getD s a 0 ≡ cellOf p k x a) where
-    pub filled-stretch : Filled p w v (placeOf (shapeOf p) k x + from) (placeOf (shapeOf p) k x + to)
-    filled-stretch = record {
-      below = λ i l. st .below i (omega arith);
-      above = λ i l. st .above i (omega arith);
+  -- a stretch whose cells are worked out is filled
+  module _ (o : List ℕ) (d : Outlines p (shapeOf p) o) (w v : List ℕ) (j x from to : ℕ) (lk : suc j ≤ shapeOf p .loads)
+      (lx : x < shapeOf p .states + shapeOf p .stages) (le : to ≤ shapeOf p .budget + 1) (done : Worked (shapeOf p) o w v (suc j) x from to) where
+    abbrev at : ℕ
+    at = placeOf (shapeOf p) (suc j) x
+
+    cells : FilledTo p w at → (a : ℕ) → from ≤ a → a < to → getD v (at + a) 0 ≡ cellOf p (suc j) x a
+    cells h a l m =
+        done .inside (stretch-sound p (d .lawful) w j x lk h o d to le) a l m ∙ stretch-reached p (d .lawful) w j x lk h o d a (omega arith)
+
+    stretch-filled : Filled p w v (at + from) (at + to)
+    stretch-filled = record {
+      below = done .below;
+      above = done .above;
       holds = λ h. record { at = λ k′ x′ a′ b1 b2 b3 b4 m. go h k′ x′ a′ b1 b2 b3 b4 m (decLt (placeOf (shapeOf p) k′ x′ + a′) (at + from)) };
     }
       where
-        go : FilledTo p w (placeOf (shapeOf p) k x + from) → (k′ x′ a′ : ℕ) → 0 < k′ → k′ ≤ shapeOf p .loads → x′ < shapeOf p .states + shapeOf p .stages
-            → a′ ≤ shapeOf p .budget → placeOf (shapeOf p) k′ x′ + a′ < placeOf (shapeOf p) k x + to → Dec (placeOf (shapeOf p) k′ x′ + a′ < at + from)
+        go : FilledTo p w (at + from) → (k′ x′ a′ : ℕ) → 0 < k′ → k′ ≤ shapeOf p .loads → x′ < shapeOf p .states + shapeOf p .stages
+            → a′ ≤ shapeOf p .budget → placeOf (shapeOf p) k′ x′ + a′ < at + to → Dec (placeOf (shapeOf p) k′ x′ + a′ < at + from)
             → getD v (placeOf (shapeOf p) k′ x′ + a′) 0 ≡ cellOf p k′ x′ a′
-        go h k′ x′ a′ b1 b2 b3 b4 m (yes b) = st .below _ b ∙ h .at k′ x′ a′ b1 b2 b3 b4 (omega arith)
+        go h k′ x′ a′ b1 b2 b3 b4 m (yes b) = done .below _ b ∙ h .at k′ x′ a′ b1 b2 b3 b4 (omega arith)
         go h k′ x′ a′ b1 b2 b3 b4 m (no b) =
             let y = placeOf (shapeOf p) k′ x′ + a′ - at in
             let z : placeOf (shapeOf p) k′ x′ + a′ ≡ at + y = omega arith in
-            let q = same-cell (shapeOf p) k k′ x x′ y a′ lk b2 lx b3 (omega arith) b4 (omega arith) in
-            ap (λ j. getD v j 0) z ∙ st .inside y (omega arith) (omega arith) ∙ cells (holds-less w _ _ (omega arith) h) y (omega arith) (omega arith)
+            let q = same-cell (shapeOf p) (suc j) k′ x x′ y a′ lk b2 lx b3 (omega arith) b4 (omega arith) in
+            ap (λ i. getD v i 0) z ∙ cells (holds-less w _ _ (omega arith) h) y (omega arith) (omega arith)
             ∙ ap (λ t. cellOf p t x y) (q .0) ∙ ap (λ t. cellOf p k′ t y) (q .1) ∙ ap (λ t. cellOf p k′ x′ t) (q .2)
+
+-- whatever problem the outline is of
+pub worked-filled : (sh : Shape) (o w v : List ℕ) (k x from to : ℕ) → 0 < k → k ≤ sh .loads → x < sh .states + sh .stages → to ≤ sh .budget + 1
+    → Worked sh o w v k x from to → FilledBy sh o w v (placeOf sh k x + from) (placeOf sh k x + to)
+worked-filled sh o w v zero x from to low lk lx le done p d = absurd (omega arith)
+worked-filled sh o w v (suc j) x from to low lk lx le done p d =
+    rw (d .shape) (stretch-filled p o (rw (d .shape) at d) w v j x from to (rw (d .shape) at lk) (rw (d .shape) at lx) (rw (d .shape) at le) (rw (d .shape) at done))

@@ -1,5 +1,6 @@
 pub mod Numbers
 pub mod Tables
+pub mod Outlining
 pub mod Lawful
 pub mod Strips
 pub mod Shares

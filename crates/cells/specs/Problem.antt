@@ -3,7 +3,7 @@
 -- takes the lowest .. that can be completed to that set" of paper 01. Assumes nothing.
 use Prim.Native.Nat.{ℕ, _≤_, _<_}
 use mathlib.Core.Path.{_≡_}
-use mathlib.Core.Bool.{Bool, true, false}
+use mathlib.Core.Bool.{Bool, true, false, _||_}
 use mathlib.Core.List.{List}
 use lib.Dec.{eqb}
 use lib.ListN.{length, getD}
@@ -45,13 +45,15 @@ itemsIf true σ = checked (markIn σ)
 abbrev pub itemsFor : Problem → ℕ → Load → Item
 itemsFor p = itemsIf (p .fixed) (p .set)
 
--- what counts of a load, as the code holds it
-abbrev pub servesIf : Bool → (mark label : ℕ) → Bool
-servesIf false m l = true
-servesIf true m l = eqb l m
+-- what counts of a load, as the code holds it: any load rule serves, or those with the load's mark
+abbrev pub anyMark : ℕ
+anyMark = 2
+
+abbrev pub servesIf : (mark label : ℕ) → Bool
+servesIf m l = eqb m anyMark || eqb l m
 
 abbrev pub itemOf : StoredItem → Item
-itemOf i = record { power = i .power; worth = i .worth; serves = λ t. servesIf (i .fixed) (i .mark) (t .label) }
+itemOf i = record { power = i .power; worth = i .worth; serves = λ t. servesIf (i .mark) (t .label) }
 
 abbrev pub shapeOf : Problem → Shape
 shapeOf p = record {
@@ -59,6 +61,7 @@ shapeOf p = record {
   states = p .tables .book .states;
   stages = p .tables .book .stages;
   budget = p .tables .budget;
+  starts = p .tables .book .starts;
   ends = p .tables .book .ends;
 }
 

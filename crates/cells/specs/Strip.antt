@@ -7,25 +7,38 @@ use lib.Dec.{leb}
 use lib.ListN.{getD}
 use Rattle.lists.specs.Argmax.{guard}
 use Rattle.meaning.specs.Cell.{_⊕_}
-use Rattle.cells.specs.declared.problem.Shape.{Shape}
-use Rattle.cells.specs.Work.{heldBranch, heldRow}
+
+-- no number of a strip reaches this
+abbrev pub stripLimit : ℕ
+stripLimit = 2147483648
+
+abbrev pub Small : List ℕ → Type 0
+Small s = (a : ℕ) → getD s a 0 < stripLimit
 
 -- the cells f, each joined with a cell of its own, and moved up by a power
 abbrev pub moved : (shift own : ℕ) → (ℕ → ℕ) → ℕ → ℕ
 moved shift own f a = guard (leb shift a) (own ⊕ f (a - shift))
 
--- the strip t is s raised to f at the allowances from .. to
+-- the strip t is s raised to f at the allowances from .. to, and s below them
 pub record Raised (s t : List ℕ) (from to : ℕ) (f : ℕ → ℕ) : Type 0 where
-  pub at : (a : ℕ) → from ≤ a → a < to → getD t a 0 ≡ max (getD s a 0) (f a)
+  pub small : Small s → Small t
+  pub below : (a : ℕ) → a < from → getD t a 0 ≡ getD s a 0
+  pub at : Small s → (a : ℕ) → from ≤ a → a < to → getD t a 0 ≡ max (getD s a 0) (f a)
 
 -- f does not fall below n
 abbrev pub Rising : (ℕ → ℕ) → ℕ → Type 0
 Rising f n = (c d : ℕ) → c ≤ d → d < n → f c ≤ f d
 
--- the cells that a row rule splits between do not fall: the branch of load k, and the row from load next onward
-pub record Rises (sh : Shape) (w : List ℕ) (k next to : ℕ) : Type 0 where
-  pub branches : (q : ℕ) → 0 < q → q ≤ sh .states → Rising (heldBranch sh w k q) to
-  pub rows : (h : ℕ) → 0 < h → h ≤ sh .stages → Rising (heldRow sh w next h) to
+-- f says 0 below n, and something from n on, as far as `to`
+pub record Starts (f : ℕ → ℕ) (n to : ℕ) : Type 0 where
+  pub none : (c : ℕ) → c < n → f c ≡ 0
+  pub some : (c : ℕ) → n ≤ c → c < to → 0 < f c
+
+-- r is an allowance from .. to, and from `from` up to it f, if it does not fall below `to`, says no more than last
+pub record Passed (f : ℕ → ℕ) (last from to r : ℕ) : Type 0 where
+  pub low : from ≤ r
+  pub high : r ≤ to
+  pub at : Rising f to → (d : ℕ) → from ≤ d → d < r → f d ≤ last
 
 -- v is the work w with the strip's allowances from .. to at their places
 pub record Stored (w s v : List ℕ) (at from to : ℕ) : Type 0 where

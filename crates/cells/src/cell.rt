@@ -1,15 +1,19 @@
 // Cells as 32-bit numbers. A request that changes what is best changes this file.
 ghost use mathlib.Core.Path.{_≡_};
-ghost use Prim.Native.Nat.{max, _≤_, _<_};
+ghost use Prim.Native.Nat.{max, _%_, _≤_, _<_};
 ghost use Rattle.meaning.specs.Cell.{cell, powerLimit, _⊕_};
 ghost use Rattle.tables.specs.Limits.{maxWorth};
 ghost use Rattle.cells.specs.Work.{cellLimit, heldIn};
+ghost use Rattle.cells.specs.Strip.{stripLimit};
 
 // The cell of the empty set. A load's worth counts in units of it, and its power against it.
 pub const EMPTY: u32 = 512;
 
 // No cell of a search passes this, and two numbers below it fit 32 bits together.
 const CELL_LIMIT: u32 = 1073741824;
+
+// No number of a strip passes this: two cells together are below it.
+const STRIP_LIMIT: u32 = 2147483648;
 
 // What a cell says, whatever it holds.
 pub fn held(x: u32) -> u32
@@ -18,10 +22,17 @@ pub fn held(x: u32) -> u32
     x % CELL_LIMIT
 }
 
-pub(crate) fn greater(x: u32, y: u32) -> u32
+fn greater(x: u32, y: u32) -> u32
     ensures { λ r. ⌜ r ≡ max x y ⌝ }
 {
     if x < y { y } else { x }
+}
+
+// A number of a strip, raised to y. Numbers below the limit compare alike with and without a sign, and with a sign it is cheaper.
+pub(crate) fn raised(x: u32, y: u32) -> u32
+    ensures { λ r. ⌜ r ≡ max (x % stripLimit) y ⌝ }
+{
+    greater(x % STRIP_LIMIT, y)
 }
 
 // The cell of two disjoint sets together. Where x stays the same a loop over y has no branch.

@@ -1,245 +1,142 @@
 // A stretch: the cells of one load and one state or stage, made in a strip of their own, rule by rule, and stored.
 use crate::cell::EMPTY;
-use crate::problem::Problem;
+use crate::outline::Joint;
+use crate::outline::Rules;
+use crate::outline::joint_at;
+use crate::outline::label_of;
+use crate::outline::next_rule;
+use crate::outline::rules_at;
+use crate::outline::stage_of;
 use crate::problem::Shape;
-use crate::problem::StoredItem;
 use crate::problem::draw_of;
-use crate::problem::item_of;
-use crate::problem::next_child;
 use crate::problem::own_of;
 use crate::problem::serves;
-use crate::problem::shape_of;
 use crate::strip::flat;
 use crate::strip::lift;
 use crate::strip::share;
 use crate::strip::store;
 use crate::work::place;
-use tables::rule::Transition;
-use tables::rule::TransitionList;
 ghost use Prim.Native.Nat.{_+_, _≤_, _<_};
-ghost use lib.Dec.{eqb};
 ghost use lib.ListN.{length};
-ghost use Rattle.lists.specs.Argmax.{guard};
-ghost use Rattle.tables.specs.Stored.{rulesOf};
-ghost use Rattle.meaning.specs.Cell.{powerLimit};
-ghost use Rattle.meaning.specs.Best.{bestRule, loadReach, rowReach, shares};
-ghost use Rattle.cells.specs.Problem.{itemOf, shapeOf, RulesIn, Lawful};
-ghost use Rattle.tables.specs.Limits.{maxWorth};
-ghost use Rattle.cells.specs.Work.{cellLimit, placeOf, Ready, heldBranch, heldRow, cellOf, FilledTo, Filled};
-ghost use Rattle.cells.specs.Strip.{moved, Raised, Rises};
+ghost use Rattle.meaning.specs.Best.{shares};
+ghost use Rattle.cells.specs.Outline.{ofRow, bestIn, JointFits, RuleFits, RulesFit, OutlineFits};
+ghost use Rattle.cells.specs.Work.{cellLimit, Ready, heldBranch, heldRow};
+ghost use Rattle.cells.specs.Strip.{moved, Raised, Rising};
+ghost use Rattle.cells.specs.Stretch.{leading, reachOf, Sound, Worked};
 
 // The cells of a strip: one for each allowance from 0 to 500, and more.
 const STRIP: usize = 512;
 
-// The strip raised to the row from load k onward at stage g, joined with `own` and moved up by `shift`.
-fn lift_row(
-    sh: Shape,
-    work: &[u32],
-    strip: &mut [u32],
-    k: usize,
-    g: usize,
-    shift: usize,
-    own: u32,
+// Allowances from .. to.
+pub(crate) struct Span {
     from: usize,
     to: usize,
-)
+}
+
+// A place in a row: a load, 0 for none, and the stage at which the row goes on with it.
+struct Spot {
+    load: usize,
+    stage: usize,
+}
+
+// The strip raised to a row, joined with `own` and moved up by `shift`.
+fn lift_row(sh: Shape, work: &[u32], strip: &mut [u32], row: Spot, shift: usize, own: u32, s: Span)
     requires { ⌜ Ready sh (now work) ⌝ }
-    requires { ⌜ (k ≤ sh .loads) × (0 < g) × (g ≤ sh .stages) × (to ≤ sh .budget + 1) × (to ≤ length (now strip)) × (own ≤ cellLimit) ⌝ }
-    ensures { λ _. ⌜ Raised (now (strip .entry)) (now (strip .exit)) from to (moved shift own (heldRow sh (now (work .entry)) k g)) ⌝ }
+    requires { ⌜ (row .load ≤ sh .loads) × (0 < row .stage) × (row .stage ≤ sh .stages) × (s .to ≤ sh .budget + 1) × (s .to ≤ length (now strip)) × (own ≤ cellLimit) ⌝ }
+    ensures { λ _. ⌜ Raised (now (strip .entry)) (now (strip .exit)) (s .from) (s .to) (moved shift own (heldRow sh (now (work .entry)) (row .load) (row .stage))) ⌝ }
 {
-    if k == 0 {
+    if row.load == 0 {
         let ends = sh.ends;
-        if ends.has(g) {
-            flat(strip, shift, own, from, to);
+        if ends.has(row.stage) {
+            flat(strip, shift, own, s.from, s.to);
         }
         return;
     }
-    let at = place(sh, k, sh.states + (g - 1));
-    lift(strip, work, at, shift, own, from, to);
+    let at = place(sh, row.load, sh.states + (row.stage - 1));
+    lift(strip, work, at, shift, own, s.from, s.to);
 }
 
-// The strip raised to the splits between the branch of load k in state q and the row from load `next` onward at stage h.
-fn raise_split(
-    sh: Shape,
-    work: &[u32],
-    strip: &mut [u32],
-    k: usize,
-    q: usize,
-    next: usize,
-    h: usize,
-    from: usize,
-    to: usize,
-)
+// The strip raised to the splits between the branch of load k in state q and a row.
+fn raise_split(sh: Shape, work: &[u32], strip: &mut [u32], k: usize, q: usize, row: Spot, s: Span)
     requires { ⌜ Ready sh (now work) ⌝ }
-    requires { ⌜ (0 < k) × (k ≤ sh .loads) × (next ≤ sh .loads) × (to ≤ sh .budget + 1) × (to ≤ length (now strip)) ⌝ }
-    requires { ⌜ (0 < q) × (q ≤ sh .states) × (0 < h) × (h ≤ sh .stages) ⌝ }
-    ensures { λ _. ⌜ (Rises sh (now (work .entry)) k next to → Raised (now (strip .entry)) (now (strip .exit)) from to (λ a. shares (heldBranch sh (now (work .entry)) k q) (heldRow sh (now (work .entry)) next h) a .value)) ⌝ }
+    requires { ⌜ (0 < k) × (k ≤ sh .loads) × (row .load ≤ sh .loads) × (s .to ≤ sh .budget + 1) × (s .to ≤ length (now strip)) ⌝ }
+    requires { ⌜ (0 < q) × (q ≤ sh .states) × (0 < row .stage) × (row .stage ≤ sh .stages) ⌝ }
+    ensures { λ _. ⌜ (Rising (heldBranch sh (now (work .entry)) k q) (s .to) → Rising (heldRow sh (now (work .entry)) (row .load) (row .stage)) (s .to) → Raised (now (strip .entry)) (now (strip .exit)) (s .from) (s .to) (λ a. shares (heldBranch sh (now (work .entry)) k q) (heldRow sh (now (work .entry)) (row .load) (row .stage)) a .value)) ⌝ }
 {
     let x = place(sh, k, q - 1);
-    if next == 0 {
+    if row.load == 0 {
         let ends = sh.ends;
-        if ends.has(h) {
-            lift(strip, work, x, 0, EMPTY, from, to);
+        if ends.has(row.stage) {
+            lift(strip, work, x, 0, EMPTY, s.from, s.to);
         }
         return;
     }
-    let y = place(sh, next, sh.states + (h - 1));
-    share(strip, work, x, y, from, to);
+    let y = place(sh, row.load, sh.states + (row.stage - 1));
+    share(strip, work, x, y, s.from, s.to);
 }
 
-// The strip raised to what a load rule reaches, if it begins with the state q.
-fn by_load_rule(
+// The strip raised to what a rule with this label reaches, if the joint's row goes on at this stage.
+fn by_rule(
     sh: Shape,
-    i: StoredItem,
-    t: Transition,
+    t: Joint,
+    label: usize,
+    stage: usize,
     work: &[u32],
     strip: &mut [u32],
-    child: usize,
-    q: u8,
-    from: usize,
-    to: usize,
+    s: Span,
 )
-    requires { ⌜ Ready sh (now work) ⌝ }
-    requires { ⌜ (child ≤ sh .loads) × (to ≤ sh .budget + 1) × (to ≤ length (now strip)) × (0 < t .to) × (t .to ≤ sh .stages) × (i .power < powerLimit) × (i .worth ≤ maxWorth) ⌝ }
-    ensures { λ _. ⌜ Raised (now (strip .entry)) (now (strip .exit)) from to (λ a. guard (eqb (t .from) q) (loadReach (itemOf i) (heldRow sh (now (work .entry)) child) a t)) ⌝ }
+    requires { ⌜ Ready sh (now work) × JointFits sh t × RuleFits sh (t .branch) (leading label stage) ⌝ }
+    requires { ⌜ (s .to ≤ sh .budget + 1) × (s .to ≤ length (now strip)) ⌝ }
+    ensures { λ _. ⌜ (Sound sh (now (work .entry)) t (s .to) → Raised (now (strip .entry)) (now (strip .exit)) (s .from) (s .to) (λ a. reachOf sh (now (work .entry)) t a (leading label stage))) ⌝ }
 {
-    if t.from != q {
+    let row = Spot {
+        load: t.rest,
+        stage: stage,
+    };
+    if t.branch {
+        raise_split(sh, work, strip, t.load, label, row, s);
         return;
     }
-    if serves(i, t.label) {
-        let g = t.to as usize;
-        let shift = draw_of(i, t.label);
-        let own = own_of(i, t.label);
-        lift_row(sh, work, strip, child, g, shift, own, from, to);
+    if serves(t.item, label) {
+        let shift = draw_of(t.item, label);
+        let own = own_of(t.item, label);
+        lift_row(sh, work, strip, row, shift, own, s);
     }
 }
 
-// The strip raised to what a row rule reaches, if it begins at the stage g.
-fn by_row_rule(
-    sh: Shape,
-    t: Transition,
-    work: &[u32],
-    strip: &mut [u32],
-    k: usize,
-    next: usize,
-    g: u8,
-    from: usize,
-    to: usize,
-)
-    requires { ⌜ Ready sh (now work) ⌝ }
-    requires { ⌜ (0 < k) × (k ≤ sh .loads) × (next ≤ sh .loads) × (to ≤ sh .budget + 1) × (to ≤ length (now strip)) ⌝ }
-    requires { ⌜ (0 < t .label) × (t .label ≤ sh .states) × (0 < t .to) × (t .to ≤ sh .stages) ⌝ }
-    ensures { λ _. ⌜ (Rises sh (now (work .entry)) k next to → Raised (now (strip .entry)) (now (strip .exit)) from to (λ a. guard (eqb (t .from) g) (rowReach (heldBranch sh (now (work .entry)) k) (heldRow sh (now (work .entry)) next) a t))) ⌝ }
+// The strip raised to the best that these rules reach, one after the other.
+fn raise(sh: Shape, o: &[u16], t: Joint, r: Rules, work: &[u32], strip: &mut [u32], s: Span)
+    requires { ⌜ Ready sh (now work) × JointFits sh t × RulesFit sh (now o) (t .branch) r ⌝ }
+    requires { ⌜ (s .to ≤ sh .budget + 1) × (s .to ≤ length (now strip)) ⌝ }
+    ensures { λ _. ⌜ (Sound sh (now (work .entry)) t (s .to) → Raised (now (strip .entry)) (now (strip .exit)) (s .from) (s .to) (λ a. bestIn (now (o .entry)) r (reachOf sh (now (work .entry)) t a) .value)) ⌝ }
 {
-    if t.from == g {
-        let q = t.label as usize;
-        let h = t.to as usize;
-        raise_split(sh, work, strip, k, q, next, h, from, to);
+    let mut j = next_rule(o, r, 0);
+    while j < r.count {
+        let label = label_of(o, r, j);
+        let stage = stage_of(o, r, j);
+        by_rule(sh, t, label, stage, work, &mut *strip, s);
+        j = next_rule(o, r, j + 1);
     }
-}
-
-// The strip raised to the branch of a load in state q, with the row below it from load `child` onward.
-fn raise_branch(
-    sh: Shape,
-    i: StoredItem,
-    rules: TransitionList,
-    work: &[u32],
-    strip: &mut [u32],
-    child: usize,
-    q: u8,
-    from: usize,
-    to: usize,
-)
-    requires { ⌜ Ready sh (now work) ⌝ }
-    requires { ⌜ RulesIn rules 0 1 (sh .stages) ⌝ }
-    requires { ⌜ (child ≤ sh .loads) × (to ≤ sh .budget + 1) × (to ≤ length (now strip)) × (i .power < powerLimit) × (i .worth ≤ maxWorth) ⌝ }
-    ensures { λ _. ⌜ Raised (now (strip .entry)) (now (strip .exit)) from to (λ a. bestRule (rulesOf rules) q (loadReach (itemOf i) (heldRow sh (now (work .entry)) child) a) .value) ⌝ }
-{
-    let mut j: usize = 0;
-    while j < rules.count {
-        let t = rules.items[j];
-        by_load_rule(sh, i, t, work, strip, child, q, from, to);
-        j += 1;
-    }
-}
-
-// The strip raised to the row from load k onward at stage g, with the row after load k from load `next` onward.
-fn raise_row(
-    sh: Shape,
-    rows: TransitionList,
-    work: &[u32],
-    strip: &mut [u32],
-    k: usize,
-    next: usize,
-    g: u8,
-    from: usize,
-    to: usize,
-)
-    requires { ⌜ Ready sh (now work) ⌝ }
-    requires { ⌜ RulesIn rows 1 (sh .states) (sh .stages) ⌝ }
-    requires { ⌜ (0 < k) × (k ≤ sh .loads) × (next ≤ sh .loads) × (to ≤ sh .budget + 1) × (to ≤ length (now strip)) ⌝ }
-    ensures { λ _. ⌜ (Rises sh (now (work .entry)) k next to → Raised (now (strip .entry)) (now (strip .exit)) from to (λ a. bestRule (rulesOf rows) g (rowReach (heldBranch sh (now (work .entry)) k) (heldRow sh (now (work .entry)) next) a) .value)) ⌝ }
-{
-    let mut j: usize = 0;
-    while j < rows.count {
-        let t = rows.items[j];
-        by_row_rule(sh, t, work, strip, k, next, g, from, to);
-        j += 1;
-    }
-}
-
-// The strip raised to the cells of load k and state or stage x.
-fn raise(p: Problem, work: &[u32], strip: &mut [u32], k: usize, x: usize, from: usize, to: usize)
-    requires { ⌜ Lawful p ⌝ }
-    requires { ⌜ Ready (shapeOf p) (now work) ⌝ }
-    requires { ⌜ (0 < k) × (k ≤ shapeOf p .loads) × (x < shapeOf p .states + shapeOf p .stages) × (to ≤ shapeOf p .budget + 1) × (to ≤ length (now strip)) ⌝ }
-    ensures { λ _. ⌜ (FilledTo p (now (work .entry)) (placeOf (shapeOf p) k x) → Raised (now (strip .entry)) (now (strip .exit)) from to (cellOf p k x)) ⌝ }
-{
-    let sh = shape_of(p);
-    let tables = p.tables;
-    let book = tables.book;
-    let loads = tables.loads;
-    if x < sh.states {
-        let rules = book.load_rules;
-        let child = next_child(loads, k, k as u8);
-        raise_branch(
-            sh,
-            item_of(p, k),
-            rules,
-            work,
-            strip,
-            child,
-            (x + 1) as u8,
-            from,
-            to,
-        );
-        return;
-    }
-    let rows = book.row_rules;
-    let l = loads.items[k - 1];
-    let next = next_child(loads, k, l.parent);
-    raise_row(
-        sh,
-        rows,
-        work,
-        strip,
-        k,
-        next,
-        (x - sh.states + 1) as u8,
-        from,
-        to,
-    );
 }
 
 // Fills the allowances from .. to of load k and state or stage x.
-pub(crate) fn stretch(p: Problem, work: &mut [u32], k: usize, x: usize, from: usize, to: usize)
-    requires { ⌜ Lawful p ⌝ }
-    requires { ⌜ Ready (shapeOf p) (now work) ⌝ }
-    requires { ⌜ (0 < k) × (k ≤ shapeOf p .loads) × (x < shapeOf p .states + shapeOf p .stages) × (from ≤ to) × (to ≤ shapeOf p .budget + 1) ⌝ }
-    ensures { λ _. ⌜ Filled p (now (work .entry)) (now (work .exit)) (placeOf (shapeOf p) k x + from) (placeOf (shapeOf p) k x + to) ⌝ }
+pub(crate) fn stretch(
+    sh: Shape,
+    o: &[u16],
+    work: &mut [u32],
+    k: usize,
+    x: usize,
+    from: usize,
+    to: usize,
+)
+    requires { ⌜ Ready sh (now work) × OutlineFits sh (now o) ⌝ }
+    requires { ⌜ (0 < k) × (k ≤ sh .loads) × (x < sh .states + sh .stages) × (from ≤ to) × (to ≤ sh .budget + 1) ⌝ }
+    ensures { λ _. ⌜ Worked sh (now (o .entry)) (now (work .entry)) (now (work .exit)) k x from to ⌝ }
 {
     let mut strip = [0u32; STRIP];
-    raise(p, &work[..], &mut strip[..], k, x, from, to);
-    let at = place(shape_of(p), k, x);
+    let t = joint_at(sh, o, k, x);
+    let r = rules_at(sh, o, x);
+    raise(sh, o, t, r, &work[..], &mut strip[..], Span { from, to });
+    let at = place(sh, k, x);
     store(work, &strip[..], at, from, to);
 }

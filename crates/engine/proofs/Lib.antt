@@ -3,6 +3,7 @@ pub mod Openers
 pub mod Sums
 pub mod Passing
 pub mod Search
+pub mod Choosing
 pub mod Reading
 pub mod Planning
 pub mod Answers

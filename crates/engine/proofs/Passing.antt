@@ -21,7 +21,7 @@ use Rattle.meaning.proofs.Entries.{tree-listed}
 use Rattle.meaning.proofs.Rows.{after-above}
 use Rattle.cells.specs.declared.problem.Problem.{Problem}
 use Rattle.cells.specs.Problem.{bookFor, loadsFor, itemsFor, Lawful}
-use Rattle.cells.proofs.Tables.{rule-to}
+use Rattle.cells.proofs.Tables.{rule-to, rule-label}
 use Rattle.cells.proofs.Stretches.{loads-long}
 use Rattle.runs.specs.declared.run.Run.{Run}
 use Rattle.engine.specs.declared.pass.Rows.{Rows}
@@ -70,14 +70,14 @@ enter-known p r f (suc j) g c h i l o = go (eqb i j) refl o
     go false q (inl e) = same (omega arith)
     go false q (inr o) = other (eqb-false i j q) o
 
-next-of : (p : Problem) (k g c : ℕ) → rowChoice p k g c .next ≡ nextSibling (loadsFor p) k
+next-of : (p : Problem) (k g c : ℕ) → rowChoice p k g c .rest ≡ nextSibling (loadsFor p) k
 unfolding rowChoice
 next-of p k g c = refl
 
 module _ (p : Problem) (ok : Lawful p) where
   -- ---- from a branch to the row below it, and from a row to its branch and the later row
   module _ (k r q c : ℕ) (h : BranchEntered p k r q c) where
-    pub below-entered : (let t = loadChoice p k q c in RowEntered p (t .child) (t .stage) (t .left))
+    pub below-entered : (let t = loadChoice p k q c in RowEntered p (t .rest) (t .stage) (t .left))
     unfolding loadChoice bookOf
     below-entered =
         let i = load-reached (bookFor p) (itemsFor p) (loadsFor p) k q c (h .part .possible) .0 in
@@ -90,14 +90,19 @@ module _ (p : Problem) (ok : Lawful p) where
         }
 
   module _ (n g c : ℕ) (h : RowEntered p (suc n) g c) where
-    pub branch-entered : (let t = rowChoice p (suc n) g c in BranchEntered p (suc n) (t .rule) (t .state) (t .share))
+    pub branch-entered : (let t = rowChoice p (suc n) g c in BranchEntered p (suc n) (t .rule) (t .label) (t .share))
     unfolding rowChoice
     branch-entered = record {
       part = branch-part (bookFor p) (itemsFor p) (loadsFor p) _ _ n g c (h .part);
       fits = le-trans (share-reached (bookFor p) (itemsFor p) (loadsFor p) (suc n) g c (omega arith) (h .part .possible) .0) (h .fits);
     }
 
-    pub later-entered : (let t = rowChoice p (suc n) g c in RowEntered p (t .next) (t .stage) (t .left))
+    -- the branch's state is one of the book
+    pub row-state : (let t = rowChoice p (suc n) g c in (0 < t .label) × (t .label ≤ p .tables .book .states))
+    unfolding rowChoice bookOf
+    row-state = rule-label (ok .rows) _ (row-found (bookFor p) (itemsFor p) (loadsFor p) (suc n) g c (omega arith) (h .part .possible))
+
+    pub later-entered : (let t = rowChoice p (suc n) g c in RowEntered p (t .rest) (t .stage) (t .left))
     unfolding rowChoice bookOf
     later-entered =
         let i = row-found (bookFor p) (itemsFor p) (loadsFor p) (suc n) g c (omega arith) (h .part .possible) in
@@ -117,11 +122,11 @@ module _ (p : Problem) (ok : Lawful p) where
       go (inl e) = omega arith
       go (inr h) = omega (arith, h .1, loads-long p ok, ok .sane .loads)
 
-  pub child-in : (k q c : ℕ) → loadChoice p k q c .child ≤ maxLoads
+  pub child-in : (k q c : ℕ) → loadChoice p k q c .rest ≤ maxLoads
   unfolding loadChoice
   child-in k q c = after-in k k
 
-  pub next-in : (k g c : ℕ) → rowChoice p k g c .next ≤ maxLoads
+  pub next-in : (k g c : ℕ) → rowChoice p k g c .rest ≤ maxLoads
   unfolding rowChoice
   next-in k g c = after-in k _
 
@@ -130,7 +135,7 @@ module _ (p : Problem) (ok : Lawful p) where
     abbrev shownFor : Entry
     shownFor = record {
       number = suc n;
-      mark = loadChoice p (suc n) q c .mark;
+      mark = loadChoice p (suc n) q c .label;
       state = q;
       rule = loadChoice p (suc n) q c .rule;
       row = r;
@@ -171,7 +176,7 @@ module _ (p : Problem) (ok : Lawful p) where
         }
       where
         known : (i j : ℕ) → suc n ≤ i → i < p .tables .loads .count → 0 < j → (j ≡ suc n) ⊎ (j < suc n) → Opens (loadsFor p) j (suc i)
-            → (loadChoice p (suc n) q c .child ≡ suc i) ⊎ Known p (s .rows) i
+            → (loadChoice p (suc n) q c .rest ≡ suc i) ⊎ Known p (s .rows) i
         known i j a b o (inl x) (inl y) = inl (ap (firstChild (loadsFor p)) (sym x) ∙ y)
         known i j a b o (inl x) (inr y) = inr (beside i b (omega arith) (ap (nextSibling (loadsFor p)) (sym x) ∙ y .1))
         known i j a b o (inr x) w = inr (led i j a b o (omega arith) w)
@@ -195,16 +200,16 @@ module _ (p : Problem) (ok : Lawful p) where
         h .led n (o .0) (le-refl n) few (o .1) (omega (arith, o .2)) (o .3)
 
     pub pass-step : (let t = rowChoice p (suc n) (getD (s .rows .stages) n 0) (getD (s .rows .left) n 0) in
-        Passed p (suc n) (passedLoad (record { run = s .run; rows = entered (s .rows) (t .next) (t .stage) (t .left) }) (suc n) (t .rule) (t .state)
-        (loadChoice p (suc n) (t .state) (t .share))))
+        Passed p (suc n) (passedLoad (record { run = s .run; rows = entered (s .rows) (t .rest) (t .stage) (t .left) }) (suc n) (t .rule) (t .label)
+        (loadChoice p (suc n) (t .label) (t .share))))
     pass-step =
         let t = rowChoice p (suc n) (getD (s .rows .stages) n 0) (getD (s .rows .left) n 0) in
         let later = later-entered n _ _ row-known in
-        let rows = entered (s .rows) (t .next) (t .stage) (t .left) in
-        pass-load n (t .rule) (t .state) (t .share) few (branch-entered n _ _ row-known) (record { run = s .run; rows = rows }) (h .run)
-        (enter-full (s .rows) (t .next) (t .stage) (t .left) (h .full))
-        (λ i j a b o d w. enter-known p (s .rows) (h .full) (t .next) (t .stage) (t .left) later i (omega (arith, ok .sane .loads)) (inr (h .led i j (omega arith) b o d w)))
-        (λ i b o w. enter-known p (s .rows) (h .full) (t .next) (t .stage) (t .left) later i (omega (arith, ok .sane .loads)) (inl (next-is ∙ w)))
+        let rows = entered (s .rows) (t .rest) (t .stage) (t .left) in
+        pass-load n (t .rule) (t .label) (t .share) few (branch-entered n _ _ row-known) (record { run = s .run; rows = rows }) (h .run)
+        (enter-full (s .rows) (t .rest) (t .stage) (t .left) (h .full))
+        (λ i j a b o d w. enter-known p (s .rows) (h .full) (t .rest) (t .stage) (t .left) later i (omega (arith, ok .sane .loads)) (inr (h .led i j (omega arith) b o d w)))
+        (λ i b o w. enter-known p (s .rows) (h .full) (t .rest) (t .stage) (t .left) later i (omega (arith, ok .sane .loads)) (inl (next-is ∙ w)))
       where
-        next-is : rowChoice p (suc n) (getD (s .rows .stages) n 0) (getD (s .rows .left) n 0) .next ≡ nextSibling (loadsFor p) (suc n)
+        next-is : rowChoice p (suc n) (getD (s .rows .stages) n 0) (getD (s .rows .left) n 0) .rest ≡ nextSibling (loadsFor p) (suc n)
         next-is = next-of p (suc n) _ _

@@ -1,9 +1,9 @@
 -- The problems of a plan and of a check are the tables' own: their best cells, their entries and the number of cells. Assumes nothing.
-use Prim.Native.Nat.{ℕ, _+_, _*_, _≤_}
+use Prim.Native.Nat.{ℕ, _+_, _*_, _≤_, _<_}
 use mathlib.Core.Path.{_≡_, sym, ap, _∙_, subst}
 use mathlib.Core.List.{List}
 use native.Mathlib.Omega.{arith}
-use lib.ListN.{length}
+use lib.ListN.{length, drop}
 use Rattle.marks.specs.declared.LoadSet.{LoadSet}
 use Rattle.tables.specs.Limits.{maxLoads}
 use Rattle.tables.specs.declared.tables.StoredTables.{StoredTables}
@@ -11,32 +11,41 @@ use Rattle.tables.specs.Stored.{bookOf, tablesOf}
 use Rattle.meaning.specs.Best.{bestPlan, bestCheck}
 use Rattle.meaning.specs.Choice.{inOrder, plan, check, planEntries, checkEntries}
 use Rattle.cells.specs.declared.problem.Problem.{Problem}
-use Rattle.cells.specs.Problem.{planProblem, checkProblem, loadsFor, shapeOf, Lawful}
+use Rattle.cells.specs.declared.problem.Shape.{Shape}
+use Rattle.cells.specs.Problem.{planProblem, checkProblem, loadsFor, shapeOf, Sane, Lawful}
 use Rattle.marks.specs.Sets.{markIn}
-use Rattle.cells.specs.Work.{cellsNeeded, FilledTo, Filled}
-use Rattle.cells.proofs.Filling.{holds-none}
+use Rattle.cells.specs.Outline.{Outlines}
+use Rattle.cells.specs.Work.{cellsNeeded, Ready, FilledTo}
+use Rattle.cells.specs.Stretch.{FilledBy}
+use Rattle.cells.proofs.Filling.{holds-none, filled-rest}
 use Rattle.cells.proofs.Places.{cells-small}
 use Rattle.cells.proofs.Stretches.{loads-long}
-use Rattle.runs.specs.declared.outcome.StoredOutcome.{StoredOutcome}
 use Rattle.runs.specs.Outcome.{found, storedOutcome}
-use Rattle.engine.specs.Pass.{bestFor, entriesFor, Complete}
+use Rattle.engine.specs.Pass.{bestFor, entriesFor, answerTo, Complete}
 use Rattle.meaning.specs.Cells.{cellsOf}
 
--- work that was filled whole
-pub complete : (p : Problem) → Lawful p → (w v : List ℕ) (n : ℕ) → n ≡ cellsNeeded (shapeOf p) → Filled p w v 0 n → length v ≡ length w
-    → cellsNeeded (shapeOf p) ≤ length w → Complete p v
-complete p ok w v n e f l room = record {
-  lawful = ok;
-  ready = record { sane = ok .sane; room = omega arith };
-  holds = subst (λ i. FilledTo p v i) e (f .holds (holds-none p w));
-}
+-- work that was filled whole, by the outline of a problem
+module _ (p : Problem) (sh : Shape) (e : sh ≡ shapeOf p) (o : List ℕ) (d : Outlines p (shapeOf p) o) (w : List ℕ) (room : cellsNeeded (shapeOf p) ≤ length w) where
+  pub outlined : Outlines p sh o
+  outlined = subst (λ (y : Shape). Outlines p y o) (sym e) d
 
--- what a search of a problem answers
-abbrev answered : Problem → StoredOutcome
-answered p = storedOutcome (found (bestFor p) (inOrder (entriesFor p) 1 (p .tables .loads .count)))
+  pub ready : Ready sh w
+  ready = record { sane = subst Sane (sym e) (d .lawful .sane); room = omega (arith, ap cellsNeeded e) }
+
+  module _ (v : List ℕ) (n : ℕ) (en : n ≡ cellsNeeded sh) (f : FilledBy sh o w v 0 n) (l : length v ≡ length w) where
+    pub complete : 0 < p .tables .loads .count → Complete p sh o v
+    complete some = record {
+      outlined = outlined;
+      ready = record { sane = ready .sane; room = omega (arith, ready .room) };
+      holds = subst (λ i. FilledTo p v i) en (f p outlined .holds (holds-none p w));
+      some = some;
+    }
+
+    pub rest-kept : drop (cellsNeeded (shapeOf p)) v ≡ drop (cellsNeeded (shapeOf p)) w
+    rest-kept = subst (λ i. drop i v ≡ drop i w) (en ∙ ap cellsNeeded e) (filled-rest p (f p outlined) l)
 
 module _ (t : StoredTables) (p : Problem) (ok : Lawful p) where
-  pub plan-is : p ≡ planProblem t → answered p ≡ storedOutcome (found (bestPlan (tablesOf t)) (planEntries (tablesOf t)))
+  pub plan-is : p ≡ planProblem t → answerTo p ≡ storedOutcome (found (bestPlan (tablesOf t)) (planEntries (tablesOf t)))
   unfolding bestPlan plan planEntries tablesOf
   plan-is e =
       ap (λ n. storedOutcome (found (bestFor p) (inOrder (entriesFor p) 1 n))) (sym (loads-long p ok))
@@ -49,7 +58,7 @@ module _ (t : StoredTables) (p : Problem) (ok : Lawful p) where
       ∙ ap (λ (p : Problem). length (loadsFor p) * (p .tables .book .states + p .tables .book .stages) * (p .tables .budget + 1)) e
 
   module _ (σ : LoadSet) where
-    pub check-is : p ≡ checkProblem t σ → answered p ≡ storedOutcome (found (bestCheck (tablesOf t) (markIn σ)) (checkEntries (tablesOf t) (markIn σ)))
+    pub check-is : p ≡ checkProblem t σ → answerTo p ≡ storedOutcome (found (bestCheck (tablesOf t) (markIn σ)) (checkEntries (tablesOf t) (markIn σ)))
     unfolding bestCheck check checkEntries tablesOf
     check-is e =
         ap (λ n. storedOutcome (found (bestFor p) (inOrder (entriesFor p) 1 n))) (sym (loads-long p ok))

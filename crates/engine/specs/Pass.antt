@@ -1,7 +1,7 @@
 -- The pass over the loads in number order: what is chosen for each, and what is known when some loads were passed.
 -- It stands for "Equals are parted from the top down" of paper 01: a load's row is known when it is reached, since its parent and the
 -- earlier children of its row have lower numbers. Assumes nothing.
-use Prim.Native.Nat.{ℕ, zero, suc, _-_, _≤_, _<_}
+use Prim.Native.Nat.{ℕ, zero, suc, _+_, _-_, _≤_, _<_}
 use mathlib.Core.Path.{_≡_}
 use mathlib.Core.List.{List}
 use mathlib.Core.Logic.{_⊎_}
@@ -12,14 +12,18 @@ use Rattle.meaning.specs.Forest.{tree}
 use Rattle.meaning.specs.Best.{bestTree}
 use Rattle.tables.specs.declared.entry.Entry.{Entry}
 use Rattle.meaning.specs.Choice.{chooseTree, inOrder, marksOf, assignedBy}
-use Rattle.meaning.specs.Cells.{firstChild, nextSibling}
+use Rattle.meaning.specs.Cell.{draw}
+use Rattle.meaning.specs.Cells.{loadAt, firstChild, nextSibling}
 use Rattle.cells.specs.declared.problem.Problem.{Problem}
-use Rattle.cells.specs.Problem.{bookFor, loadsFor, itemsFor, shapeOf, Lawful}
+use Rattle.cells.specs.declared.problem.Shape.{Shape}
+use Rattle.cells.specs.Problem.{bookFor, loadsFor, itemsFor}
+use Rattle.cells.specs.Outline.{Outlines}
 use Rattle.cells.specs.Work.{cellsNeeded, Ready, FilledTo}
+use Rattle.runs.specs.declared.outcome.StoredOutcome.{StoredOutcome}
+use Rattle.runs.specs.Outcome.{found, storedOutcome}
 use Rattle.engine.specs.declared.pass.Rows.{Rows}
 use Rattle.engine.specs.declared.pass.Pass.{Pass}
-use Rattle.engine.specs.declared.choice.LoadChoice.{LoadChoice}
-use Rattle.engine.specs.declared.choice.RowChoice.{RowChoice}
+use Rattle.engine.specs.declared.choice.Choice.{Choice}
 use Rattle.runs.specs.Runs.{runOf, withEntry}
 use Rattle.engine.specs.Parts.{loadBest, loadRule, belowLeft, rowBest, rowRule, shareBest, BranchPart, RowPart}
 
@@ -30,29 +34,35 @@ bestFor p = bestTree (bookFor p) (tree (itemsFor p) (loadsFor p)) (p .tables .bu
 abbrev pub entriesFor : Problem → List Entry
 entriesFor p = chooseTree (bookFor p) (tree (itemsFor p) (loadsFor p)) (p .tables .budget)
 
--- a problem in range, all of whose cells the work holds
-pub record Complete (p : Problem) (w : List ℕ) : Type 0 where
-  pub lawful : Lawful p
-  pub ready : Ready (shapeOf p) w
-  pub holds : FilledTo p w (cellsNeeded (shapeOf p))
+-- what a search answers
+abbrev pub answerTo : Problem → StoredOutcome
+answerTo p = storedOutcome (found (bestFor p) (inOrder (entriesFor p) 1 (p .tables .loads .count)))
+
+-- a problem with its outline, all of whose cells the work holds
+pub record Complete (p : Problem) (sh : Shape) (o w : List ℕ) : Type 0 where
+  pub outlined : Outlines p sh o
+  pub ready : Ready sh w
+  pub holds : FilledTo p w (cellsNeeded sh)
+  pub some : 0 < p .tables .loads .count
 
 -- what is chosen for load k in state q with allowance c
-unfoldable pub loadChoice : Problem → (k q c : ℕ) → LoadChoice
+unfoldable pub loadChoice : Problem → (k q c : ℕ) → Choice
 loadChoice p k q c = record {
   rule = suc (loadBest (bookFor p) (itemsFor p) (loadsFor p) k q c .index);
-  mark = loadRule (bookFor p) (itemsFor p) (loadsFor p) k q c .label;
-  child = firstChild (loadsFor p) k;
+  label = loadRule (bookFor p) (itemsFor p) (loadsFor p) k q c .label;
+  share = draw (itemsFor p k (loadAt (loadsFor p) k)) (loadRule (bookFor p) (itemsFor p) (loadsFor p) k q c .label);
+  rest = firstChild (loadsFor p) k;
   stage = loadRule (bookFor p) (itemsFor p) (loadsFor p) k q c .to;
   left = belowLeft (bookFor p) (itemsFor p) (loadsFor p) k q c;
 }
 
 -- what is chosen where the row from load k onward is entered at stage g with allowance c
-unfoldable pub rowChoice : Problem → (k g c : ℕ) → RowChoice
+unfoldable pub rowChoice : Problem → (k g c : ℕ) → Choice
 rowChoice p k g c = record {
   rule = suc (rowBest (bookFor p) (itemsFor p) (loadsFor p) k g c .index);
-  state = rowRule (bookFor p) (itemsFor p) (loadsFor p) k g c .label;
+  label = rowRule (bookFor p) (itemsFor p) (loadsFor p) k g c .label;
   share = shareBest (bookFor p) (itemsFor p) (loadsFor p) k g c .index;
-  next = nextSibling (loadsFor p) k;
+  rest = nextSibling (loadsFor p) k;
   stage = rowRule (bookFor p) (itemsFor p) (loadsFor p) k g c .to;
   left = c - shareBest (bookFor p) (itemsFor p) (loadsFor p) k g c .index;
 }
@@ -63,10 +73,10 @@ entered r zero g c = r
 entered r (suc j) g c = record { stages = set (r .stages) j g; left = set (r .left) j c }
 
 -- load k is passed, and the row below it is entered
-unfoldable pub passedLoad : Pass → (k rowRule q : ℕ) → LoadChoice → Pass
+unfoldable pub passedLoad : Pass → (k rowRule q : ℕ) → Choice → Pass
 passedLoad s k r q t = record {
-  run = withEntry (s .run) (record { number = k; mark = t .mark; state = q; rule = t .rule; row = r });
-  rows = entered (s .rows) (t .child) (t .stage) (t .left);
+  run = withEntry (s .run) (record { number = k; mark = t .label; state = q; rule = t .rule; row = r });
+  rows = entered (s .rows) (t .rest) (t .stage) (t .left);
 }
 
 -- a branch of load k and a row from load k onward that are part of the chosen run, with an allowance and a stage in range
@@ -97,3 +107,25 @@ pub record Passed (p : Problem) (n : ℕ) (s : Pass) : Type 0 where
   pub run : s .run ≡ runOf (inOrder (entriesFor p) 1 n)
   pub full : Full (s .rows)
   pub led : (i j : ℕ) → n ≤ i → i < p .tables .loads .count → 0 < j → j ≤ n → Opens (loadsFor p) j (suc i) → Known p (s .rows) i
+
+-- ---- of the outline alone
+-- it is the outline of some problem whose cells the work holds
+pub record Searched (sh : Shape) (o w : List ℕ) : Type 0 where
+  pub problem : Problem
+  pub complete : Complete problem sh o w
+
+-- and the first n loads were passed, but not all
+pub record Passing (sh : Shape) (o w : List ℕ) (n : ℕ) (s : Pass) : Type 0 where
+  pub problem : Problem
+  pub complete : Complete problem sh o w
+  pub passed : Passed problem n s
+  pub low : 0 < n
+  pub high : n < problem .tables .loads .count
+
+-- whatever problem that is, r is the pass with one load more
+abbrev pub PassedOn : Shape → (o w : List ℕ) → ℕ → (s r : Pass) → Type 0
+PassedOn sh o w n s r = (p : Problem) → Complete p sh o w → Passed p n s → 0 < n → n < p .tables .loads .count → Passed p (n + 1) r
+
+-- and r is the answer to it
+abbrev pub Traced : Shape → (o w : List ℕ) → StoredOutcome → Type 0
+Traced sh o w r = (p : Problem) → Complete p sh o w → r ≡ answerTo p

@@ -1,88 +1,134 @@
-// What is chosen for one load, read from the filled cells.
-use crate::best::best_load_rule;
-use crate::best::best_row_rule;
-use crate::best::best_share;
-use cells::problem::Problem;
+// What is chosen for one load, read from the filled cells: the lowest rule that still reaches the best, and the smallest allowance that does.
+use crate::best::branch_at;
+use crate::best::row_at;
+use cells::cell;
+use cells::outline::Joint;
+use cells::outline::Rules;
+use cells::outline::joint_at;
+use cells::outline::label_of;
+use cells::outline::next_rule;
+use cells::outline::rules_at;
+use cells::outline::stage_of;
+use cells::problem::Shape;
 use cells::problem::draw_of;
-use cells::problem::item_of;
-use cells::problem::next_child;
-use cells::problem::shape_of;
+use cells::problem::own_of;
+use cells::problem::serves;
+use cells::work::place;
 ghost use mathlib.Core.Path.{_≡_};
-ghost use Prim.Native.Nat.{_≤_, _<_};
-ghost use Rattle.cells.specs.Work.{branchFor, rowFor};
-ghost use Rattle.engine.specs.Pass.{Complete, loadChoice, rowChoice};
+ghost use Prim.Native.Nat.{_+_, _≤_, _<_};
+ghost use Rattle.cells.specs.Outline.{jointIn, rulesIn, bestIn, JointFits, RuleFits, RulesFit, OutlineFits};
+ghost use Rattle.cells.specs.Work.{placeOf, Ready, cellsFrom};
+ghost use Rattle.cells.specs.Stretch.{leading, reachOf, reached};
+ghost use Rattle.engine.specs.Search.{splitAt, shareOf, choiceIn, FirstAt, Reaches};
 
-// What is chosen for a load: its rule's number, its mark, and its row: the first load, its stage and its allowance.
-pub struct LoadChoice {
+// What is chosen for a load in its state, or for the row from a load onward at its stage: the rule's number and its label, which is the
+// load's mark or its state; the allowance of the load or of its branch; and the row that follows: its first load, its stage and its allowance.
+pub struct Choice {
     pub rule: u8,
-    pub mark: u8,
-    pub child: usize,
-    pub stage: u8,
-    pub left: usize,
-}
-
-// What is chosen where a row goes on: the rule's number, the load's state and allowance, and the later row: its first load, its stage and
-// its allowance.
-pub struct RowChoice {
-    pub rule: u8,
-    pub state: u8,
+    pub label: u8,
     pub share: usize,
-    pub next: usize,
+    pub rest: usize,
     pub stage: u8,
     pub left: usize,
 }
 
-// The lowest load rule that still reaches the best for load k in state q with allowance c, which is possible.
-pub(crate) fn load_choice(p: Problem, work: &[u32], k: usize, q: u8, c: usize) -> LoadChoice
-    requires { ⌜ Complete p (now work) ⌝ }
-    requires { ⌜ (0 < k) × (k ≤ p .tables .loads .count) × (c ≤ p .tables .budget) × (0 < branchFor p k q c) ⌝ }
-    ensures { λ r. ⌜ r ≡ loadChoice p k q c ⌝ }
-{
-    let sh = shape_of(p);
-    let tables = p.tables;
-    let book = tables.book;
-    let rules = book.load_rules;
-    let loads = tables.loads;
-    let child = next_child(loads, k, k as u8);
-    let i = item_of(p, k);
-    let b = best_load_rule(sh, rules, i, work, child, q, c);
-    let at = b.index;
-    let t = rules.items[at];
-    let left = c - draw_of(i, t.label);
-    LoadChoice {
-        rule: (at + 1) as u8,
-        mark: t.label,
-        child: child,
-        stage: t.to,
-        left: left,
-    }
+impl Choice {
+    const NONE: Choice = Choice {
+        rule: 0,
+        label: 0,
+        share: 0,
+        rest: 0,
+        stage: 0,
+        left: 0,
+    };
 }
 
-// The lowest row rule that still reaches the best for the row from load k onward at stage g with allowance c, which is possible; then the
-// smallest allowance for the load's branch that does.
-pub(crate) fn row_choice(p: Problem, work: &[u32], k: usize, g: u8, c: usize) -> RowChoice
-    requires { ⌜ Complete p (now work) ⌝ }
-    requires { ⌜ (0 < k) × (k ≤ p .tables .loads .count) × (c ≤ p .tables .budget) × (0 < rowFor p k g c) ⌝ }
-    ensures { λ r. ⌜ r ≡ rowChoice p k g c ⌝ }
+// The smallest part of the allowance c for the joint's branch in state q that reaches the goal, beside its row at stage h; c + 1 if none does.
+fn first_share(sh: Shape, t: Joint, q: usize, h: usize, work: &[u32], c: usize, goal: u32) -> usize
+    requires { ⌜ Ready sh (now work) × JointFits sh t ⌝ }
+    requires { ⌜ (0 < q) × (q ≤ sh .states) × (0 < h) × (h ≤ sh .stages) × (c ≤ sh .budget) ⌝ }
+    ensures { λ r. ⌜ FirstAt (splitAt sh (now (work .entry)) t c (leading q h)) goal (c + 1) r ⌝ }
 {
-    let sh = shape_of(p);
-    let tables = p.tables;
-    let book = tables.book;
-    let rules = book.row_rules;
-    let loads = tables.loads;
-    let l = loads.items[k - 1];
-    let next = next_child(loads, k, l.parent);
-    let b = best_row_rule(sh, rules, work, k, next, g, c);
-    let at = b.index;
-    let t = rules.items[at];
-    let s = best_share(sh, work, k, t.label as usize, next, t.to as usize, c);
-    let share = s.index;
-    RowChoice {
-        rule: (at + 1) as u8,
-        state: t.label,
-        share: share,
-        next: next,
-        stage: t.to,
-        left: c - share,
+    let mut a: usize = 0;
+    while a <= c {
+        // The row comes first: where it ends it is the same for every allowance.
+        let row = row_at(sh, work, t.rest, h, c - a);
+        let branch = branch_at(sh, work, t.load, q, a);
+        if cell::join(row, branch) == goal {
+            return a;
+        }
+        a += 1;
     }
+    a
+}
+
+// The smallest allowance of what a rule joins with which it reaches the goal; c + 1 if it does not.
+fn share_for(
+    sh: Shape,
+    t: Joint,
+    label: usize,
+    stage: usize,
+    work: &[u32],
+    c: usize,
+    goal: u32,
+) -> usize
+    requires { ⌜ Ready sh (now work) × JointFits sh t × RuleFits sh (t .branch) (leading label stage) ⌝ }
+    requires { ⌜ c ≤ sh .budget ⌝ }
+    ensures { λ r. ⌜ (0 < goal → reachOf sh (now (work .entry)) t c (leading label stage) ≤ goal → Reaches (reachOf sh (now (work .entry)) t c (leading label stage)) (shareOf sh (now (work .entry)) t c (leading label stage)) goal c r) ⌝ }
+{
+    if t.branch {
+        return first_share(sh, t, label, stage, work, c, goal);
+    }
+    if !serves(t.item, label) {
+        return c + 1;
+    }
+    let d = draw_of(t.item, label);
+    if c < d {
+        return c + 1;
+    }
+    let own = own_of(t.item, label);
+    let row = row_at(sh, work, t.rest, stage, c - d);
+    if cell::join(own, row) == goal {
+        return d;
+    }
+    c + 1
+}
+
+// The lowest of these rules that reaches the goal with the allowance c.
+fn chosen(sh: Shape, o: &[u16], t: Joint, r: Rules, work: &[u32], c: usize, goal: u32) -> Choice
+    requires { ⌜ Ready sh (now work) × JointFits sh t × RulesFit sh (now o) (t .branch) r ⌝ }
+    requires { ⌜ c ≤ sh .budget ⌝ }
+    ensures { λ d. ⌜ (goal ≡ bestIn (now (o .entry)) r (reachOf sh (now (work .entry)) t c) .value → 0 < goal → d ≡ choiceIn sh (now (o .entry)) (now (work .entry)) t r c) ⌝ }
+{
+    let mut j = next_rule(o, r, 0);
+    while j < r.count {
+        let label = label_of(o, r, j);
+        let stage = stage_of(o, r, j);
+        let share = share_for(sh, t, label, stage, work, c, goal);
+        if share <= c {
+            return Choice {
+                rule: (j + 1) as u8,
+                label: label as u8,
+                share: share,
+                rest: t.rest,
+                stage: stage as u8,
+                left: c - share,
+            };
+        }
+        j = next_rule(o, r, j + 1);
+    }
+    Choice::NONE
+}
+
+// What is chosen for load k and state or stage x with the allowance c, where that is possible.
+pub(crate) fn choose(sh: Shape, o: &[u16], work: &[u32], k: usize, x: usize, c: usize) -> Choice
+    requires { ⌜ Ready sh (now work) × OutlineFits sh (now o) ⌝ }
+    requires { ⌜ (0 < k) × (k ≤ sh .loads) × (x < sh .states + sh .stages) × (c ≤ sh .budget) ⌝ }
+    ensures { λ d. ⌜ (cellsFrom (now (work .entry)) (placeOf sh k x) c ≡ reached sh (now (o .entry)) (now (work .entry)) k x c → 0 < reached sh (now (o .entry)) (now (work .entry)) k x c → d ≡ choiceIn sh (now (o .entry)) (now (work .entry)) (jointIn sh (now (o .entry)) k x) (rulesIn sh (now (o .entry)) x) c) ⌝ }
+{
+    let t = joint_at(sh, o, k, x);
+    let r = rules_at(sh, o, x);
+    let at = place(sh, k, x);
+    let goal = cell::held(work[at + c]);
+    chosen(sh, o, t, r, work, c, goal)
 }

@@ -1,6 +1,9 @@
 // The whole plan, and the check of a set.
 use crate::pass::trace;
 use cells::fill::fill;
+use cells::outline::OUTLINE;
+use cells::outline::put_outline;
+use cells::problem::Problem;
 use cells::problem::check_problem;
 use cells::problem::plan_problem;
 use cells::problem::shape_of;
@@ -21,9 +24,26 @@ ghost use Rattle.meaning.specs.Choice.{planEntries, checkEntries};
 ghost use Rattle.marks.specs.Sets.{markIn};
 ghost use Rattle.runs.specs.Outcome.{found, storedOutcome};
 ghost use Rattle.meaning.specs.Cells.{cellsOf};
+ghost use Rattle.cells.specs.Problem.{shapeOf, Lawful};
+ghost use Rattle.cells.specs.Work.{cellsNeeded};
+ghost use Rattle.engine.specs.Pass.{answerTo};
 
 // The cells of a check: every load with 8 states and 8 stages, one allowance.
 const CHECK_CELLS: usize = MAX_LOADS * 16;
+
+// A problem is searched: the cells are filled, and the run is read back from them.
+fn search(p: Problem, work: &mut [u32]) -> StoredOutcome
+    requires { ⌜ Lawful p ⌝ }
+    requires { ⌜ (0 < p .tables .loads .count) × (cellsNeeded (shapeOf p) ≤ length (now work)) ⌝ }
+    ensures answer { λ r. ⌜ r ≡ answerTo p ⌝ }
+    ensures rest { λ _. ⌜ drop (cellsNeeded (shapeOf p)) (now (work .exit)) ≡ drop (cellsNeeded (shapeOf p)) (now (work .entry)) ⌝ }
+{
+    let sh = shape_of(p);
+    let mut outline = [0u16; OUTLINE];
+    put_outline(&mut outline[..], p);
+    fill(sh, &outline[..], &mut *work, 0, cells_needed(sh));
+    trace(sh, &outline[..], &work[..])
+}
 
 // The plan of the tables, worked out in the lent cells, which are 0 afterwards.
 pub fn plan(t: StoredTables, work: &mut [u32]) -> StoredOutcome
@@ -33,10 +53,8 @@ pub fn plan(t: StoredTables, work: &mut [u32]) -> StoredOutcome
     ensures { λ _. ⌜ now (work .exit) ≡ replicate (cellsOf (tablesOf t)) 0 ++ drop (cellsOf (tablesOf t)) (now (work .entry)) ⌝ }
 {
     let p = plan_problem(t);
-    let n = cells_needed(shape_of(p));
-    fill(p, work, 0, n);
-    let found = trace(p, &work[..]);
-    clear(work, n);
+    let found = search(p, &mut *work);
+    clear(work, cells_needed(shape_of(p)));
     found
 }
 
@@ -47,8 +65,6 @@ pub fn check(t: StoredTables, set: LoadSet) -> StoredOutcome
     ensures { λ r. ⌜ r ≡ storedOutcome (found (bestCheck (tablesOf t) (markIn set)) (checkEntries (tablesOf t) (markIn set))) ⌝ }
 {
     let p = check_problem(t, set);
-    let n = cells_needed(shape_of(p));
     let mut work = [0u32; CHECK_CELLS];
-    fill(p, &mut work[..], 0, n);
-    trace(p, &work[..])
+    search(p, &mut work[..])
 }

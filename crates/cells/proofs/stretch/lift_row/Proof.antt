@@ -40,29 +40,36 @@ module _ (sh : Shape) (w s t : List ℕ) (k g shift own from to : ℕ) where
 
 returns : tie.Need-returns
 returns c =
-    let s = c .before .before .before .before .before .before .before .before .before .before .args in
-    flat-row (s .sh) (s .work .now) (s .strip .now) _ (s .k) (s .g) (s .shift) (s .own) (s .from) (s .to)
-    (c .before .before .before .before .before .before .before .if1 .taken) _ (c .before .before .before .before .before .has .ensures) (c .before .before .before .before .if2 .taken) (c .before .before .flat .ensures)
+    let f = c .before .before in
+    let h = f .before .before .before in
+    let t = h .before .before in
+    let s = t .before .before .before .before .args in
+    flat-row (s .sh) (s .work .now) (s .strip .now) _ (s .row .load) (s .row .stage) (s .shift) (s .own) (s .s .from) (s .s .to)
+    (t .if1 .taken) _ (h .has .ensures) (f .before .before .if2 .taken) (f .flat .ensures)
 
 returns-2 : tie.Need-returns-2
 returns-2 c =
-    let s = c .before .before .before .before .before .before .args in
-    no-row (s .sh) (s .work .now) (s .strip .now) (s .strip .now) (s .k) (s .g) (s .shift) (s .own) (s .from) (s .to)
-    (c .before .before .before .if1 .taken) _ (c .before .has .ensures) (c .if2 .left)
+    let t = c .before .before .before in
+    let s = t .before .before .before .before .args in
+    no-row (s .sh) (s .work .now) (s .strip .now) (s .strip .now) (s .row .load) (s .row .stage) (s .shift) (s .own) (s .s .from) (s .s .to)
+    (t .if1 .taken) _ (c .before .has .ensures) (c .if2 .left)
 
 lift-requires : tie.Need-lift-requires
 lift-requires c κs =
-    let s = c .before .before .before .before .before .before in
-    let h = place-room (s .args .sh) (s .args .k) (s .args .sh .states + (s .args .g - 1)) (omega arith) (omega arith) (omega arith) in
+    let s = c .before .before .before .before .before .before .before .before in
+    let h = place-room (s .args .sh) (s .args .row .load) (s .args .sh .states + (s .args .row .stage - 1)) (omega arith) (omega arith) (omega arith) in
     let e = c .before .place .ensures in
     let r = s .pre .0 .room in
     (omega arith, omega arith, omega arith)
 
 returns-3 : tie.Need-returns-3
 returns-3 c =
-    let s = c .before .before .before .before .before .before .before .before .before .args in
-    held-row (s .sh) (s .work .now) (s .strip .now) _ (s .k) (s .g) (s .shift) (s .own) (s .from) (s .to)
-    (c .before .before .before .before .before .before .if1 .left) _ (c .before .before .before .before .place .ensures) (c .before .before .lift .ensures)
+    let f = c .before .before in
+    let p = f .before .before in
+    let t = p .before .before .before in
+    let s = t .before .before .before .before .args in
+    held-row (s .sh) (s .work .now) (s .strip .now) _ (s .row .load) (s .row .stage) (s .shift) (s .own) (s .s .from) (s .s .to)
+    (t .if1 .left) _ (p .place .ensures) (f .lift .ensures)
 
 pub lift-row-spec : {M : Type 1} → statement M
 lift-row-spec =

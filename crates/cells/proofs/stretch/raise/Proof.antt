@@ -1,123 +1,108 @@
--- `raise` meets its contract. Assumes nothing.
-use Prim.Native.Nat.{ℕ, zero, suc, _+_, _-_, _≤_, _<_}
-use mathlib.Core.Path.{_≡_, refl, sym, ap, _∙_, subst}
-use mathlib.Core.List.{List}
+-- `raise` meets its contract: before each turn the strip is raised to the best of the rules below the next one. Assumes nothing.
+use Prim.Native.Nat.{_-_, _≤_, _<_}
+use mathlib.Core.Path.{_≡_, refl, _∙_, subst}
 use native.Mathlib.Omega.{arith}
 use borrow.Author.Needs.{needs}
-use lib.ListN.{getD}
-use Rattle.tables.specs.declared.load.Load.{Load}
-use Rattle.tables.specs.Tables.{noLoad}
-use Rattle.tables.specs.Stored.{rulesOf}
-use Rattle.meaning.specs.Forest.{after}
-use Rattle.meaning.specs.Best.{bestRule, loadReach, rowReach}
-use Rattle.meaning.specs.Cells.{loadAt}
-use Rattle.cells.specs.declared.problem.Problem.{Problem}
-use Rattle.cells.specs.declared.problem.Shape.{Shape}
-use Rattle.cells.specs.declared.problem.StoredItem.{StoredItem}
-use Rattle.cells.specs.Problem.{loadsFor, itemsFor, itemOf, shapeOf, RulesIn, Lawful}
-use Rattle.cells.specs.Work.{placeOf, heldBranch, heldRow, cellOf, Ready, FilledTo}
-use Rattle.cells.specs.Strip.{Raised, Rises}
-use Rattle.cells.proofs.Tables.{load-stored}
-use Rattle.cells.proofs.Strips.{raised-agree}
-use Rattle.cells.proofs.Stretches.{branch-stretch, row-stretch, rises}
+use lib.ListN.{length}
+use Rattle.cells.specs.Outline.{ruleIn}
+use Rattle.cells.specs.Stretch.{reachOf, Sound}
+use Rattle.cells.proofs.Strips.{raised-agree, raised-start}
+use Rattle.cells.proofs.Served.{reach-leading, fits-leading}
+use Rattle.cells.proofs.Rules.{term, Ruled, strip-passed, strip-raised}
 use Rattle.cells.proofs.stretch.raise.Statement.{statement}
 use Rattle.cells.proofs.stretch.raise.Tie as tie
 
-module _ (p : Problem) (ok : Lawful p) (w s t : List ℕ) (x from to : ℕ) (lt : to ≤ shapeOf p .budget + 1) (sh : Shape) (e : sh ≡ shapeOf p) where
-  abbrev Cells : ℕ → Type 0
-  Cells k = FilledTo p w (placeOf (shapeOf p) k x) → Raised s t from to (cellOf p k x)
+abbrev Inv-loop : tie.InvT-loop
+Inv-loop sh o t r work strip₀ s j₀ strip j =
+    (j ≤ r .count) × (length strip ≡ length strip₀) × (j < r .count → ruleIn o (r .at) j .from ≡ r .from)
+    × (Sound sh work t (s .to) → Ruled o r (reachOf sh work t) strip₀ strip (s .from) (s .to) j)
 
-  branch : (k : ℕ) → 0 < k → k ≤ shapeOf p .loads → (i : StoredItem) → itemOf i ≡ itemsFor p k (loadAt (loadsFor p) k) → (child q : ℕ) → x < sh .states
-      → q ≡ x + 1 → child ≡ after (loadsFor p) k k
-      → Raised s t from to (λ a. bestRule (rulesOf (p .tables .book .«load_rules»)) q (loadReach (itemOf i) (heldRow sh w child) a) .value) → Cells k
-  branch zero h l i ei child q lx eq ec r = absurd (omega arith)
-  branch (suc j) h l i ei child q lx eq ec r = λ b. raised-agree r _ (λ a m n.
-      ap (λ (z : Shape). bestRule (rulesOf (p .tables .book .«load_rules»)) q (loadReach (itemOf i) (heldRow z w child) a) .value) e
-      ∙ branch-stretch p ok w j x l b i ei child q (omega (arith, ap (λ (z : Shape). z .states) e)) eq ec a (omega arith))
+abbrev μ-loop : tie.MeasureT-loop
+μ-loop sh o t r work strip₀ s j₀ strip j = r .count - j
 
-  row : (k : ℕ) → 0 < k → k ≤ shapeOf p .loads → (next g : ℕ) → sh .states ≤ x → g ≡ x - sh .states + 1
-      → next ≡ after (loadsFor p) k (getD (p .tables .loads .items) (k - 1) noLoad .parent)
-      → (Rises sh w k next to
-      → Raised s t from to (λ a. bestRule (rulesOf (p .tables .book .«row_rules»)) g (rowReach (heldBranch sh w k) (heldRow sh w next) a) .value))
-      → Cells k
-  row zero h l next g lx eq en r = absurd (omega arith)
-  row (suc j) h l next g lx eq en r =
-      let d = ap (λ (z : Shape). z .states) e in
-      let n = en ∙ ap (λ (y : Load). after (loadsFor p) (suc j) (y .parent)) (load-stored (p .tables .loads) (suc j) h l) in
-      λ b. raised-agree (r (subst (λ z. Rises z w (suc j) next to) (sym e) (rises p ok w j x l b next to (omega arith) n lt))) _ (λ a m o.
-      ap (λ (z : Shape). bestRule (rulesOf (p .tables .book .«row_rules»)) g (rowReach (heldBranch z w (suc j)) (heldRow z w next) a) .value) e
-      ∙ row-stretch p ok w j x l b next g (omega arith) (eq ∙ ap (λ z. x - z + 1) d) n a (omega arith))
-
-raise-branch-requires : tie.Need-raise-branch-requires
-raise-branch-requires c κs =
-    let s = c .before .before .before .before .before .before .before .before .before .before .before .before in
-    let e = c .before .before .before .before .before .before .before .before .before .shape-of .ensures in
-    let n = s .pre .1 .1 in (
-      subst (λ z. Ready z (s .args .work .now)) (sym e) (s .pre .1 .0),
-      (
-        subst (λ z. RulesIn (s .args .p .tables .book .«load_rules») 0 1 (z .stages)) (sym e) (s .pre .0 .rules),
-        (
-          omega (arith, c .before .before .next-child .ensures .1, ap (λ (z : Shape). z .loads) e),
-          omega (arith, n .3, ap (λ (z : Shape). z .budget) e),
-          n .4,
-          c .before .item-of .ensures .1,
-          c .before .item-of .ensures .2,
-        ),
-      ),
+loop-holds : tie.Need-loop-holds Inv-loop μ-loop
+loop-holds c =
+    let s = c .before .before .before .before .args in
+    let n = c .next-rule .ensures in (
+      n .high,
+      refl,
+      n .found,
+      λ h. strip-passed (s .o .now) (s .r) (reachOf (s .sh) (s .work .now) (s .t)) (raised-start (λ a. term (s .o .now) (s .r) (reachOf (s .sh) (s .work .now) (s .t) a)) _ _ _) n,
     )
 
-returns : tie.Need-returns
+label-of-requires : tie.Need-label-of-requires Inv-loop μ-loop
+label-of-requires c κs = let f = c .before .before .before .before .before .before .before .pre .0 .2 in (omega (arith, f .few), f .room)
+
+stage-of-requires : tie.Need-stage-of-requires Inv-loop μ-loop
+stage-of-requires c κs = let f = c .before .before .before .before .before .before .before .before .pre .0 .2 in (omega (arith, f .few, c .before .if1 .taken), f .room)
+
+by-rule-requires : tie.Need-by-rule-requires Inv-loop μ-loop
+by-rule-requires c κs =
+    let g = c .before in
+    let l = g .before in
+    let t = l .before in
+    let e = t .before .before .loop in
+    let s = t .before .before .before .before .before .before .before in
+    let f = s .pre .0 .2 .each (e .j) (t .if1 .taken) in
+    ((s .pre .0 .0, s .pre .0 .1, fits-leading _ _ _ f _ _ (l .label-of .ensures) (g .stage-of .ensures)), (s .pre .1 .0, omega (arith, s .pre .1 .1, e .inv .1)))
+
+add-next-rule : tie.Need-add-next-rule Inv-loop μ-loop
+add-next-rule c =
+    let t = c .before .before .before .before .before .before in
+    let s = t .before .before .before .before .before .before .before in
+    omega (arith, t .if1 .taken, s .pre .0 .2 .few)
+
+next-rule-requires-2 : tie.Need-next-rule-requires-2 Inv-loop μ-loop
+next-rule-requires-2 c κs =
+    let t = c .before .before .before .before .before .before in
+    let f = t .before .before .before .before .before .before .before .pre .0 .2 in
+    (f .few, f .room, omega (arith, t .if1 .taken))
+
+loop-less : tie.Need-loop-less Inv-loop μ-loop
+loop-less c =
+    let t = c .before .before .before .before .before .before .before in
+    omega (arith, t .if1 .taken, c .next-rule2 .ensures .low, c .next-rule2 .ensures .high)
+
+loop-again : tie.Need-loop-again Inv-loop μ-loop
+loop-again c =
+    let n = c .next-rule2 .ensures in
+    let b = c .before .before .before in
+    let g = b .before .before in
+    let l = g .before in
+    let t = l .before in
+    let e = t .before .before .loop in
+    let s = t .before .before .before .before .before .before .before .args in
+    let reach = reachOf (s .sh) (s .work .now) (s .t) in (
+      n .high,
+      c .before .before .strip .given ∙ e .inv .1,
+      n .found,
+      λ h. strip-passed (s .o .now) (s .r) reach
+          (strip-raised (s .o .now) (s .r) reach (e .j) (e .inv .3 h) (e .inv .2 (t .if1 .taken))
+          (raised-agree (b .by-rule .ensures h) _
+          (λ a u v. reach-leading (s .sh) (s .work .now) (s .t) a (ruleIn (s .o .now) (s .r .at) (e .j)) _ _ (l .label-of .ensures) (g .stage-of .ensures)))) n,
+    )
+
+returns : tie.Need-returns Inv-loop μ-loop
 returns c =
-    let s = c .before .before .before .before .before .before .before .before .before .before .before .before .before .before .before in
-    let n = s .pre .1 .1 in
-    branch (s .args .p) (s .pre .0) (s .args .work .now) (s .args .strip .now) _ (s .args .x) (s .args .from) (s .args .to) (n .3) _ (c .before .before .before .before .before .before .before .before .before .before .before .before .shape-of .ensures)
-    (s .args .k) (n .0) (n .1) (c .before .before .before .before .item-of .result) (c .before .before .before .before .item-of .ensures .0) _ _ (c .before .before .before .before .before .before .before .if1 .taken) refl (c .before .before .before .before .before .next-child .ensures .0)
-    (c .before .before .raise-branch .ensures)
-
-raise-row-requires : tie.Need-raise-row-requires
-raise-row-requires c κs =
-    let s = c .before .before .before .before .before .before .before .before .before .before .before .before .before in
-    let e = c .before .before .before .before .before .before .before .before .before .before .shape-of .ensures in
-    let n = s .pre .1 .1 in (
-      subst (λ z. Ready z (s .args .work .now)) (sym e) (s .pre .1 .0),
-      (
-        subst (λ z. RulesIn (s .args .p .tables .book .«row_rules») 1 (z .states) (z .stages)) (sym e) (s .pre .0 .rows),
-        (
-          n .0,
-          omega (arith, n .1, ap (λ (z : Shape). z .loads) e),
-          omega (arith, c .before .before .next-child2 .ensures .1, ap (λ (z : Shape). z .loads) e),
-          omega (arith, n .3, ap (λ (z : Shape). z .budget) e),
-          n .4,
-        ),
-      ),
-    )
-
-returns-2 : tie.Need-returns-2
-returns-2 c =
-    let s = c .before .before .before .before .before .before .before .before .before .before .before .before .before .before .before .before in
-    let n = s .pre .1 .1 in
-    row (s .args .p) (s .pre .0) (s .args .work .now) (s .args .strip .now) _ (s .args .x) (s .args .from) (s .args .to) (n .3) _ (c .before .before .before .before .before .before .before .before .before .before .before .before .before .shape-of .ensures)
-    (s .args .k) (n .0) (n .1) _ _ (c .before .before .before .before .before .before .before .before .if1 .left) refl (c .before .before .before .before .before .next-child2 .ensures .0) (c .before .before .raise-row .ensures)
+    let e = c .before .before .loop in
+    let s = c .before .before .before .before .before .before .before .args in
+    let d : e .j ≡ s .r .count = omega (arith, e .inv .0, c .if1 .left) in
+    λ h. subst (λ i. Ruled (s .o .now) (s .r) (reachOf (s .sh) (s .work .now) (s .t)) (s .strip .now) (e .strip) (s .s .from) (s .s .to) i) d (e .inv .3 h)
 
 pub raise-spec : {M : Type 1} → statement M
 raise-spec =
     tie.close
     (tie.spec
-    (λ c κs. search needs)
-    (λ c. search needs)
-    (λ c κs. search needs)
-    (λ c κs. search needs)
-    (λ c. search needs)
-    (λ c. search needs)
-    raise-branch-requires
-    (λ c. search needs)
-    returns
-    (λ c. search needs)
-    (λ c. search needs)
-    (λ c. search needs)
-    (λ c κs. search needs)
-    (λ c. search needs)
-    (λ c. search needs)
-    raise-row-requires
-    (λ c. search needs)
-    returns-2)
+    Inv-loop
+    μ-loop
+    (λ c κs. let f = c .before .before .before .pre .0 .2 in (f .few, f .room, omega arith))
+    loop-holds
+    label-of-requires
+    stage-of-requires
+    by-rule-requires
+    add-next-rule
+    next-rule-requires-2
+    loop-less
+    loop-again
+    (λ c. c .before .before .loop .inv .1)
+    returns)

@@ -1,5 +1,5 @@
 -- `raise_split` meets its contract. Assumes nothing.
-use Prim.Native.Nat.{ℕ, _+_, _-_, _<_, _≤_}
+use Prim.Native.Nat.{ℕ, _+_, _-_}
 use mathlib.Core.Path.{_≡_, sym, ap, _∙_, subst}
 use mathlib.Core.Bool.{Bool, true, false}
 use mathlib.Core.List.{List}
@@ -12,7 +12,7 @@ use Rattle.meaning.specs.Best.{shares}
 use Rattle.meaning.proofs.Bound.{empty-⊕}
 use Rattle.cells.specs.declared.problem.Shape.{Shape}
 use Rattle.cells.specs.Work.{placeOf, cellsFrom, heldRow, heldBranch}
-use Rattle.cells.specs.Strip.{moved, Raised, Rising, Rises}
+use Rattle.cells.specs.Strip.{moved, Raised, Rising}
 use Rattle.cells.proofs.Numbers.{empty-is}
 use Rattle.cells.proofs.Strips.{raised-none, raised-agree, moved-at}
 use Rattle.cells.proofs.Shares.{share-last, share-none}
@@ -37,58 +37,58 @@ module _ (sh : Shape) (w s t : List ℕ) (k q n h from to x : ℕ) (px : x ≡ p
       (λ f g. raised-none s from to _ (λ a l m. share-none (heldBranch sh w k q) a))
 
   both : (n ≡ 0 → ⊥) → (y : ℕ) → y ≡ placeOf sh n (sh .states + (h - 1))
-      → (Rising (cellsFrom w y) to → Raised s t from to (λ a. shares (cellsFrom w x) (cellsFrom w y) a .value)) → Goal (heldBranch sh w k q) (heldRow sh w n h) t
+      → Goal (cellsFrom w x) (cellsFrom w y) t → Goal (heldBranch sh w k q) (heldRow sh w n h) t
   both e y py r =
       subst (λ g. Goal (heldBranch sh w k q) g t) (ap (cellsFrom w) py ∙ sym (row-some sh w n h e))
-      (subst (λ f. Goal f (cellsFrom w y) t) (ap (cellsFrom w) px) (λ f g. r g))
-
--- what is asked for, where the cells that are read do not fall
-rising : (sh : Shape) (w s t : List ℕ) (k q n h from to : ℕ) → (0 < q) × (q ≤ sh .states) × (0 < h) × (h ≤ sh .stages)
-    → (Rising (heldBranch sh w k q) to → Rising (heldRow sh w n h) to → Raised s t from to (λ a. shares (heldBranch sh w k q) (heldRow sh w n h) a .value))
-    → Rises sh w k n to → Raised s t from to (λ a. shares (heldBranch sh w k q) (heldRow sh w n h) a .value)
-rising sh w s t k q n h from to (a, b, c, d) f r = f (r .branches q a b) (r .rows h c d)
+      (subst (λ f. Goal f (cellsFrom w y) t) (ap (cellsFrom w) px) r)
 
 lift-requires : tie.Need-lift-requires
 lift-requires c κs =
-    let s = c .before .before .before .before .before .before .before .before in
+    let p = c .before .before .before .before .before .before in
+    let s = p .before .before .before in
     let h = place-room (s .args .sh) (s .args .k) (s .args .q - 1) (omega arith) (omega arith) (omega arith) in
-    let e = c .before .before .before .before .before .place .ensures in
+    let e = p .place .ensures in
     let r = s .pre .0 .room in
     (omega arith, omega arith, omega arith)
 
 returns : tie.Need-returns
 returns c =
-    let z = c .before .before .before .before .before .before .before .before .before .before .before in
-    let s = z .args in
-    rising (s .sh) (s .work .now) (s .strip .now) _ (s .k) (s .q) (s .next) (s .h) (s .from) (s .to) (z .pre .1 .1)
-    (alone (s .sh) (s .work .now) (s .strip .now) _ (s .k) (s .q) (s .next) (s .h) (s .from) (s .to) _
-    (c .before .before .before .before .before .before .before .before .place .ensures) (c .before .before .before .before .before .before .before .if1 .taken) _ (c .before .before .before .before .before .has .ensures) (c .before .before .before .before .if2 .taken) (c .before .before .lift .ensures))
+    let f = c .before .before in
+    let h = f .before .before .before in
+    let t = h .before .before in
+    let p = t .before .before in
+    let s = p .before .before .before .args in
+    alone (s .sh) (s .work .now) (s .strip .now) _ (s .k) (s .q) (s .row .load) (s .row .stage) (s .s .from) (s .s .to) _
+    (p .place .ensures) (t .if1 .taken) _ (h .has .ensures) (f .before .before .if2 .taken) (f .lift .ensures)
 
 returns-2 : tie.Need-returns-2
 returns-2 c =
-    let z = c .before .before .before .before .before .before .before in
-    let s = z .args in
-    rising (s .sh) (s .work .now) (s .strip .now) (s .strip .now) (s .k) (s .q) (s .next) (s .h) (s .from) (s .to) (z .pre .1 .1)
-    (none (s .sh) (s .work .now) (s .strip .now) (s .strip .now) (s .k) (s .q) (s .next) (s .h) (s .from) (s .to) _
-    (c .before .before .before .before .place .ensures) (c .before .before .before .if1 .taken) _ (c .before .has .ensures) (c .if2 .left))
+    let t = c .before .before .before in
+    let p = t .before .before in
+    let s = p .before .before .before .args in
+    none (s .sh) (s .work .now) (s .strip .now) (s .strip .now) (s .k) (s .q) (s .row .load) (s .row .stage) (s .s .from) (s .s .to) _
+    (p .place .ensures) (t .if1 .taken) _ (c .before .has .ensures) (c .if2 .left)
 
 share-requires : tie.Need-share-requires
 share-requires c κs =
-    let s = c .before .before .before .before .before .before .before in
+    let p = c .before .before .before .before .before .before in
+    let s = p .before .before .before in
     let h = place-room (s .args .sh) (s .args .k) (s .args .q - 1) (omega arith) (omega arith) (omega arith) in
-    let h2 = place-room (s .args .sh) (s .args .next) (s .args .sh .states + (s .args .h - 1)) (omega arith) (omega arith) (omega arith) in
-    let e = c .before .before .before .before .place .ensures in
+    let h2 = place-room (s .args .sh) (s .args .row .load) (s .args .sh .states + (s .args .row .stage - 1)) (omega arith) (omega arith) (omega arith) in
+    let e = p .place .ensures in
     let e2 = c .before .place2 .ensures in
     let r = s .pre .0 .room in
     (omega arith, omega arith, omega arith)
 
 returns-3 : tie.Need-returns-3
 returns-3 c =
-    let z = c .before .before .before .before .before .before .before .before .before .before in
-    let s = z .args in
-    rising (s .sh) (s .work .now) (s .strip .now) _ (s .k) (s .q) (s .next) (s .h) (s .from) (s .to) (z .pre .1 .1)
-    (both (s .sh) (s .work .now) (s .strip .now) _ (s .k) (s .q) (s .next) (s .h) (s .from) (s .to) _
-    (c .before .before .before .before .before .before .before .place .ensures) (c .before .before .before .before .before .before .if1 .left) _ (c .before .before .before .before .place2 .ensures) (c .before .before .share .ensures))
+    let f = c .before .before in
+    let n = f .before .before in
+    let t = n .before .before .before in
+    let p = t .before .before in
+    let s = p .before .before .before .args in
+    both (s .sh) (s .work .now) (s .strip .now) _ (s .k) (s .q) (s .row .load) (s .row .stage) (s .s .from) (s .s .to) _
+    (p .place .ensures) (t .if1 .left) _ (n .place2 .ensures) (f .share .ensures)
 
 pub raise-split-spec : {M : Type 1} → statement M
 raise-split-spec =

@@ -12,11 +12,11 @@ use Rattle.engine.proofs.best.best_start.Statement.{statement}
 use Rattle.engine.proofs.best.best_start.Tie as tie
 
 abbrev Inv-loop : tie.InvT-loop
-Inv-loop sh starts work c n best₀ s₀ best s =
-    (s ≤ n) × (greatestOf best ≡ argmax (λ z. guard (hasMark (starts .0) (suc z)) (heldBranch sh work 1 (suc z) c)) s)
+Inv-loop sh work c n best₀ s₀ best s =
+    (s ≤ n) × (greatestOf best ≡ argmax (λ z. guard (hasMark (sh .starts .0) (suc z)) (heldBranch sh work 1 (suc z) c)) s)
 
 abbrev μ-loop : tie.MeasureT-loop
-μ-loop sh starts work c n best₀ s₀ best s = n - s
+μ-loop sh work c n best₀ s₀ best s = n - s
 
 loop-holds : tie.Need-loop-holds Inv-loop μ-loop
 loop-holds c = (omega arith, greatest-none _)

@@ -1,115 +1,203 @@
 -- `trace` meets its contract: the loads are passed one by one. Assumes nothing.
 use Prim.Native.Nat.{ℕ, suc, _+_, _-_, _≤_, _<_}
 use mathlib.Core.Path.{_≡_, refl, sym, ap, ap₂, _∙_, subst}
-use mathlib.Core.Bool.{true}
-use mathlib.Core.List.{[]}
+use mathlib.Core.List.{List, []}
 use native.Mathlib.Nat.{le-refl}
 use native.Mathlib.Numerals.{add-one}
 use native.Mathlib.Omega.{arith}
 use borrow.Author.Needs.{needs}
 use Rattle.lists.specs.Arrays.{laid}
+use Rattle.lists.specs.Argmax.{guard, argmax}
+use Rattle.marks.specs.Bits.{hasMark}
 use Rattle.tables.specs.Limits.{maxStates, maxLoads}
+use Rattle.meaning.specs.Cell.{powerLimit}
 use Rattle.meaning.specs.Choice.{inOrder}
+use Rattle.cells.specs.declared.problem.Problem.{Problem}
 use Rattle.cells.specs.declared.problem.Shape.{Shape}
+use Rattle.cells.specs.Problem.{bookFor, loadsFor, itemsFor, shapeOf}
+use Rattle.cells.specs.Work.{heldBranch, branchFor}
+use Rattle.cells.proofs.Outlining.{outline-fits}
+use Rattle.cells.proofs.Stretches.{loads-long}
 use Rattle.runs.specs.declared.run.Run.{Run}
-use Rattle.engine.specs.declared.pass.Pass.{Pass}
+use Rattle.runs.specs.declared.outcome.StoredOutcome.{StoredOutcome}
 use Rattle.runs.specs.Runs.{markAll, runOf}
-use Rattle.engine.specs.Pass.{bestFor, entriesFor, loadChoice, passedLoad, Passed}
 use Rattle.runs.specs.Outcome.{storedOutcome}
 use Rattle.runs.proofs.Stored.{found-none, found-some}
-use Rattle.engine.proofs.Passing.{child-in, pass-root}
-use Rattle.engine.proofs.Reading.{start-index, start-value, start-pos, start-used, start-possible}
+use Rattle.engine.specs.declared.best.Best.{Best}
+use Rattle.engine.specs.declared.choice.Choice.{Choice}
+use Rattle.engine.specs.declared.pass.Pass.{Pass}
+use Rattle.engine.specs.Search.{greatestOf}
+use Rattle.engine.specs.Parts.{startBest}
+use Rattle.engine.specs.Pass.{bestFor, entriesFor, answerTo, Complete, loadChoice, passedLoad, BranchEntered, Passed}
+use Rattle.engine.proofs.Parts.{root-part}
+use Rattle.engine.proofs.Passing.{below-entered, child-in, pass-root}
+use Rattle.engine.proofs.Reading.{start-index, start-value, start-pos, start-used, start-possible, Promised, whole, load-is}
 use Rattle.engine.proofs.pass.trace.Statement.{statement}
 use Rattle.engine.proofs.pass.trace.Tie as tie
 
+abbrev start : Pass
+start = record { run = runOf []; rows = record { stages = laid 0 maxLoads []; left = laid 0 maxLoads [] } }
+
+-- the best start state of an outline
+abbrev BestStart : Shape → List ℕ → Best → Type 0
+BestStart sh w b = greatestOf b ≡ argmax (λ s. guard (hasMark (sh .starts .0) (suc s)) (heldBranch sh w 1 (suc s) (sh .budget))) (sh .states)
+
+-- whatever problem the outline is of
+module _ (p : Problem) (sh : Shape) (o w : List ℕ) (all : Complete p sh o w) (b : Best) (eb : BestStart sh w b) where
+  own : BestStart (shapeOf p) w b
+  own = subst (λ (y : Shape). BestStart y w b) (all .outlined .shape) eb
+
+  budget : sh .budget ≡ p .tables .budget
+  budget = ap (λ (y : Shape). y .budget) (all .outlined .shape)
+
+  value : b .value ≡ bestFor p
+  value = start-value p o w (whole p sh o w all) b own
+
+  nothing : b .value ≡ 0 → record { kind = 1; run = runOf [] } ≡ answerTo p
+  nothing e = ap storedOutcome (found-none (bestFor p) (inOrder (entriesFor p) 1 (p .tables .loads .count)) (sym value ∙ e))
+
+  module _ (found : b .value ≡ 0 → ⊥) where
+    used : b .index < p .tables .book .states
+    used = start-used p o w (whole p sh o w all) b own found
+
+    abbrev best : ℕ
+    best = startBest (bookFor p) (itemsFor p) (loadsFor p) (p .tables .budget) .index
+
+    root-choice : (d : Choice) → Promised sh o w 1 (b .index) (sh .budget) d → d ≡ loadChoice p 1 (suc best) (p .tables .budget)
+    root-choice d h =
+        load-is p sh o w all 0 (b .index) (p .tables .budget) (all .some) (le-refl _) d (subst (λ c. Promised sh o w 1 (b .index) c d) budget h) used
+        (subst (λ q. 0 < branchFor p 1 q (p .tables .budget)) (add-one (b .index)) (start-possible p o w (whole p sh o w all) b own found))
+        ∙ ap (λ q. loadChoice p 1 (suc q) (p .tables .budget)) (start-index p o w (whole p sh o w all) b own)
+
+    root-entered : BranchEntered p 1 0 (suc best) (p .tables .budget)
+    root-entered = record {
+      part = root-part (bookFor p) (itemsFor p) (loadsFor p) (p .tables .budget) (omega (arith, all .some, loads-long p (all .outlined .lawful)))
+          (start-pos p o w (whole p sh o w all) b own found) (all .outlined .lawful .loads .ordered);
+      fits = le-refl _;
+    }
+
+    child-fits : (d : Choice) → d ≡ loadChoice p 1 (suc best) (p .tables .budget) → (d .rest ≤ maxLoads) × (d .left < powerLimit)
+    child-fits d e =
+        let l = below-entered p (all .outlined .lawful) 1 0 (suc best) (p .tables .budget) root-entered .fits in
+        rw e (child-in p (all .outlined .lawful) 1 (suc best) (p .tables .budget), omega (arith, l, all .outlined .lawful .sane .budget))
+
+    passed : (d : Choice) → d ≡ loadChoice p 1 (suc best) (p .tables .budget) → (t : Pass) → t ≡ passedLoad start 1 0 (b .index + 1) d → Passed p 1 t
+    unfolding runOf laid markAll
+    passed d ed t et =
+        let path = et ∙ ap₂ (λ (q : ℕ) (d : Choice). passedLoad start 1 0 q d) (add-one (b .index) ∙ ap suc (start-index p o w (whole p sh o w all) b own)) ed in
+        subst (Passed p 1) (sym path)
+        (pass-root p (all .outlined .lawful) (all .some) (start-pos p o w (whole p sh o w all) b own found) start refl (record { stages = refl; left = refl }))
+
+    whole-run : (s : Pass) (i : ℕ) → i ≡ p .tables .loads .count → Passed p i s → record { kind = 2; run = s .run } ≡ answerTo p
+    whole-run s i e h =
+        ap (λ (r : Run). record { kind = 2; run = r }) (h .run ∙ ap (λ k. runOf (inOrder (entriesFor p) 1 k)) e)
+        ∙ ap storedOutcome (found-some (bestFor p) (inOrder (entriesFor p) 1 (p .tables .loads .count)) (omega (arith, value)))
+
 abbrev Inv-loop : tie.InvT-loop
-Inv-loop p work q s₀ n i₀ s i = (0 < i) × (i ≤ n) × Passed p i s
+Inv-loop sh o work q s₀ n i₀ s i = (0 < i) × (i ≤ n) × ((p : Problem) → Complete p sh o work → Passed p i s)
 
 abbrev μ-loop : tie.MeasureT-loop
-μ-loop p work q s₀ n i₀ s i = n - i
+μ-loop sh o work q s₀ n i₀ s i = n - i
 
 best-start-requires : tie.Need-best-start-requires Inv-loop μ-loop
-best-start-requires c κs = let s = c .before .before in rw (c .shape-of .ensures) (s .pre .0 .ready, (s .pre .1, le-refl _))
+best-start-requires c κs =
+    let k = c .before .before .pre .complete in
+    (k .ready, (omega (arith, k .some, ap (λ (y : Shape). y .loads) (k .outlined .shape)), le-refl _))
 
 returns : tie.Need-returns Inv-loop μ-loop
 unfolding runOf laid markAll
 returns c =
     let b = c .before .before in
-    let h = b .before in
-    let s = h .before .before in
-    ap storedOutcome (found-none (bestFor (s .args .p)) (inOrder (entriesFor (s .args .p)) 1 (s .args .p .tables .loads .count))
-    (sym (start-value (s .args .p) (s .args .work .now) (s .pre .0) (s .pre .1) _ (h .shape-of .ensures) (b .best-start .result) (b .best-start .ensures)) ∙ c .if1 .taken))
+    let a = b .before .before .before .args in
+    λ p all. nothing p (a .sh) (a .o .now) (a .work .now) all (b .best-start .result) (b .best-start .ensures) (c .if1 .taken)
 
--- the state that is found is one of the book
-used : (c : tie.Else1 Inv-loop μ-loop) → c .before .before .best-start .result .index < maxStates
-used c =
+-- ---- along the code, with the problem that is known to be there
+state : (c : tie.Else1 Inv-loop μ-loop) → c .before .before .best-start .result .index < c .before .before .before .before .before .pre .problem .tables .book .states
+state c =
     let b = c .before .before in
-    let h = b .before in
-    let s = h .before .before in
-    let found = start-used (s .args .p) (s .args .work .now) (s .pre .0) (s .pre .1) _ (h .shape-of .ensures) (b .best-start .result) (b .best-start .ensures) (c .if1 .left) in
-    omega (arith, found, s .pre .0 .lawful .sane .states)
+    let s = b .before .before .before in
+    used (s .pre .problem) (s .args .sh) (s .args .o .now) (s .args .work .now) (s .pre .complete) (b .best-start .result) (b .best-start .ensures) (c .if1 .left)
 
-load-choice-requires : tie.Need-load-choice-requires Inv-loop μ-loop
-load-choice-requires c κs =
-    let b = c .before .before .before in
-    let h = b .before in
-    let s = h .before .before in
-    let possible = start-possible (s .args .p) (s .args .work .now) (s .pre .0) (s .pre .1) _ (h .shape-of .ensures) (b .best-start .result) (b .best-start .ensures) (c .before .if1 .left) in
-    rw (h .shape-of .ensures) (s .pre .0, (omega arith, s .pre .1, le-refl _, possible))
+few : (c : tie.Else1 Inv-loop μ-loop) → c .before .before .best-start .result .index < maxStates
+few c = omega (arith, state c, c .before .before .before .before .before .pre .complete .outlined .lawful .sane .states)
+
+choose-requires : tie.Need-choose-requires Inv-loop μ-loop
+choose-requires c κs =
+    let e = c .before in
+    let s = e .before .before .before .before .before in
+    let k = s .pre .complete in
+    let q = k .outlined .shape in (
+      (k .ready, outline-fits (s .pre .problem) _ _ (k .outlined)),
+      (
+        omega arith,
+        omega (arith, k .some, ap (λ (y : Shape). y .loads) q),
+        omega (arith, state e, ap (λ (y : Shape). y .states) q),
+        le-refl _,
+      ),
+    )
 
 with-requires : tie.Need-with-requires Inv-loop μ-loop
 with-requires c κs =
-    let s = c .before .before .before .before .before .before .before in
-    (omega arith, omega arith, rw (c .load-choice .ensures) (child-in (s .args .p) (s .pre .0 .lawful) _ _ _))
-
-abbrev start : Pass
-start = record { run = runOf []; rows = record { stages = laid 0 maxLoads []; left = laid 0 maxLoads [] } }
+    let e = c .before .before in
+    let b = e .before .before in
+    let s = b .before .before .before in
+    let a = s .args in
+    let d = root-choice (s .pre .problem) (a .sh) (a .o .now) (a .work .now) (s .pre .complete) (b .best-start .result) (b .best-start .ensures) (e .if1 .left) _ (c .choose .ensures) in
+    let f = child-fits (s .pre .problem) (a .sh) (a .o .now) (a .work .now) (s .pre .complete) (b .best-start .result) (b .best-start .ensures) (e .if1 .left) _ d in
+    (omega arith, omega arith, f .0, f .1)
 
 loop-holds : tie.Need-loop-holds Inv-loop μ-loop
 unfolding runOf laid markAll
 loop-holds c =
     let l = c .before in
-    let b = l .before .before .before .before in
-    let h = b .before in
-    let s = h .before .before in
-    let found = l .before .before .if1 .left in
-    let pos = start-pos (s .args .p) (s .args .work .now) (s .pre .0) (s .pre .1) _ (h .shape-of .ensures) (b .best-start .result) (b .best-start .ensures) found in
-    let index = start-index (s .args .p) (s .args .work .now) (s .pre .0) (s .pre .1) _ (h .shape-of .ensures) (b .best-start .result) (b .best-start .ensures) in
-    let path =
-    c .with .ensures
-    ∙ ap (passedLoad start 1 0 (b .best-start .result .index + 1)) (l .load-choice .ensures)
-    ∙ ap₂ (λ (q : ℕ) (sh : Shape). passedLoad start 1 0 q (loadChoice (s .args .p) 1 q (sh .budget))) (add-one (b .best-start .result .index) ∙ ap suc index) (h .shape-of .ensures) in (
+    let e = l .before .before in
+    let b = e .before .before in
+    let s = b .before .before .before in
+    let a = s .args in (
       omega arith,
-      omega (arith, ap (λ (sh : Shape). sh .loads) (h .shape-of .ensures), s .pre .1),
-      subst (Passed (s .args .p) 1) (sym path) (pass-root (s .args .p) (s .pre .0 .lawful) (s .pre .1) pos start refl (record { stages = refl; left = refl })),
+      omega (arith, s .pre .complete .some, ap (λ (y : Shape). y .loads) (s .pre .complete .outlined .shape)),
+      λ p all.
+          let d = root-choice p (a .sh) (a .o .now) (a .work .now) all (b .best-start .result) (b .best-start .ensures) (e .if1 .left) _ (l .choose .ensures) in
+          passed p (a .sh) (a .o .now) (a .work .now) all (b .best-start .result) (b .best-start .ensures) (e .if1 .left) _ d _ (c .with .ensures),
     )
 
 pass-next-requires : tie.Need-pass-next-requires Inv-loop μ-loop
 pass-next-requires c κs =
-    let h = c .before .before .before .before .before .before .before .before in
-    let s = h .before .before in
-    (s .pre .0, (c .before .loop .inv .2, (c .before .loop .inv .0, omega (arith, ap (λ (sh : Shape). sh .loads) (h .shape-of .ensures), c .loop-test .taken))))
+    let l = c .before .loop in
+    let s = c .before .before .before .before .before .before .before .before .before .before in
+    let k = s .pre in
+    record {
+      problem = k .problem;
+      complete = k .complete;
+      passed = l .inv .2 (k .problem) (k .complete);
+      low = l .inv .0;
+      high = omega (arith, c .loop-test .taken, ap (λ (y : Shape). y .loads) (k .complete .outlined .shape));
+    }
 
 add-i : tie.Need-add-i Inv-loop μ-loop
 add-i c =
-    let h = c .before .before .before .before .before .before .before .before .before in
-    let s = h .before .before in
-    omega (arith, ap (λ (sh : Shape). sh .loads) (h .shape-of .ensures), c .before .loop-test .taken, s .pre .0 .lawful .sane .loads)
+    let t = c .before in
+    let s = t .before .before .before .before .before .before .before .before .before .before in
+    omega (arith, t .loop-test .taken, s .pre .complete .ready .sane .loads)
 
 loop-again : tie.Need-loop-again Inv-loop μ-loop
-loop-again c = (omega arith, omega (arith, c .before .loop-test .taken), c .pass-next .ensures)
+loop-again c =
+    let t = c .before in
+    let l = t .before .loop in (
+      omega arith,
+      omega (arith, t .loop-test .taken),
+      λ p all. c .pass-next .ensures p all (l .inv .2 p all) (l .inv .0) (omega (arith, t .loop-test .taken, ap (λ (y : Shape). y .loads) (all .outlined .shape))),
+    )
 
 returns-2 : tie.Need-returns-2 Inv-loop μ-loop
 returns-2 c =
-    let l = c .before .before in
-    let b = l .before .before .before .before .before .before in
-    let h = b .before in
-    let s = h .before .before in
-    let n : l .loop .i ≡ s .args .p .tables .loads .count = omega (arith, l .loop .inv .1, c .before .loop-test .left, ap (λ (sh : Shape). sh .loads) (h .shape-of .ensures)) in
-    let value = start-value (s .args .p) (s .args .work .now) (s .pre .0) (s .pre .1) _ (h .shape-of .ensures) (b .best-start .result) (b .best-start .ensures) in
-    let found = l .before .before .before .before .if1 .left in
-    ap (λ (r : Run). record { kind = 2; run = r }) (l .loop .inv .2 .run ∙ ap (λ k. runOf (inOrder (entriesFor (s .args .p)) 1 k)) n)
-    ∙ ap storedOutcome (found-some (bestFor (s .args .p)) (inOrder (entriesFor (s .args .p)) 1 (s .args .p .tables .loads .count)) (omega (arith, value)))
+    let t = c .before in
+    let l = t .before .loop in
+    let e = t .before .before .before .before .before in
+    let b = e .before .before in
+    let a = b .before .before .before .args in
+    λ p all. whole-run p (a .sh) (a .o .now) (a .work .now) all (b .best-start .result) (b .best-start .ensures) (e .if1 .left) (l .s) (l .i)
+    (omega (arith, l .inv .1, t .loop-test .left, ap (λ (y : Shape). y .loads) (all .outlined .shape))) (l .inv .2 p all)
 
 pub trace-spec : {M : Type 1} → statement M
 trace-spec =
@@ -117,12 +205,11 @@ trace-spec =
     (tie.spec
     Inv-loop
     μ-loop
-    (λ c κs. search needs)
     best-start-requires
     returns
-    (λ c. omega (arith, used (c .before)))
-    (λ c. omega (arith, used (c .before)))
-    load-choice-requires
+    (λ c. omega (arith, few (c .before)))
+    (λ c. omega (arith, few (c .before)))
+    choose-requires
     with-requires
     loop-holds
     pass-next-requires

@@ -1,0 +1,21 @@
+-- `stage_of` meets its contract. Assumes nothing.
+use Prim.Native.Nat.{_+_, _*_}
+use native.Mathlib.Omega.{arith}
+use borrow.Author.Needs.{needs}
+use Rattle.cells.proofs.outline.stage_of.Statement.{statement}
+use Rattle.cells.proofs.outline.stage_of.Tie as tie
+
+cast-result : tie.Need-cast-result
+cast-result c = let s = c .before .before .args in omega (arith, c .shared-slice-known .given (s .r .at + 3 * s .j + 2))
+
+pub stage-of-spec : {M : Type 1} → statement M
+stage-of-spec =
+    tie.close
+    (tie.spec
+    (λ c. search needs)
+    (λ c. search needs)
+    (λ c. search needs)
+    (λ c. search needs)
+    (λ c. search needs)
+    cast-result
+    (λ c. search needs))
