@@ -1,10 +1,28 @@
-// A plan in C with the two ideas of the proved cells: a stretch is worked out in a strip of its own, written without branches, and an
-// allowance that gives the branch no more than a smaller one did is passed over.
+// A plan in C with the ideas of the proved cells. A stretch is worked out in a strip of its own, written without branches. Child and sibling of
+// each load are looked up once. Of the branch and the later row the one with fewer steps leads a join, and the allowances at which it says no
+// more than before are passed over, many at a time; where the other one says that there is a set, nothing is tested.
 #include "cells.h"
 #include <string.h>
 
-// The cells of a strip: as many as the proved one has, so that both clear the same number.
-enum { STRIP_CELLS = 512 };
+// The cells of a strip: as many as the proved one has, so that both clear the same number. The strides in which allowances are passed over.
+enum { STRIP_CELLS = 512, FAR = 64, NEAR = 8 };
+
+// The first child and the next sibling of each load.
+typedef struct { int child[HULMEIDE_MAX_LOADS], sibling[HULMEIDE_MAX_LOADS]; } Outline;
+
+static Outline outline_of(const Tables *t) {
+    Outline outline;
+    int latest[HULMEIDE_MAX_LOADS + 1];
+    for (int k = 0; k <= HULMEIDE_MAX_LOADS; k++)
+        latest[k] = NONE;
+    for (int k = (int)t->loads.count - 1; k >= 0; k--) {
+        int parent = t->loads.items[k].parent;
+        outline.child[k] = latest[k + 1];
+        outline.sibling[k] = latest[parent];
+        latest[parent] = k;
+    }
+    return outline;
+}
 
 static uint32_t greater(uint32_t x, uint32_t y) {
     return x < y ? y : x;
@@ -19,13 +37,46 @@ static void lift(uint32_t *restrict strip, const uint32_t *restrict cells, int s
     }
 }
 
+// The same from an allowance on, where every cell says that there is a set.
+static void rise(uint32_t *restrict strip, const uint32_t *restrict cells, int shift, uint32_t more, int from, int width) {
+    for (int a = from; a < width; a++)
+        strip[a] = greater(strip[a], cells[a - shift] + more);
+}
+
+// The first allowance from `from` on at which the cells step up from `last`. They never fall, so the last cell of a stride tells of all.
+static int next_step(const uint32_t *cells, int from, uint32_t last, int width) {
+    static const int strides[] = {FAR, NEAR, 1};
+    for (int i = 0; i < 3; i++)
+        while (strides[i] <= width - from && cells[from + strides[i] - 1] == last)
+            from += strides[i];
+    return from;
+}
+
+// Do the cells of x step up less often than those of y?
+static bool lighter(const uint32_t *x, const uint32_t *y, int width) {
+    int a = next_step(x, 0, 0, width), b = next_step(y, 0, 0, width);
+    while (a < width && b < width) {
+        a = next_step(x, a + 1, x[a], width);
+        b = next_step(y, b + 1, y[b], width);
+    }
+    return a >= width && b < width;
+}
+
+// The strip raised to the best splits, by the steps of x.
+static void split(uint32_t *strip, const uint32_t *x, const uint32_t *y, int width) {
+    int first = next_step(y, 0, 0, width);
+    for (int c = next_step(x, 0, 0, width); c < width; c = next_step(x, c + 1, x[c], width))
+        if (x[c] < EMPTY)
+            lift(strip, y, c, x[c], width);
+        else
+            rise(strip, y, c, x[c] - EMPTY, c + first, width);
+}
+
 static void share(uint32_t *strip, const uint32_t *branch, const uint32_t *later, int width) {
-    uint32_t last = 0;
-    for (int c = 0; c < width; c++)
-        if (branch[c] != last) {
-            last = branch[c];
-            lift(strip, later, c, last, width);
-        }
+    if (lighter(later, branch, width))
+        split(strip, later, branch, width);
+    else
+        split(strip, branch, later, width);
 }
 
 // The strip raised to the branch of load k by one load rule.
@@ -48,11 +99,10 @@ static void raise_row(const Tables *t, uint32_t *work, uint32_t *strip, int k, i
         lift(strip, branch, 0, EMPTY, width_of(t));
 }
 
-// The cells of load k and the state or stage `from`.
-static void fill_stretch(const Tables *t, uint32_t *work, int k, bool of_loads, int from) {
+// The cells of load k and the state or stage `from`, by the child or the sibling that the rules lead to.
+static void fill_stretch(const Tables *t, uint32_t *work, int k, int other, bool of_loads, int from) {
     uint32_t strip[STRIP_CELLS] = {0};
     const TransitionList *rules = of_loads ? &t->book.load_rules : &t->book.row_rules;
-    int other = of_loads ? first_child(t, k) : next_sibling(t, k);
     for (size_t j = 0; j < rules->count; j++) {
         Transition r = rules->items[j];
         if (r.from == from && of_loads)
@@ -65,11 +115,12 @@ static void fill_stretch(const Tables *t, uint32_t *work, int k, bool of_loads, 
 }
 
 void same_ideas_fill(const Tables *t, uint32_t *work) {
+    Outline outline = outline_of(t);
     for (int k = (int)t->loads.count - 1; k >= 0; k--) {
         for (int state = 1; state <= t->book.states; state++)
-            fill_stretch(t, work, k, true, state);
+            fill_stretch(t, work, k, outline.child[k], true, state);
         for (int stage = 1; stage <= t->book.stages; stage++)
-            fill_stretch(t, work, k, false, stage);
+            fill_stretch(t, work, k, outline.sibling[k], false, stage);
     }
 }
 

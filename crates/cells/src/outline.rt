@@ -11,7 +11,7 @@ use tables::rule::Transition;
 use tables::rule::TransitionList;
 ghost use mathlib.Core.Path.{_≡_};
 ghost use Prim.Native.Nat.{_+_, _*_, _≤_, _<_};
-ghost use lib.ListN.{length, replicate};
+ghost use lib.ListN.{length, getD, replicate};
 ghost use Rattle.tables.specs.Limits.{maxLoads, maxRules, maxWorth};
 ghost use Rattle.meaning.specs.Cell.{powerLimit};
 ghost use Rattle.cells.specs.Problem.{itemsIf, itemOf, shapeOf, Lawful};
@@ -199,12 +199,20 @@ pub fn next_rule(o: &[u16], r: Rules, j: usize) -> usize
     i
 }
 
+// A number of the outline.
+fn number_at(o: &[u16], i: usize) -> usize
+    requires { ⌜ i < length (now o) ⌝ }
+    ensures { λ r. ⌜ r ≡ getD (now (o .entry)) i 0 ⌝ }
+{
+    o[i] as usize
+}
+
 // The label of one of these rules.
 pub fn label_of(o: &[u16], r: Rules, j: usize) -> usize
     requires { ⌜ (j < maxRules) × (r .at + 3 * maxRules ≤ length (now o)) ⌝ }
     ensures { λ i. ⌜ i ≡ ruleIn (now (o .entry)) (r .at) j .label ⌝ }
 {
-    o[r.at + 3 * j + 1] as usize
+    number_at(o, r.at + 3 * j + 1)
 }
 
 // The stage that it leads to.
@@ -212,5 +220,5 @@ pub fn stage_of(o: &[u16], r: Rules, j: usize) -> usize
     requires { ⌜ (j < maxRules) × (r .at + 3 * maxRules ≤ length (now o)) ⌝ }
     ensures { λ i. ⌜ i ≡ ruleIn (now (o .entry)) (r .at) j .to ⌝ }
 {
-    o[r.at + 3 * j + 2] as usize
+    number_at(o, r.at + 3 * j + 2)
 }

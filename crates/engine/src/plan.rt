@@ -31,18 +31,21 @@ ghost use Rattle.engine.specs.Pass.{answerTo};
 // The cells of a check: every load with 8 states and 8 stages, one allowance.
 const CHECK_CELLS: usize = MAX_LOADS * 16;
 
-// A problem is searched: the cells are filled, and the run is read back from them.
+// A problem is searched: its cells are filled, the run is read back from them, and they are cleared.
 fn search(p: Problem, work: &mut [u32]) -> StoredOutcome
     requires { ⌜ Lawful p ⌝ }
     requires { ⌜ (0 < p .tables .loads .count) × (cellsNeeded (shapeOf p) ≤ length (now work)) ⌝ }
     ensures answer { λ r. ⌜ r ≡ answerTo p ⌝ }
-    ensures rest { λ _. ⌜ drop (cellsNeeded (shapeOf p)) (now (work .exit)) ≡ drop (cellsNeeded (shapeOf p)) (now (work .entry)) ⌝ }
+    ensures cleared { λ _. ⌜ now (work .exit) ≡ replicate (cellsNeeded (shapeOf p)) 0 ++ drop (cellsNeeded (shapeOf p)) (now (work .entry)) ⌝ }
 {
     let sh = shape_of(p);
+    let n = cells_needed(sh);
     let mut outline = [0u16; OUTLINE];
     put_outline(&mut outline[..], p);
-    fill(sh, &outline[..], &mut *work, 0, cells_needed(sh));
-    trace(sh, &outline[..], &work[..])
+    fill(sh, &outline[..], &mut *work, 0, n);
+    let found = trace(sh, &outline[..], &work[..]);
+    clear(work, n);
+    found
 }
 
 // The plan of the tables, worked out in the lent cells, which are 0 afterwards.
@@ -53,9 +56,7 @@ pub fn plan(t: StoredTables, work: &mut [u32]) -> StoredOutcome
     ensures { λ _. ⌜ now (work .exit) ≡ replicate (cellsOf (tablesOf t)) 0 ++ drop (cellsOf (tablesOf t)) (now (work .entry)) ⌝ }
 {
     let p = plan_problem(t);
-    let found = search(p, &mut *work);
-    clear(work, cells_needed(shape_of(p)));
-    found
+    search(p, work)
 }
 
 // The run of a checked set, worked out in cells of its own.
