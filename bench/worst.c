@@ -181,31 +181,54 @@ static Recipe climbed(Recipe best, double till) {
 
 // ---- joins
 //
-// Nearly all the time goes into joining an allowance for a branch, at a step of the branch, with one for the rest of its row.
+// Nearly all the time goes into joining an allowance for one side, the branch or the rest of its row, at a step of it, with one for the other.
 
-// The joins by one row rule after a branch with these cells: each step is joined with what is left of each allowance from there on.
-static size_t joins_after(const uint32_t *branch, int width) {
-    size_t joins = 0;
+static bool steps_at(const uint32_t *cells, int c) {
+    return cells[c] != (c == 0 ? 0 : cells[c - 1]);
+}
+
+static int steps_of(const uint32_t *cells, int width) {
+    int steps = 0;
     for (int c = 0; c < width; c++)
-        if (branch[c] != (c == 0 ? 0 : branch[c - 1]))
-            joins += (size_t)(width - c);
+        steps += steps_at(cells, c);
+    return steps;
+}
+
+// The joins by the steps of one side: each with every allowance from there on with which the other one has a set.
+static size_t joins_by(const uint32_t *leading, const uint32_t *other, int width) {
+    size_t joins = 0;
+    int first = 0;
+    while (first < width && other[first] == 0)
+        first++;
+    for (int c = 0; c + first < width; c++)
+        joins += steps_at(leading, c) ? (size_t)(width - c - first) : 0;
     return joins;
 }
 
 // The cells that are filled to count the joins, and lent with a line.
 static uint32_t work[HULMEIDE_MAX_CELLS];
 
+// The joins of load k's branch with the rest of its row, if there is one, by a row rule: the side with fewer steps leads.
+static size_t joins_at(const Tables *t, int k, Transition r) {
+    int next = next_sibling(t, k), width = width_of(t);
+    if (next == NONE)
+        return 0;
+    const uint32_t *branch = branch_cells(t, work, k, r.label), *later = row_cells(t, work, next, r.to);
+    bool swap = steps_of(later, width) < steps_of(branch, width);
+    return swap ? joins_by(later, branch, width) : joins_by(branch, later, width);
+}
+
 static size_t joins_of(const Tables *t) {
     size_t joins = 0;
     same_ideas_fill(t, work);
     for (int k = 0; k < (int)t->loads.count; k++)
-        for (size_t j = 0; j < t->book.row_rules.count && next_sibling(t, k) != NONE; j++)
-            joins += joins_after(branch_cells(t, work, k, t->book.row_rules.items[j].label), width_of(t));
+        for (size_t j = 0; j < t->book.row_rules.count; j++)
+            joins += joins_at(t, k, t->book.row_rules.items[j]);
     return joins;
 }
 
-// The most that there can be of them where the branch has so many loads: a step for each of its sets, since each is to another worth.
-static size_t most_joins_after(int loads) {
+// The most that there can be of them where the side that leads has so many loads: a step for each of its sets, since each is to another worth.
+static size_t most_joins_by(int loads) {
     size_t width = HULMEIDE_MAX_BUDGET + 1, joins = 0;
     for (size_t c = 0; c < width && c < (size_t)1 << loads; c++)
         joins += width - c;
@@ -218,7 +241,7 @@ static size_t most_joins(void) {
     for (int n = 1; n <= HULMEIDE_MAX_LOADS; n++) {
         trees[n] = rows[n] = rows[n - 1];
         for (int first = 1; first < n; first++) {
-            size_t joins = trees[first] + most_joins_after(first) + rows[n - first];
+            size_t joins = trees[first] + most_joins_by(lesser(first, n - first)) + rows[n - first];
             rows[n] = joins > rows[n] ? joins : rows[n];
         }
     }

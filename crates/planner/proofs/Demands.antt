@@ -1,11 +1,14 @@
--- Demands 1, 2 and 3 of the code, and what requests promise of lists of calls: what the promise of `Planner::call` comes to. Assumes nothing.
-use Prim.Native.Nat.{ℕ}
+-- Demands 1, 2 and 3 of the code, and what requests promise: what the promise of `Planner::call`, and for request Seven that of `fill`, comes to.
+-- Assumes nothing.
+use Prim.Native.Nat.{ℕ, _≤_, _<_}
 use mathlib.Core.Path.{_≡_, sym, ap, subst, _∙_}
 use mathlib.Core.List.{List}
 use lib.Dec.{lit≤}
 use Rattle.marks.specs.declared.LoadSet.{LoadSet}
 use Rattle.lines.specs.Input.{lines}
 use Rattle.tables.specs.Limits.{maxLoads}
+use Rattle.cells.specs.Claims.{Agree, Left, SameRow}
+use Rattle.cells.proofs.Agreement.{rows-agree}
 use Rattle.calls.specs.State.{Sized}
 use Rattle.calls.specs.Calls.{Call, Reply, Done, writtenBy, called}
 use Rattle.calls.specs.Demand1.{Demand1}
@@ -82,3 +85,9 @@ dropped p h c k d is x =
 -- (What it shows after a list of lines from a fresh planner stands in demand 3.)
 pub last : (p : Planner) → Lawful p → (c : Call) → LastCall c → (d : Done) → d ≡ called (held p) c → StoredShown (held p) c d
 last p h c k d is = is ∙ last-stored (held p) h c k
+
+-- request Seven: two planners that agree on book, marks and rules, on the loads of the row from load k onward and on all loads below these get the
+-- same best for that row, from each stage and at each allowance within both budgets, in the cells that `fill` leaves
+pub rows : (p q : Planner) (k : ℕ) → 0 < k → k ≤ p .tables .loads .count → Agree (p .tables) (q .tables) k
+    → (v u : List ℕ) → Left (p .tables) v → Left (q .tables) u → SameRow (p .tables) (q .tables) v u k
+rows p q = rows-agree (p .tables) (q .tables)
