@@ -1,4 +1,5 @@
-// The proved plan of this archive against that of another one, by tree and loads, and on cabinets of many equals. bench/compare links both.
+// The proved plan of this archive against that of another one: the answers on cabinets by chance, and then times by tree and loads, and on
+// cabinets of many equals. bench/compare links both.
 #include "measure.h"
 #include <stdio.h>
 #include <stdlib.h>
@@ -7,18 +8,23 @@
 // `hulmeide_call` of the other archive.
 extern __typeof__(hulmeide_call) other_call;
 
-enum { OTHER, THIS, BOTH };
+enum { OTHER, THIS, BOTH, CABINETS = 5000 };
 
 static uint32_t work[HULMEIDE_MAX_CELLS];
 static Answer answers[BOTH];
 
-static void plan(int which, Tables *t) {
+// The same line to both; each has tables of its own.
+static void ask(int which, Tables *t, const char *line) {
     Answer *a = &answers[which];
-    const uint8_t *line = (const uint8_t *)"plan";
+    const uint8_t *bytes = (const uint8_t *)line;
     if (which == OTHER)
-        a->reply = other_call(t, line, strlen("plan"), a->text, sizeof a->text, 0, work, cells_of(t));
+        a->reply = other_call(t, bytes, strlen(line), a->text, sizeof a->text, 0, work, cells_of(t));
     else
-        a->reply = hulmeide_call(t, line, strlen("plan"), a->text, sizeof a->text, 0, work, cells_of(t));
+        a->reply = hulmeide_call(t, bytes, strlen(line), a->text, sizeof a->text, 0, work, cells_of(t));
+}
+
+static void plan(int which, Tables *t) {
+    ask(which, t, "plan");
 }
 
 static double time_of_plan(int which, Tables *t, int turns) {
@@ -32,6 +38,62 @@ static bool same_answer(void) {
     const Answer *x = &answers[OTHER], *y = &answers[THIS];
     return x->reply.number == y->reply.number && x->reply.count == y->reply.count && !memcmp(x->text, y->text, x->reply.count);
 }
+
+// ---- cabinets by chance
+
+static int up_to(int most) {
+    return rand() % (most + 1);
+}
+
+// Any tree and any figures, a book of any size, and any marks: where no set fits, refusal 9 is compared.
+static Tables tables_by_chance(unsigned seed) {
+    srand(seed);
+    int states = 1 + up_to(HULMEIDE_MAX_STATES - 1), most = 2 * states * states;
+    int rules = 1 + up_to((most < HULMEIDE_MAX_RULES ? most : HULMEIDE_MAX_RULES) - 1);
+    Cabinet c = {RANDOM, 1 + up_to(HULMEIDE_MAX_LOADS - 1), states, 0, up_to(HULMEIDE_MAX_BUDGET)};
+    int top_power = 1 + up_to(HULMEIDE_MAX_POWER - 1), top_worth = 1 + up_to(HULMEIDE_MAX_WORTH - 1), near = 1 + up_to(HULMEIDE_MAX_LOADS);
+    Tables t = tables_of(c);
+    add_rules(&t.book.load_rules, rules, states, true, seed);
+    add_rules(&t.book.row_rules, states == 1 ? 1 : rules, states, false, seed);
+    srand(seed);
+    t.book.starts = (uint8_t)(1 + up_to((1 << states) - 2));
+    t.book.ends = (uint8_t)(1 + up_to((1 << states) - 2));
+    for (int k = 0; k < c.loads; k++) {
+        int parent = k == 0 ? 0 : k - up_to((k < near ? k : near) - 1);
+        t.loads.items[k] = (Load){(uint8_t)parent, (uint16_t)up_to(top_power), (uint16_t)up_to(top_worth)};
+    }
+    return t;
+}
+
+// A plan, and a check of any set: the answers, and what is stored.
+static void compare_by_chance(unsigned seed) {
+    char check[HULMEIDE_LINE_BYTES + 1] = "check,";
+    Tables t[BOTH] = {tables_by_chance(seed), tables_by_chance(seed)};
+    for (size_t k = 0; k < t[THIS].loads.count; k++)
+        strcat(check, up_to(3) ? "0" : "1");
+    const char *lines[] = {"plan", check};
+    for (int i = 0; i < 2; i++) {
+        for (int which = OTHER; which < BOTH; which++)
+            ask(which, &t[which], lines[i]);
+        if (!same_answer() || memcmp(&t[OTHER], &t[THIS], sizeof t[THIS]) != 0) {
+            printf("answers differ: cabinet %u, %s\n", seed, lines[i]);
+            exit(1);
+        }
+    }
+}
+
+static void compare_answers(void) {
+    int planned = 0;
+    for (unsigned seed = 1; seed <= CABINETS; seed++) {
+        Tables t = tables_by_chance(seed);
+        compare_by_chance(seed);
+        plan(THIS, &t);
+        planned += answers[THIS].reply.number == HULMEIDE_ACCEPTED;
+    }
+    printf("Answers to plans and checks of %d cabinets by chance are equal; %d have a plan\n\n", CABINETS, planned);
+}
+
+// ---- times
 
 // The answers are compared, and then the best times of either in turns that take about a millisecond.
 static void print_both(const char *name, int number, Tables t) {
@@ -57,6 +119,7 @@ static void print_title(const char *title, const char *number) {
 }
 
 int main(void) {
+    compare_answers();
     printf("A plan: processor time in milliseconds, best of %d rounds, in the other archive and in this one\n", ROUNDS);
     print_title("8 states, 8 stages, 32 + 32 rules, budget 500", "loads");
     for (int shape = 0; shape < SHAPES; shape++)
