@@ -34,7 +34,7 @@ use Rattle.calls.specs.Causes.{lowest}
 use Rattle.calls.specs.Saves.{Step, Takes, none, Rebuilt}
 use Rattle.calls.proofs.Steps.{one, takes-append, for-each, marks, for-marks}
 
--- ---- one change of each kind
+-- ---- one change of each sort
 passes : (b : Bool) → b ≡ true → lowest ((no.outOfRange if not b) ∷ []) ≡ 0
 unfolding lowest
 passes b e = rw e

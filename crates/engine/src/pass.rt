@@ -95,7 +95,7 @@ pub(crate) fn trace(sh: Shape, o: &[u16], work: &[u32]) -> StoredOutcome
     let b = best_start(sh, work, sh.budget);
     if b.value == 0 {
         return StoredOutcome {
-            kind: NO_SET,
+            status: NO_SET,
             run: Run::EMPTY,
         };
     }
@@ -106,5 +106,5 @@ pub(crate) fn trace(sh: Shape, o: &[u16], work: &[u32]) -> StoredOutcome
         s = pass_next(sh, o, work, s, i);
     }
     let run = s.run;
-    StoredOutcome { kind: PLANNED, run }
+    StoredOutcome { status: PLANNED, run }
 }

@@ -16,7 +16,7 @@ use Rattle.tables.specs.Stored.{keepsLimits, Holds}
 use Rattle.tables.specs.declared.entry.Entry.{Entry}
 use Rattle.meaning.specs.Sets.{worth, power}
 use Rattle.meaning.specs.Choice.{shownSet}
-use Rattle.runs.specs.Outcome.{noSet, planned, isNothing, ofKind, heldRange, keepsOutcome}
+use Rattle.runs.specs.Outcome.{noSet, planned, isNothing, ofStatus, heldRange, keepsOutcome}
 use Rattle.calls.specs.State.{State, StoredState, stateOf, keeps}
 use Rattle.calls.specs.Rows.{isLoad}
 use Rattle.calls.specs.Causes.{lowest}
@@ -67,17 +67,17 @@ module _ (p : Planner) {a b : Bool} (t : a ≡ keepsLimits (p .tables)) (o : b �
       let h = g (and-right a b both) (f (and-left a b both)) in
       record { kept = rw (← t, ← o) both; lawful = h; count = tables-count (p .tables) (h .tables) }
 
--- the kind of an outcome
-pub kind-nothing : (k : ℕ) (es : List Entry) → k ≡ 0 → isNothing (ofKind k es) ≡ true
-kind-nothing k es e = rw e
+-- the status of an outcome
+pub status-nothing : (k : ℕ) (es : List Entry) → k ≡ 0 → isNothing (ofStatus k es) ≡ true
+status-nothing k es e = rw e
 
-pub kind-no-set : (k : ℕ) (es : List Entry) → k ≡ 1 → ofKind k es ≡ noSet
-kind-no-set k es e = rw e
+pub status-no-set : (k : ℕ) (es : List Entry) → k ≡ 1 → ofStatus k es ≡ noSet
+status-no-set k es e = rw e
 
-pub kind-something : (k : ℕ) (es : List Entry) → (k ≡ 0 → ⊥) → isNothing (ofKind k es) ≡ false
-kind-something zero es d = absurd (d refl)
-kind-something (suc zero) es d = refl
-kind-something (suc (suc k)) es d = refl
+pub status-something : (k : ℕ) (es : List Entry) → (k ≡ 0 → ⊥) → isNothing (ofStatus k es) ≡ false
+status-something zero es d = absurd (d refl)
+status-something (suc zero) es d = refl
+status-something (suc (suc k)) es d = refl
 
 -- the test of the load's number, as the code makes it
 pub load-out : (k n m : ℕ) → n ≡ m → ltb k 1 || ltb n k ≡ true → between 1 m k ≡ false

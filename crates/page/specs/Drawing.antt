@@ -72,4 +72,4 @@ pub record Drawable (p : Planner) (load bytes : ℕ) : Type 0 where
   pub lawful : Lawful p
   pub low : 1 ≤ load
   pub high : load ≤ p .tables .loads .count
-  pub current : p .outcome .kind ≡ 0 → ⊥
+  pub current : p .outcome .status ≡ 0 → ⊥

@@ -31,7 +31,7 @@ fn refusal(planner: Planner, load: usize, bytes: usize) -> u8
     if (load < 1) | (planner.tables.loads.count < load) {
         return OUT_OF_RANGE;
     }
-    if planner.outcome.kind == NOTHING {
+    if planner.outcome.status == NOTHING {
         return NO_PLAN;
     }
     0
@@ -42,7 +42,7 @@ fn draw_rows(planner: Planner, load: usize, page: &mut [u8])
     requires { ⌜ Drawable planner load (length (now page)) ⌝ }
     ensures { λ _. ⌜ now (page .exit) ≡ pageOf (stateIn planner) load ⌝ }
 {
-    if planner.outcome.kind == NO_SET {
+    if planner.outcome.status == NO_SET {
         let next = put_no_plan(&mut *page, 0);
         put_blanks(&mut *page, next, PAGE_BYTES);
         return;

@@ -26,7 +26,7 @@ use Rattle.meaning.specs.Cells.{cellsOf}
 use Rattle.runs.specs.declared.run.Run.{Run}
 use Rattle.runs.specs.declared.outcome.StoredOutcome.{StoredOutcome}
 use Rattle.runs.specs.Runs.{runOf, entriesTo}
-use Rattle.runs.specs.Outcome.{Outcome, planned, isNothing, isNoSet, entriesOf, found, storedOutcome, ofKind, outcomeOf, rangeOf, outcomeIn}
+use Rattle.runs.specs.Outcome.{Outcome, planned, isNothing, isNoSet, entriesOf, found, storedOutcome, ofStatus, outcomeOf, rangeOf, outcomeIn}
 use Rattle.runs.proofs.Stored.{lines-in, outcome-stored}
 use Rattle.calls.specs.State.{State, StoredState, storedState}
 use Rattle.calls.specs.Rows.{_if_, Row, showingPlan, noneFits, notAllowed, row, causesOf, cellsFor}
@@ -47,13 +47,13 @@ use Rattle.planner.specs.Decided.{unshown, decidedBy, decided, Decides}
 use Rattle.planner.proofs.Commands.{tables-count}
 
 -- ---- what a search found
-pub kind-none : (v : ℕ) (es : List Entry) {o : StoredOutcome} → o ≡ storedOutcome (found v es) → o .kind ≡ 1 → v ≡ 0
-kind-none zero es is e = refl
-kind-none (suc v) es is e = absurd (omega (arith, ap (λ (o : StoredOutcome). o .kind) is))
+pub status-none : (v : ℕ) (es : List Entry) {o : StoredOutcome} → o ≡ storedOutcome (found v es) → o .status ≡ 1 → v ≡ 0
+status-none zero es is e = refl
+status-none (suc v) es is e = absurd (omega (arith, ap (λ (o : StoredOutcome). o .status) is))
 
-pub kind-some : (v : ℕ) (es : List Entry) {o : StoredOutcome} → o ≡ storedOutcome (found v es) → (o .kind ≡ 1 → ⊥) → (v ≡ 0 → ⊥) × (o .run ≡ runOf es)
-kind-some zero es is d = absurd (d (ap (λ (o : StoredOutcome). o .kind) is))
-kind-some (suc v) es is d = (λ z. omega arith, ap (λ (o : StoredOutcome). o .run) is)
+pub status-some : (v : ℕ) (es : List Entry) {o : StoredOutcome} → o ≡ storedOutcome (found v es) → (o .status ≡ 1 → ⊥) → (v ≡ 0 → ⊥) × (o .run ≡ runOf es)
+status-some zero es is d = absurd (d (ap (λ (o : StoredOutcome). o .status) is))
+status-some (suc v) es is d = (λ z. omega arith, ap (λ (o : StoredOutcome). o .run) is)
 
 -- ---- the numbers of `plan`
 module _ (s : State) (cells : ℕ) where
@@ -126,11 +126,11 @@ module _ (p : Planner) (h : Lawful p) where
   }
 
   -- the latest outcome: none, that none fits, or a plan
-  pub last-none : p .outcome .kind ≡ 0 → lowest (causesOf 0 (row (stateIn p) Last)) ≡ no.noPlan
+  pub last-none : p .outcome .status ≡ 0 → lowest (causesOf 0 (row (stateIn p) Last)) ≡ no.noPlan
   unfolding row lowest
   last-none e = rw e
 
-  pub last-none-fits : p .outcome .kind ≡ 1 → lowest (causesOf 0 (row (stateIn p) Last)) ≡ no.noneFits
+  pub last-none-fits : p .outcome .status ≡ 1 → lowest (causesOf 0 (row (stateIn p) Last)) ≡ no.noneFits
   unfolding row lowest
   last-none-fits e = rw e
 
@@ -138,12 +138,12 @@ module _ (p : Planner) (h : Lawful p) where
   pub shown-lines : List Entry
   shown-lines = entriesTo (p .outcome .run) (length (stateIn p .tables .loads))
 
-  module _ (some : p .outcome .kind ≡ 0 → ⊥) (fits : p .outcome .kind ≡ 1 → ⊥) where
+  module _ (some : p .outcome .status ≡ 0 → ⊥) (fits : p .outcome .status ≡ 1 → ⊥) where
     pub planned-is : stateIn p .outcome ≡ planned shown-lines
     unfolding shown-lines
-    planned-is = go (p .outcome .kind) some fits
+    planned-is = go (p .outcome .status) some fits
       where
-        go : (k : ℕ) → (k ≡ 0 → ⊥) → (k ≡ 1 → ⊥) → ofKind k shown-lines ≡ planned shown-lines
+        go : (k : ℕ) → (k ≡ 0 → ⊥) → (k ≡ 1 → ⊥) → ofStatus k shown-lines ≡ planned shown-lines
         go zero a b = absurd (a refl)
         go (suc zero) a b = absurd (b refl)
         go (suc (suc k)) a b = refl

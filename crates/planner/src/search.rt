@@ -63,10 +63,10 @@ impl Planner {
         requires { ⌜ Lawful self ⌝ }
         ensures { λ r. ⌜ r ≡ decided (stateIn self) 0 (row (stateIn self) line.Last) ⌝ }
     {
-        if self.outcome.kind == NOTHING {
+        if self.outcome.status == NOTHING {
             return self.refused(NO_PLAN);
         }
-        if self.outcome.kind == NO_SET {
+        if self.outcome.status == NO_SET {
             return self.refused(NONE_FITS);
         }
         let run = self.outcome.run;
@@ -113,7 +113,7 @@ impl Planner {
             return self.refused(OUT_OF_RANGE);
         }
         let found = engine::plan::check(tables, set);
-        if found.kind == NO_SET {
+        if found.status == NO_SET {
             return self.refused(NOT_ALLOWED);
         }
         let shown = found.run;

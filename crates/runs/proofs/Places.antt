@@ -21,7 +21,7 @@ use Rattle.meaning.specs.Choice.{noEntry}
 use Rattle.runs.specs.declared.run.Run.{Run}
 use Rattle.runs.specs.declared.outcome.RunRange.{RunRange}
 use Rattle.runs.specs.Runs.{entryAt, entriesTo}
-use Rattle.runs.specs.Outcome.{planned, figuresIn, entryIn, outcomeIn, usedBy, ofKind, zeroFrom, runFree}
+use Rattle.runs.specs.Outcome.{planned, figuresIn, entryIn, outcomeIn, usedBy, ofStatus, zeroFrom, runFree}
 use Rattle.runs.specs.Places.{zeroAt, freeFrom, figuresKeep}
 use Rattle.runs.proofs.Entries.{entries-length}
 
@@ -126,47 +126,47 @@ module _ (m : RunRange) (r : Run) (lenS : length (r .states) ≡ maxLoads) (lenL
           go (inl l) = rw (lt-ltb i n l)
           go (inr l) = rw (le-ltb i n l) (z l b)
 
-  -- by the kind of the outcome: where it is a plan all loads are in use, else none
-  kind-in : (k : ℕ) → figuresKeep m r (usedBy (m .loads) k) ≡ true → outcomeIn m (ofKind k (entriesTo r (m .loads))) ≡ true
+  -- by the status of the outcome: where it is a plan all loads are in use, else none
+  status-in : (k : ℕ) → figuresKeep m r (usedBy (m .loads) k) ≡ true → outcomeIn m (ofStatus k (entriesTo r (m .loads))) ≡ true
   unfolding outcomeIn figuresKeep
-  kind-in zero f = refl
-  kind-in (suc zero) f = refl
-  kind-in (suc (suc k)) f = lines-kept m r (m .loads) refl (λ i l. below-at _ (m .loads) i f l)
+  status-in zero f = refl
+  status-in (suc zero) f = refl
+  status-in (suc (suc k)) f = lines-kept m r (m .loads) refl (λ i l. below-at _ (m .loads) i f l)
 
-  in-kind : (k : ℕ) → outcomeIn m (ofKind k (entriesTo r (m .loads))) ≡ true → figuresKeep m r (usedBy (m .loads) k) ≡ true
+  in-status : (k : ℕ) → outcomeIn m (ofStatus k (entriesTo r (m .loads))) ≡ true → figuresKeep m r (usedBy (m .loads) k) ≡ true
   unfolding figuresKeep
-  in-kind zero h = below-all _ 0 (λ i l. absurd (omega arith))
-  in-kind (suc zero) h = below-all _ 0 (λ i l. absurd (omega arith))
-  in-kind (suc (suc k)) h = below-all _ (m .loads) (λ i l. in-lines m r (m .loads) h i l)
+  in-status zero h = below-all _ 0 (λ i l. absurd (omega arith))
+  in-status (suc zero) h = below-all _ 0 (λ i l. absurd (omega arith))
+  in-status (suc (suc k)) h = below-all _ (m .loads) (λ i l. in-lines m r (m .loads) h i l)
 
   -- no more than there are places
-  pub too-many : (k : ℕ) → maxLoads < usedBy (m .loads) k → false ≡ leb k 2 && runFree (usedBy (m .loads) k) r && outcomeIn m (ofKind k (entriesTo r (m .loads)))
+  pub too-many : (k : ℕ) → maxLoads < usedBy (m .loads) k → false ≡ leb k 2 && runFree (usedBy (m .loads) k) r && outcomeIn m (ofStatus k (entriesTo r (m .loads)))
   unfolding figuresKeep
-  too-many k l = go (outcomeIn m (ofKind k (entriesTo r (m .loads)))) refl
+  too-many k l = go (outcomeIn m (ofStatus k (entriesTo r (m .loads)))) refl
     where
-      go : (b : Bool) → outcomeIn m (ofKind k (entriesTo r (m .loads))) ≡ b → false ≡ leb k 2 && runFree (usedBy (m .loads) k) r && b
+      go : (b : Bool) → outcomeIn m (ofStatus k (entriesTo r (m .loads))) ≡ b → false ≡ leb k 2 && runFree (usedBy (m .loads) k) r && b
       go false e = sym (and-false (leb k 2 && runFree (usedBy (m .loads) k) r))
-      go true e = absurd (past m r lenS (below-at _ (usedBy (m .loads) k) maxLoads (in-kind k e) l))
+      go true e = absurd (past m r lenS (below-at _ (usedBy (m .loads) k) maxLoads (in-status k e) l))
 
   pub placed : (k : ℕ) → let n = usedBy (m .loads) k in
-      leb k 2 && freeFrom n r && loadsUpTo n (r .set) && figuresKeep m r n ≡ leb k 2 && runFree n r && outcomeIn m (ofKind k (entriesTo r (m .loads)))
+      leb k 2 && freeFrom n r && loadsUpTo n (r .set) && figuresKeep m r n ≡ leb k 2 && runFree n r && outcomeIn m (ofStatus k (entriesTo r (m .loads)))
   placed k = same-test _ _ forth back
     where
       n : ℕ
       n = usedBy (m .loads) k
 
       shown : Bool
-      shown = outcomeIn m (ofKind k (entriesTo r (m .loads)))
+      shown = outcomeIn m (ofStatus k (entriesTo r (m .loads)))
 
       forth : leb k 2 && freeFrom n r && loadsUpTo n (r .set) && figuresKeep m r n ≡ true → leb k 2 && runFree n r && shown ≡ true
       forth h =
           let c = and-left (leb k 2 && freeFrom n r && loadsUpTo n (r .set)) (figuresKeep m r n) h in
           let b = and-left (leb k 2 && freeFrom n r) (loadsUpTo n (r .set)) c in
           let free = columns-free n (and-right (leb k 2) (freeFrom n r) b) (and-right (leb k 2 && freeFrom n r) (loadsUpTo n (r .set)) c) in
-          rw (and-left (leb k 2) (freeFrom n r) b, free) (kind-in k (and-right (leb k 2 && freeFrom n r && loadsUpTo n (r .set)) (figuresKeep m r n) h))
+          rw (and-left (leb k 2) (freeFrom n r) b, free) (status-in k (and-right (leb k 2 && freeFrom n r && loadsUpTo n (r .set)) (figuresKeep m r n) h))
 
       back : leb k 2 && runFree n r && shown ≡ true → leb k 2 && freeFrom n r && loadsUpTo n (r .set) && figuresKeep m r n ≡ true
       back h =
           let b = and-left (leb k 2 && runFree n r) shown h in
           let free = free-columns n (and-right (leb k 2) (runFree n r) b) in
-          rw (and-left (leb k 2) (runFree n r) b, free .0, free .1) (in-kind k (and-right (leb k 2 && runFree n r) shown h))
+          rw (and-left (leb k 2) (runFree n r) b, free .0, free .1) (in-status k (and-right (leb k 2 && runFree n r) shown h))

@@ -30,7 +30,7 @@ use Rattle.runs.specs.declared.run.Run.{Run}
 use Rattle.runs.specs.declared.outcome.StoredOutcome.{StoredOutcome}
 use Rattle.runs.specs.declared.outcome.RunRange.{RunRange}
 use Rattle.runs.specs.Runs.{markAll, runOf, entriesTo}
-use Rattle.runs.specs.Outcome.{Outcome, nothing, noSet, planned, found, storedOutcome, ofKind, outcomeOf, rangeOf, figuresIn, entryIn, outcomeIn, usedBy, zeroFrom, runFree, keepsOutcome}
+use Rattle.runs.specs.Outcome.{Outcome, nothing, noSet, planned, found, storedOutcome, ofStatus, outcomeOf, rangeOf, figuresIn, entryIn, outcomeIn, usedBy, zeroFrom, runFree, keepsOutcome}
 use Rattle.runs.proofs.Entries.{number-at, find-at, entries-read, set-to, run-read}
 
 -- ---- the lines of a plan that is in range
@@ -127,11 +127,11 @@ module _ (m : RunRange) (few : m .loads ≤ maxLoads) where
 
   -- what keeps the limits is stored so
   as-stored : (k : ℕ) (r : Run) → length (r .states) ≡ maxLoads → length (r .«load_rules») ≡ maxLoads → length (r .«row_rules») ≡ maxLoads
-      → leb k 2 ≡ true → runFree (usedBy (m .loads) k) r ≡ true → record { kind = k; run = r } ≡ storedOutcome (ofKind k (entriesTo r (m .loads)))
+      → leb k 2 ≡ true → runFree (usedBy (m .loads) k) r ≡ true → record { status = k; run = r } ≡ storedOutcome (ofStatus k (entriesTo r (m .loads)))
   unfolding entriesTo
-  as-stored zero r a b c l f = let e = run-read r a b c 0 zero-le f in λ i. record { kind = 0; run = sym e i }
-  as-stored (suc zero) r a b c l f = let e = run-read r a b c 0 zero-le f in λ i. record { kind = 1; run = sym e i }
-  as-stored (suc (suc zero)) r a b c l f = let e = run-read r a b c (m .loads) few f in λ i. record { kind = 2; run = sym e i }
+  as-stored zero r a b c l f = let e = run-read r a b c 0 zero-le f in λ i. record { status = 0; run = sym e i }
+  as-stored (suc zero) r a b c l f = let e = run-read r a b c 0 zero-le f in λ i. record { status = 1; run = sym e i }
+  as-stored (suc (suc zero)) r a b c l f = let e = run-read r a b c (m .loads) few f in λ i. record { status = 2; run = sym e i }
   as-stored (suc (suc (suc k))) r a b c l f = absurd (omega (arith, leb-true (suc (suc (suc k))) 2 l))
 
   pub kept-stored : (o : StoredOutcome) → length (o .run .states) ≡ maxLoads → length (o .run .«load_rules») ≡ maxLoads → length (o .run .«row_rules») ≡ maxLoads
@@ -139,11 +139,11 @@ module _ (m : RunRange) (few : m .loads ≤ maxLoads) where
   unfolding keepsOutcome
   kept-stored o a b c h =
       let front = and-left _ (outcomeIn m (outcomeOf (m .loads) o)) h in
-      as-stored (o .kind) (o .run) a b c (and-left (leb (o .kind) 2) _ front) (and-right (leb (o .kind) 2) _ front)
+      as-stored (o .status) (o .run) a b c (and-left (leb (o .status) 2) _ front) (and-right (leb (o .status) 2) _ front)
 
 pub kept-in : (m : RunRange) (o : StoredOutcome) → keepsOutcome m o ≡ true → outcomeIn m (outcomeOf (m .loads) o) ≡ true
 unfolding keepsOutcome
-kept-in m o h = and-right (leb (o .kind) 2 && runFree (usedBy (m .loads) (o .kind)) (o .run)) (outcomeIn m (outcomeOf (m .loads) o)) h
+kept-in m o h = and-right (leb (o .status) 2 && runFree (usedBy (m .loads) (o .status)) (o .run)) (outcomeIn m (outcomeOf (m .loads) o)) h
 
 -- ---- what a search found: nothing where its best is 0
 pub found-none : (v : ℕ) (es : List Entry) → v ≡ 0 → noSet ≡ found v es

@@ -47,23 +47,23 @@ found zero es = noSet
 found (suc v) es = planned es
 
 -- ---- in a planner
-abbrev pub kindOf : Outcome → ℕ
-kindOf nothing = 0
-kindOf noSet = 1
-kindOf (planned es) = 2
+abbrev pub statusOf : Outcome → ℕ
+statusOf nothing = 0
+statusOf noSet = 1
+statusOf (planned es) = 2
 
 abbrev pub storedOutcome : Outcome → StoredOutcome
-storedOutcome o = record { kind = kindOf o; run = runOf (entriesOf o) }
+storedOutcome o = record { status = statusOf o; run = runOf (entriesOf o) }
 
--- what a kind says
-abbrev pub ofKind : (kind : ℕ) → List Entry → Outcome
-ofKind zero es = nothing
-ofKind (suc zero) es = noSet
-ofKind (suc (suc k)) es = planned es
+-- what a status says
+abbrev pub ofStatus : (status : ℕ) → List Entry → Outcome
+ofStatus zero es = nothing
+ofStatus (suc zero) es = noSet
+ofStatus (suc (suc k)) es = planned es
 
 -- what lies there, with so many loads
 abbrev pub outcomeOf : (loads : ℕ) → StoredOutcome → Outcome
-outcomeOf n o = ofKind (o .kind) (entriesTo (o .run) n)
+outcomeOf n o = ofStatus (o .status) (entriesTo (o .run) n)
 
 -- ---- "out of range for the tables": the limits of a run of theirs
 abbrev pub rangeOf : Tables → RunRange
@@ -98,7 +98,7 @@ outcomeIn m noSet = true
 outcomeIn m (planned es) = eqb (length es) (m .loads) && everyFrom (entryIn m) 1 es
 
 -- the places in use: one for each load, where it is a plan
-abbrev pub usedBy : (loads kind : ℕ) → ℕ
+abbrev pub usedBy : (loads status : ℕ) → ℕ
 usedBy n zero = 0
 usedBy n (suc zero) = 0
 usedBy n (suc (suc k)) = n
@@ -112,4 +112,4 @@ runFree n r = zeroFrom n (r .states) && zeroFrom n (r .«load_rules») && zeroFr
 
 -- is an outcome that is handed in within the limits?
 unfoldable pub keepsOutcome : RunRange → StoredOutcome → Bool
-keepsOutcome m o = leb (o .kind) 2 && runFree (usedBy (m .loads) (o .kind)) (o .run) && outcomeIn m (outcomeOf (m .loads) o)
+keepsOutcome m o = leb (o .status) 2 && runFree (usedBy (m .loads) (o .status)) (o .run) && outcomeIn m (outcomeOf (m .loads) o)

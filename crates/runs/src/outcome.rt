@@ -20,7 +20,7 @@ pub const PLANNED: u8 = 2;
 // on are worked out from the set of the run.
 #[repr(C)]
 pub struct StoredOutcome {
-    pub kind: u8,
+    pub status: u8,
     pub run: Run,
 }
 
@@ -77,15 +77,15 @@ impl Run {
 impl StoredOutcome {
     // No current plan.
     pub const NONE: StoredOutcome = StoredOutcome {
-        kind: NOTHING,
+        status: NOTHING,
         run: Run::EMPTY,
     };
 
     // How many places of the run are in use: one for each load, where there is a plan.
     fn used(self, loads: usize) -> usize
-        ensures { λ r. ⌜ r ≡ usedBy loads (self .kind) ⌝ }
+        ensures { λ r. ⌜ r ≡ usedBy loads (self .status) ⌝ }
     {
-        if PLANNED <= self.kind { loads } else { 0 }
+        if PLANNED <= self.status { loads } else { 0 }
     }
 
     // Are its figures in range, and its unused places 0?
@@ -98,7 +98,7 @@ impl StoredOutcome {
         }
         let run = self.run;
         let set = run.set;
-        (self.kind <= PLANNED)
+        (self.status <= PLANNED)
             & run.free_from(used)
             & set.up_to(used)
             & run.figures_keep(range, used)

@@ -53,7 +53,7 @@ module _ (p : Problem) (sh : Shape) (o w : List ℕ) (all : Complete p sh o w) (
   value : b .value ≡ bestFor p
   value = start-value p o w (whole p sh o w all) b own
 
-  nothing : b .value ≡ 0 → record { kind = 1; run = runOf [] } ≡ answerTo p
+  nothing : b .value ≡ 0 → record { status = 1; run = runOf [] } ≡ answerTo p
   nothing e = ap storedOutcome (found-none (bestFor p) (inOrder (entriesFor p) 1 (p .tables .loads .count)) (sym value ∙ e))
 
   module _ (found : b .value ≡ 0 → ⊥) where
@@ -88,9 +88,9 @@ module _ (p : Problem) (sh : Shape) (o w : List ℕ) (all : Complete p sh o w) (
         subst (Passed p 1) (sym path)
         (pass-root p (all .outlined .lawful) (all .some) (start-pos p o w (whole p sh o w all) b own found) start refl (record { stages = refl; left = refl }))
 
-    whole-run : (s : Pass) (i : ℕ) → i ≡ p .tables .loads .count → Passed p i s → record { kind = 2; run = s .run } ≡ answerTo p
+    whole-run : (s : Pass) (i : ℕ) → i ≡ p .tables .loads .count → Passed p i s → record { status = 2; run = s .run } ≡ answerTo p
     whole-run s i e h =
-        ap (λ (r : Run). record { kind = 2; run = r }) (h .run ∙ ap (λ k. runOf (inOrder (entriesFor p) 1 k)) e)
+        ap (λ (r : Run). record { status = 2; run = r }) (h .run ∙ ap (λ k. runOf (inOrder (entriesFor p) 1 k)) e)
         ∙ ap storedOutcome (found-some (bestFor p) (inOrder (entriesFor p) 1 (p .tables .loads .count)) (omega (arith, value)))
 
 abbrev Inv-loop : tie.InvT-loop

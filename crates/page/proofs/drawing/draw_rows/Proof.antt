@@ -13,7 +13,7 @@ use Rattle.planner.proofs.Commands.{few}
 use Rattle.planner.proofs.Searching.{shown-lines, planned-is, set-is}
 use Rattle.page.specs.Rows.{pageBytes, rowBytes, loadRowCount, blank, planRow, noPlanRow, loadRows}
 use Rattle.page.proofs.RowText.{no-plan-length, plan-length, rows-length}
-use Rattle.page.proofs.Drawn.{kind-no-set, page-none, page-plan, wrote-whole}
+use Rattle.page.proofs.Drawn.{status-no-set, page-none, page-plan, wrote-whole}
 use Rattle.page.proofs.drawing.draw_rows.Statement.{statement}
 use Rattle.page.proofs.drawing.draw_rows.Tie as tie
 
@@ -34,7 +34,7 @@ returns c =
     let rest = replicate (loadRowCount * rowBytes) blank in
     wrote-whole (omega (arith, s .pre .page, length-append noPlanRow rest, no-plan-length, length-replicate {A = ℕ} (loadRowCount * rowBytes) blank))
     (wrote-then (n .put-no-plan .ensures) (rw e at (b .put-blanks .ensures)))
-    ∙ page-none (stateIn p) (s .args .load) (s .pre .low) (kind-no-set (p .outcome .kind) _ (omega (arith, i .if1 .taken, s .pre .current)))
+    ∙ page-none (stateIn p) (s .args .load) (s .pre .low) (status-no-set (p .outcome .status) _ (omega (arith, i .if1 .taken, s .pre .current)))
 
 figures-of-requires : tie.Need-figures-of-requires
 figures-of-requires c κs = let s = c .before .before .before .before .before .before in few (s .args .planner) (s .pre .lawful)
@@ -58,7 +58,7 @@ returns-2 c =
     let s = i .before .before .before in
     let p = s .args .planner in
     let h = s .pre .lawful in
-    let fits : p .outcome .kind ≡ 1 → ⊥ = λ z. omega (arith, z, i .if1 .left) in
+    let fits : p .outcome .status ≡ 1 → ⊥ = λ z. omega (arith, z, i .if1 .left) in
     let v = f .figures-of .result in
     let σ = markIn (p .outcome .run .set) in
     let rest = loadRows (loadsOf (p .tables .loads)) σ (s .args .load) loadRowCount in

@@ -2,7 +2,7 @@
 use native.Mathlib.Omega.{arith}
 use borrow.Author.Needs.{needs}
 use Rattle.planner.specs.Planner.{held}
-use Rattle.page.proofs.Drawn.{no-page, broken, no-load, no-plan, unrefused, test-failed, test-passed, kind-nothing, kind-something, load-out, load-in, load-there}
+use Rattle.page.proofs.Drawn.{no-page, broken, no-load, no-plan, unrefused, test-failed, test-passed, status-nothing, status-something, load-out, load-in, load-there}
 use Rattle.page.proofs.drawing.refusal.Statement.{statement}
 use Rattle.page.proofs.drawing.refusal.Tie as tie
 
@@ -38,7 +38,7 @@ returns-4 c =
     let p = a .planner in
     let t = test-passed p (k .keeps-limits .ensures .0) (o .keeps-outcome .ensures .0) (k .keeps-limits .ensures .1 .0) (o .keeps-outcome .ensures .1) (i .if2 .left) in
     let there = load-in (a .load) (p .tables .loads .count) (j .if3 .left) in
-    (no-plan (held p) (a .load) (a .bytes) (omega (arith, k .before .if1 .left)) (t .kept) (load-there (a .load) (p .tables .loads .count) _ (t .count) there) (kind-nothing (p .outcome .kind) _ (omega (arith, c .if4 .taken))), λ z. absurd (omega arith))
+    (no-plan (held p) (a .load) (a .bytes) (omega (arith, k .before .if1 .left)) (t .kept) (load-there (a .load) (p .tables .loads .count) _ (t .count) there) (status-nothing (p .outcome .status) _ (omega (arith, c .if4 .taken))), λ z. absurd (omega arith))
 
 returns-5 : tie.Need-returns-5
 returns-5 c =
@@ -50,7 +50,7 @@ returns-5 c =
     let p = a .planner in
     let t = test-passed p (k .keeps-limits .ensures .0) (o .keeps-outcome .ensures .0) (k .keeps-limits .ensures .1 .0) (o .keeps-outcome .ensures .1) (i .if2 .left) in
     let there = load-in (a .load) (p .tables .loads .count) (j .if3 .left) in (
-      unrefused (held p) (a .load) (a .bytes) (omega (arith, k .before .if1 .left)) (t .kept) (load-there (a .load) (p .tables .loads .count) _ (t .count) there) (kind-something (p .outcome .kind) _ (λ z. omega (arith, z, c .if4 .left))),
+      unrefused (held p) (a .load) (a .bytes) (omega (arith, k .before .if1 .left)) (t .kept) (load-there (a .load) (p .tables .loads .count) _ (t .count) there) (status-something (p .outcome .status) _ (λ z. omega (arith, z, c .if4 .left))),
       λ z. record { page = omega (arith, k .before .if1 .left); lawful = t .lawful; low = there .0; high = there .1; current = λ z. omega (arith, z, c .if4 .left) },
     )
 

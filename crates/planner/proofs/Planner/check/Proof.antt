@@ -13,7 +13,7 @@ use Rattle.calls.specs.Rows.{row}
 use Rattle.calls.proofs.Answers.{positive}
 use Rattle.planner.specs.Planner.{stateIn}
 use Rattle.planner.proofs.Commands.{load-count}
-use Rattle.planner.proofs.Searching.{kind-none, kind-some, check-no-loads, check-out-of-range, check-not-allowed, check-accepted, kept, refuses, allows}
+use Rattle.planner.proofs.Searching.{status-none, status-some, check-no-loads, check-out-of-range, check-not-allowed, check-accepted, kept, refuses, allows}
 use Rattle.planner.proofs.Planner.check.Statement.{statement}
 use Rattle.planner.proofs.Planner.check.Tie as tie
 
@@ -52,7 +52,7 @@ returns-3 c =
     let e = k .before .before .before in
     let s = e .args .self .tables in
     refuses (e .args .self) (e .pre) (row (stateIn (e .args .self)) (Check (e .args .set) (e .args .count))) _ no.notAllowed (lit< tt) refl (c .refused3 .ensures)
-    (check-not-allowed (stateIn (e .args .self)) (e .args .set) (e .args .count) (some-loads k) (each-load (o .before)) (kind-none (bestCheck (tablesOf s) (markIn (e .args .set))) (checkEntries (tablesOf s) (markIn (e .args .set))) (o .check .ensures) (c .before .if3 .taken)))
+    (check-not-allowed (stateIn (e .args .self)) (e .args .set) (e .args .count) (some-loads k) (each-load (o .before)) (status-none (bestCheck (tablesOf s) (markIn (e .args .set))) (checkEntries (tablesOf s) (markIn (e .args .set))) (o .check .ensures) (c .before .if3 .taken)))
 
 returns-4 : tie.Need-returns-4
 returns-4 c =
@@ -60,7 +60,7 @@ returns-4 c =
     let k = o .before .before .before in
     let e = k .before .before .before in
     let s = e .args .self .tables in
-    let f = kind-some (bestCheck (tablesOf s) (markIn (e .args .set))) (checkEntries (tablesOf s) (markIn (e .args .set))) (o .check .ensures) (c .before .if3 .left) in
+    let f = status-some (bestCheck (tablesOf s) (markIn (e .args .set))) (checkEntries (tablesOf s) (markIn (e .args .set))) (o .check .ensures) (c .before .if3 .left) in
     allows (e .args .self) (e .pre) (e .args .set) (e .args .count) _ (check-accepted (stateIn (e .args .self)) (e .args .set) (e .args .count) (some-loads k) (each-load (o .before)) (f .0)) _ (f .1)
 
 pub check-spec : {M : Type 1} → statement M

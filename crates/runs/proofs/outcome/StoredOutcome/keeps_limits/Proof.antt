@@ -25,7 +25,7 @@ returns c =
     let u = c .before in
     let s = u .before in
     let a = s .args in
-    too-many (a .range) (a .self .run) (states s) (rules s) (rows s) (a .self .kind) (omega (arith, c .if1 .taken, u .used .ensures))
+    too-many (a .range) (a .self .run) (states s) (rules s) (rows s) (a .self .status) (omega (arith, c .if1 .taken, u .used .ensures))
 
 returns-2 : tie.Need-returns-2
 unfolding keepsOutcome
@@ -36,7 +36,7 @@ returns-2 c =
     let s = u .before in
     let a = s .args in
     rw (f .free-from .ensures, p .up-to .ensures, c .figures-keep .ensures, u .used .ensures)
-    (placed (a .range) (a .self .run) (states s) (rules s) (rows s) (a .self .kind))
+    (placed (a .range) (a .self .run) (states s) (rules s) (rows s) (a .self .status))
 
 pub keeps-limits-spec : {M : Type 1} → statement M
 keeps-limits-spec =
