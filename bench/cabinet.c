@@ -12,14 +12,14 @@ static bool found(const TransitionList *list, Transition t) {
     return false;
 }
 
-// Rules that are all different. Their first numbers go round, so that each state or stage has as many as another; the mark or state and the
-// last number are random. A longer list begins with the shorter one.
+// Rules that are all different, of kind 0. Their first numbers go round, so that each state or stage has as many as another; the mark or state
+// and the last number are random. A longer list begins with the shorter one.
 void add_rules(TransitionList *list, int rules, int states, bool of_loads, unsigned seed) {
     srand(seed);
     while ((int)list->count < rules) {
         int j = (int)list->count;
         int label = of_loads ? rand() % 2 : 1 + rand() % states;
-        Transition t = {(uint8_t)(1 + j % states), (uint8_t)label, (uint8_t)(1 + rand() % states)};
+        Transition t = {(uint8_t)(1 + j % states), (uint8_t)label, (uint8_t)(1 + rand() % states), 0};
         if (!found(list, t))
             list->items[list->count++] = t;
     }
@@ -66,7 +66,7 @@ Tables tables_of(Cabinet c) {
     for (int k = 0; k < c.loads; k++) {
         uint8_t parent = (uint8_t)parent_of(c.shape, k);
         uint16_t power = (uint16_t)power_of(c);
-        t.loads.items[k] = (Load){parent, power, (uint16_t)(rand() % (HULMEIDE_MAX_WORTH + 1))};
+        t.loads.items[k] = (Load){parent, 0, power, (uint16_t)(rand() % (HULMEIDE_MAX_WORTH + 1))};
     }
     t.loads.count = (size_t)c.loads;
     return t;
@@ -77,6 +77,14 @@ Tables with_equals(Tables t) {
         t.loads.items[k].power = (uint16_t)(t.loads.items[k].power % 4 * 10);
         t.loads.items[k].worth %= 2;
     }
+    return t;
+}
+
+Tables with_kinds(Tables t) {
+    for (size_t k = 0; k < t.loads.count; k++)
+        t.loads.items[k].kind = (uint8_t)(k % 2);
+    for (size_t j = 0; j < t.book.load_rules.count; j++)
+        t.book.load_rules.items[j].kind = (uint8_t)(j / t.book.states % 2);
     return t;
 }
 

@@ -25,6 +25,9 @@ Tables tables_of(Cabinet c);
 // The same cabinet, but its loads draw 0, 10, 20 or 30 watts and are worth 0 or 1: many sets are equal in worth, and many in power too.
 Tables with_equals(Tables t);
 
+// The same cabinet, but its loads are of kinds 0 and 1 in turn, and so are the load rules of each state.
+Tables with_kinds(Tables t);
+
 void add_rules(TransitionList *list, int rules, int states, bool of_loads, unsigned seed);
 size_t cells_of(const Tables *t);
 

@@ -16,7 +16,7 @@ static int choose_load_rule(const Tables *t, uint32_t *work, int k, int state, i
     for (int j = 0; j < (int)t->book.load_rules.count; j++) {
         Transition r = t->book.load_rules.items[j];
         int power = r.label ? t->loads.items[k].power : 0;
-        if (r.from != state || power > *allowance)
+        if (r.from != state || r.kind != t->loads.items[k].kind || power > *allowance)
             continue;
         if (joined(own_cell(t, k, r.label), row_value(t, work, child, r.to, *allowance - power)) == goal) {
             run->states[k] = (uint8_t)state;
@@ -52,7 +52,7 @@ static Transition choose_row_rule(const Tables *t, uint32_t *work, int k, int st
             return r;
         }
     }
-    return (Transition){0, 0, 0};
+    return (Transition){0, 0, 0, 0};
 }
 
 static void choose_branch(const Tables *t, uint32_t *work, int k, int state, int allowance, Run *run);

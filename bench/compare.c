@@ -1,36 +1,51 @@
 // The proved plan of this archive against that of another one: the answers on cabinets by chance, and then times by tree and loads, and on
-// cabinets of many equals. bench/compare links both.
+// cabinets of many equals. bench/compare links both. Each has a planner of its own, which lines alone change, so that their layouts may differ.
 #include "measure.h"
 #include <stdio.h>
 #include <stdlib.h>
 #include <string.h>
 
-// `hulmeide_call` of the other archive.
+// `hulmeide_call` and `hulmeide_fresh` of the other archive.
 extern __typeof__(hulmeide_call) other_call;
+extern __typeof__(hulmeide_fresh) other_fresh;
 
-enum { OTHER, THIS, BOTH, CABINETS = 5000 };
+enum { OTHER, THIS, BOTH, CABINETS = 5000, PLANNER_ROOM = 4096 };
 
+static union { struct hulmeide_planner planner; uint8_t room[PLANNER_ROOM]; } planners[BOTH];
 static uint32_t work[HULMEIDE_MAX_CELLS];
+static size_t cells;
 static Answer answers[BOTH];
 
-// The same line to both; each has tables of its own.
-static void ask(int which, Tables *t, const char *line) {
+static void ask(int which, const char *line, size_t length) {
     Answer *a = &answers[which];
-    const uint8_t *bytes = (const uint8_t *)line;
-    if (which == OTHER)
-        a->reply = other_call(t, bytes, strlen(line), a->text, sizeof a->text, 0, work, cells_of(t));
-    else
-        a->reply = hulmeide_call(t, bytes, strlen(line), a->text, sizeof a->text, 0, work, cells_of(t));
+    __typeof__(hulmeide_call) *call = which == OTHER ? other_call : hulmeide_call;
+    a->reply = call(&planners[which].planner, (const uint8_t *)line, length, a->text, sizeof a->text, 0, work, cells);
 }
 
-static void plan(int which, Tables *t) {
-    ask(which, t, "plan");
+static void plan(int which) {
+    ask(which, "plan", strlen("plan"));
 }
 
-static double time_of_plan(int which, Tables *t, int turns) {
+// Both planners hold these tables: this archive writes the lines, in the form that an archive before it takes too.
+static void enter(Tables *t) {
+    Answer saved;
+    answer_line(t, "save1", work, &saved);
+    cells = cells_of(t);
+    other_fresh(&planners[OTHER].planner);
+    hulmeide_fresh(&planners[THIS].planner);
+    for (size_t at = 0; at < saved.reply.count;) {
+        const char *line = (const char *)saved.text + at;
+        size_t length = (size_t)((const char *)memchr(line, '\n', saved.reply.count - at) - line);
+        ask(OTHER, line, length);
+        ask(THIS, line, length);
+        at += length + 1;
+    }
+}
+
+static double time_of_plan(int which, int turns) {
     double began = seconds();
     for (int turn = 0; turn < turns; turn++)
-        plan(which, t);
+        plan(which);
     return (seconds() - began) / turns;
 }
 
@@ -60,36 +75,34 @@ static Tables tables_by_chance(unsigned seed) {
     t.book.ends = (uint8_t)(1 + up_to((1 << states) - 2));
     for (int k = 0; k < c.loads; k++) {
         int parent = k == 0 ? 0 : k - up_to((k < near ? k : near) - 1);
-        t.loads.items[k] = (Load){(uint8_t)parent, (uint16_t)up_to(top_power), (uint16_t)up_to(top_worth)};
+        t.loads.items[k] = (Load){(uint8_t)parent, 0, (uint16_t)up_to(top_power), (uint16_t)up_to(top_worth)};
     }
     return t;
 }
 
-// A plan, and a check of any set: the answers, and what is stored.
-static void compare_by_chance(unsigned seed) {
+// A plan, a check of any set, and what is stored then: the answers. Has it a plan?
+static bool compare_by_chance(unsigned seed) {
     char check[HULMEIDE_LINE_BYTES + 1] = "check,";
-    Tables t[BOTH] = {tables_by_chance(seed), tables_by_chance(seed)};
-    for (size_t k = 0; k < t[THIS].loads.count; k++)
+    Tables t = tables_by_chance(seed);
+    enter(&t);
+    for (size_t k = 0; k < t.loads.count; k++)
         strcat(check, up_to(3) ? "0" : "1");
-    const char *lines[] = {"plan", check};
-    for (int i = 0; i < 2; i++) {
+    const char *lines[] = {"plan", check, "last"};
+    for (int i = 0; i < 3; i++) {
         for (int which = OTHER; which < BOTH; which++)
-            ask(which, &t[which], lines[i]);
-        if (!same_answer() || memcmp(&t[OTHER], &t[THIS], sizeof t[THIS]) != 0) {
+            ask(which, lines[i], strlen(lines[i]));
+        if (!same_answer()) {
             printf("answers differ: cabinet %u, %s\n", seed, lines[i]);
             exit(1);
         }
     }
+    return answers[THIS].reply.number == HULMEIDE_ACCEPTED;
 }
 
 static void compare_answers(void) {
     int planned = 0;
-    for (unsigned seed = 1; seed <= CABINETS; seed++) {
-        Tables t = tables_by_chance(seed);
-        compare_by_chance(seed);
-        plan(THIS, &t);
-        planned += answers[THIS].reply.number == HULMEIDE_ACCEPTED;
-    }
+    for (unsigned seed = 1; seed <= CABINETS; seed++)
+        planned += compare_by_chance(seed);
     printf("Answers to plans and checks of %d cabinets by chance are equal; %d have a plan\n\n", CABINETS, planned);
 }
 
@@ -98,15 +111,16 @@ static void compare_answers(void) {
 // The answers are compared, and then the best times of either in turns that take about a millisecond.
 static void print_both(const char *name, int number, Tables t) {
     double best[BOTH];
+    enter(&t);
     for (int which = OTHER; which < BOTH; which++)
-        best[which] = time_of_plan(which, &t, 1);
+        best[which] = time_of_plan(which, 1);
     if (!same_answer()) {
         printf("answers differ: %s, %d\n", name, number);
         exit(1);
     }
     int turns = 1 + (int)(1e-3 / best[THIS]);
     for (int round = 0; round < ROUNDS * BOTH; round++) {
-        double time = time_of_plan(round % BOTH, &t, turns);
+        double time = time_of_plan(round % BOTH, turns);
         if (time < best[round % BOTH])
             best[round % BOTH] = time;
     }

@@ -54,7 +54,8 @@ static void fill(const Tables *t, uint32_t *work) {
     for (int k = (int)t->loads.count - 1; k >= 0; k--) {
         int child = first_child(t, k), next = next_sibling(t, k);
         for (size_t j = 0; j < t->book.load_rules.count; j++)
-            raise_branch(t, work, k, child, t->book.load_rules.items[j]);
+            if (t->book.load_rules.items[j].kind == t->loads.items[k].kind)
+                raise_branch(t, work, k, child, t->book.load_rules.items[j]);
         for (size_t j = 0; j < t->book.row_rules.count; j++)
             raise_row(t, work, k, next, t->book.row_rules.items[j]);
     }

@@ -13,6 +13,7 @@ pub struct Transition {
     from: u8,
     label: u8,
     to: u8,
+    kind: u8,
 }
 
 #[repr(C)]
@@ -25,6 +26,7 @@ pub struct TransitionList {
 #[derive(Clone, Copy)]
 pub struct Load {
     parent: u8,
+    kind: u8,
     power: u16,
     worth: u16,
 }
@@ -180,7 +182,9 @@ fn fill(t: &Tables, work: &mut [u32]) {
     work.fill(0);
     for k in (0..t.loads.count).rev() {
         for &rule in t.book.load_rules.rules() {
-            raise_branch(t, work, k, rule);
+            if rule.kind == t.loads()[k].kind {
+                raise_branch(t, work, k, rule);
+            }
         }
         for &rule in t.book.row_rules.rules() {
             raise_row(t, work, k, rule);
@@ -203,7 +207,7 @@ fn choose_branch(t: &Tables, work: &[u32], run: &mut Run, k: usize, state: u8, a
     let child = t.first_child(k);
     for (j, rule) in t.book.load_rules.rules().iter().enumerate() {
         let (power, own) = t.own(k, rule.label);
-        if rule.from != state || power > allowance {
+        if rule.from != state || rule.kind != t.loads()[k].kind || power > allowance {
             continue;
         }
         if joined(own, row_value(t, work, child, rule.to, allowance - power)) == goal {

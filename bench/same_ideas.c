@@ -105,10 +105,12 @@ static void fill_stretch(const Tables *t, uint32_t *work, int k, int other, bool
     const TransitionList *rules = of_loads ? &t->book.load_rules : &t->book.row_rules;
     for (size_t j = 0; j < rules->count; j++) {
         Transition r = rules->items[j];
-        if (r.from == from && of_loads)
-            raise_branch(t, work, strip, k, other, r);
-        else if (r.from == from)
+        if (r.from != from)
+            continue;
+        if (!of_loads)
             raise_row(t, work, strip, k, other, r);
+        else if (r.kind == t->loads.items[k].kind)
+            raise_branch(t, work, strip, k, other, r);
     }
     uint32_t *cells = of_loads ? branch_cells(t, work, k, from) : row_cells(t, work, k, from);
     memcpy(cells, strip, (size_t)width_of(t) * sizeof *cells);

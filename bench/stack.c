@@ -141,6 +141,7 @@ static void print_calls(Shape shape) {
     print_page();
     print_of_last_load("change", "power", ",1");
     print_line("save", "save", HULMEIDE_ACCEPTED);
+    print_line("save1", "save1", HULMEIDE_ACCEPTED);
     print_line("refused", "load,1,1,1", HULMEIDE_FULL);
     print_of_last_load("drop", "drop", "");
     tables = tables_of(largest(shape));

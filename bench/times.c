@@ -35,6 +35,16 @@ static void print_equals(void) {
         }
 }
 
+static void print_kinds(void) {
+    print_head("Two kinds of load in turn: 64 loads, 8 states, 8 stages, 32 + 32 rules, 2 for each state and kind", "tree", "watts");
+    for (int shape = 0; shape < SHAPES; shape++)
+        for (int budget = 125; budget <= HULMEIDE_MAX_BUDGET; budget += 125) {
+            Cabinet c = largest(shape);
+            c.budget = budget;
+            print_row(shape_names[shape], budget, with_kinds(tables_of(c)));
+        }
+}
+
 // ---- pages
 
 enum { LAST, DRAWING, STRETCH, ASKED, TURNS = 1000 };
@@ -91,6 +101,7 @@ int main(void) {
     print_trees();
     print_growth();
     print_equals();
+    print_kinds();
     print_pages();
     return 0;
 }

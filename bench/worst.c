@@ -13,7 +13,7 @@
 // What a recipe's numbers are, and their ranges. Equal recipes have equal tables.
 enum { TREE, SIZE, PLACE, POWERS, TOP_POWER, WORTHS, TOP_WORTH, BOOK, END_STAGES, CHANCE, NUMBERS };
 enum { LATE, EARLY, ROWS, BALANCED, BUSHES, BROOM, TREES };
-enum { ANY, EQUAL, ORDERLY, KINDS };
+enum { ANY, EQUAL, ORDERLY, MANNERS };
 
 typedef struct { int numbers[NUMBERS]; } Recipe;
 
@@ -21,9 +21,9 @@ static const struct { const char *name; int least, most; } ranges[NUMBERS] = {
     [TREE] = {"tree", 0, TREES - 1},
     [SIZE] = {"size", 1, HULMEIDE_MAX_LOADS - 1},
     [PLACE] = {"place", 0, HULMEIDE_MAX_LOADS - 1},
-    [POWERS] = {"powers: 0 by chance up to the top, 1 all at the top, 2 powers of two up to the top, in turn", 0, KINDS - 1},
+    [POWERS] = {"powers: 0 by chance up to the top, 1 all at the top, 2 powers of two up to the top, in turn", 0, MANNERS - 1},
     [TOP_POWER] = {"top power", 1, HULMEIDE_MAX_POWER},
-    [WORTHS] = {"worths: 0 by chance up to the top, 1 all at the top, 2 in proportion to the power", 0, KINDS - 1},
+    [WORTHS] = {"worths: 0 by chance up to the top, 1 all at the top, 2 in proportion to the power", 0, MANNERS - 1},
     [TOP_WORTH] = {"top worth, of the greatest power where in proportion", 1, HULMEIDE_MAX_WORTH},
     [BOOK] = {"book: 0 by chance, 1 even", 0, 1},
     [END_STAGES] = {"end stages", 1, HULMEIDE_MAX_STAGES},
@@ -81,8 +81,8 @@ static void add_even_rules(struct hulmeide_book *book) {
     for (int j = 0; j < HULMEIDE_MAX_RULES; j++) {
         int x = j % HULMEIDE_MAX_STATES, turn = j / HULMEIDE_MAX_STATES;
         uint8_t from = (uint8_t)(1 + x), mark = (uint8_t)(turn % 2);
-        book->load_rules.items[j] = (Transition){from, mark, (uint8_t)(1 + (x + turn / 2) % HULMEIDE_MAX_STAGES)};
-        book->row_rules.items[j] = (Transition){from, (uint8_t)(1 + (x + turn) % HULMEIDE_MAX_STATES), from};
+        book->load_rules.items[j] = (Transition){from, mark, (uint8_t)(1 + (x + turn / 2) % HULMEIDE_MAX_STAGES), 0};
+        book->row_rules.items[j] = (Transition){from, (uint8_t)(1 + (x + turn) % HULMEIDE_MAX_STATES), from, 0};
     }
     book->load_rules.count = book->row_rules.count = HULMEIDE_MAX_RULES;
 }
@@ -102,7 +102,7 @@ static Tables tables_by(const Recipe *r) {
     for (int k = 0; k < c.loads; k++) {
         int parent = k == 0 ? 0 : parent_in(r, k);
         int power = power_in(r, k);
-        t.loads.items[k] = (Load){(uint8_t)parent, (uint16_t)power, (uint16_t)worth_in(r, power)};
+        t.loads.items[k] = (Load){(uint8_t)parent, 0, (uint16_t)power, (uint16_t)worth_in(r, power)};
     }
     return t;
 }

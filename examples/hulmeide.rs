@@ -6,7 +6,7 @@ use std::mem::{size_of, MaybeUninit};
 // ---- Version, sizes and numbers, as include/hulmeide.h has them: tests/limits.py compares the two.
 
 /// The version of the header that this wrapper is for: major * 10000 + minor * 100 + patch.
-pub const VERSION: u32 = 10600;
+pub const VERSION: u32 = 10800;
 
 /// A line has at most this many bytes, its line feed not counted.
 pub const LINE_BYTES: usize = 80;
@@ -14,16 +14,17 @@ pub const LINE_BYTES: usize = 80;
 /// A number in a line has at most this many digits, zeros in front of it among them: such zeros change nothing.
 pub const MAX_DIGITS: usize = 5;
 
-/// So many bytes must be free in the output from the place on, for every line but `save`, `last` among them.
+/// So many bytes must be free in the output from the place on, for every line but `save` and `save1`, `last` among them.
 pub const FREE_BYTES: usize = 1024;
 
-/// So many must be free for `save`. An output of this length is enough for every line.
+/// So many must be free for `save` and for `save1`. An output of this length is enough for every line.
 pub const SAVE_BYTES: usize = 3000;
 
 /// The cells that the line program lends. What the plan of a planner needs is [`Planner::cells_needed`].
 pub const LINE_PROGRAM_CELLS: usize = 16384;
 
-// The largest cabinet. Power and budget are in watts.
+// The largest cabinet. Power and budget are in watts. A load and a load rule have a kind, 0 to the greatest, and a rule serves only the loads
+// of its kind.
 pub const MAX_LOADS: usize = 64;
 pub const MAX_RULES: usize = 32;
 pub const MAX_STATES: usize = 8;
@@ -31,13 +32,14 @@ pub const MAX_STAGES: usize = 8;
 pub const MAX_POWER: usize = 500;
 pub const MAX_WORTH: usize = 1000;
 pub const MAX_BUDGET: usize = 500;
+pub const MAX_KIND: usize = 3;
 
 // A page of the handheld: rows of ASCII bytes, one after the other.
 pub const PAGE_ROWS: usize = 8;
 pub const ROW_BYTES: usize = 20;
 pub const PAGE_BYTES: usize = PAGE_ROWS * ROW_BYTES;
 
-const PLANNER_BYTES: usize = 824;
+const PLANNER_BYTES: usize = 888;
 const NOT_A_RUN: u32 = 255;
 
 /// Why a line, numbers that were to be judged, or a drawing were refused. A refusal leaves the planner as it was, but that
@@ -57,14 +59,25 @@ pub enum Refusal {
     HasChildren = 11,
     NoPlan = 12,
     NotAPage = 13,
+    KindsInUse = 14,
 }
 
 // ---- The planner, laid out as the header has it.
 
+/// A load rule with its kind, or a row rule, which has none and holds 0 there.
+#[repr(C)]
+#[derive(Clone)]
+struct Rule {
+    from: u8,
+    label: u8,
+    to: u8,
+    kind: u8,
+}
+
 #[repr(C)]
 #[derive(Clone)]
 struct Rules {
-    items: [[u8; 3]; MAX_RULES],
+    items: [Rule; MAX_RULES],
     count: usize,
 }
 
@@ -83,6 +96,7 @@ struct Book {
 #[derive(Clone)]
 struct Load {
     parent: u8,
+    kind: u8,
     power: u16,
     worth: u16,
 }
@@ -106,7 +120,7 @@ struct Run {
 #[repr(C)]
 #[derive(Clone)]
 struct Outcome {
-    kind: u8,
+    status: u8,
     run: Run,
 }
 
@@ -161,7 +175,7 @@ extern "C" {
 }
 
 impl Refusal {
-    const ALL: [Refusal; 13] = [
+    const ALL: [Refusal; 14] = [
         Refusal::TurnedAway,
         Refusal::LongLine,
         Refusal::BadForm,
@@ -175,9 +189,10 @@ impl Refusal {
         Refusal::HasChildren,
         Refusal::NoPlan,
         Refusal::NotAPage,
+        Refusal::KindsInUse,
     ];
 
-    /// Its number, 1 to 13. That of a line is printed as `no,N`, but for 1; that of a drawing is only returned.
+    /// Its number, 1 to 14. That of a line is printed as `no,N`, but for 1; that of a drawing is only returned.
     pub fn number(self) -> u32 {
         self as u32
     }
@@ -198,6 +213,7 @@ impl Refusal {
             Refusal::HasChildren => "the load has children",
             Refusal::NoPlan => "no current plan",
             Refusal::NotAPage => "a page of another length",
+            Refusal::KindsInUse => "a load or a load rule has a kind other than 0",
         }
     }
 
@@ -273,11 +289,18 @@ impl Planner {
         Answer { count: reply.count, refusal: Refusal::of(reply.number) }
     }
 
-    /// The lines that rebuild the tables, each with its line feed, as `save` writes them. It changes nothing, and is never refused: lines alone
-    /// changed the tables, and the output is long enough.
+    /// The lines that rebuild the tables, each with its line feed, as `save` writes them, with every kind. It changes nothing, and is never
+    /// refused: lines alone changed the tables, and the output is long enough.
     pub fn save<'a>(&mut self, out: &'a mut [u8; SAVE_BYTES]) -> &'a [u8] {
         let answer = self.call(b"save", out, 0, &mut []);
         &out[..answer.count]
+    }
+
+    /// The same lines without kinds, as `save1` writes them for a planner before 1.8. It changes nothing, and is refused with
+    /// [`Refusal::KindsInUse`] where some load or some load rule has a kind other than 0.
+    pub fn save1<'a>(&mut self, out: &'a mut [u8; SAVE_BYTES]) -> Result<&'a [u8], Refusal> {
+        let answer = self.call(b"save1", out, 0, &mut []);
+        answer.refusal.map_or(Ok(&out[..answer.count]), Err)
     }
 
     /// The latest plan, its lines each with its line feed, as `last` shows it: without planning anew. It changes nothing. It is refused with

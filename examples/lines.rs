@@ -45,15 +45,16 @@ fn judged(planner: &Planner, text: &str) -> bool {
     !shows || planner.judge(&shown_run(text)) == Ok(true)
 }
 
-/// Do the lines of a save make another planner that saves the same? An answer that is no save passes.
-fn rebuilds(text: &str) -> bool {
+/// Do the lines of a save, with kinds or without, make another planner that saves the same? An answer that is no save passes.
+fn rebuilds(line: &[u8], text: &str) -> bool {
     if !text.starts_with("clear") {
         return true;
     }
     let mut other = Planner::new();
     let mut out = [0; SAVE_BYTES];
     let taken = text.lines().all(|line| other.call(line.as_bytes(), &mut out, 0, &mut []).refusal.is_none());
-    taken && other.save(&mut out) == text.as_bytes()
+    let again = if line == b"save1" { other.save1(&mut out) } else { Ok(other.save(&mut out)) };
+    taken && again == Ok(text.as_bytes())
 }
 
 /// Does `drop_load` drop as a line did, on the planner as it was before? A line that is no drop passes.
@@ -134,7 +135,7 @@ fn main() -> io::Result<()> {
         let few_cells = line == b"plan" && planner.cells_needed() > work.len();
         assert_eq!(answer.refusal == Some(Refusal::FewCells), few_cells);
         assert!(judged(&planner, text), "the planner showed what is no run");
-        assert!(rebuilds(text), "the planner showed a save that does not rebuild it");
+        assert!(rebuilds(&line, text), "the planner showed a save that does not rebuild it");
         assert!(drops_alike(before, &line, answer.refusal), "the wrapper drops otherwise than the line");
         latest = latest_after(latest, &line, text);
         assert!(shows(&mut planner, &latest), "the wrapper shows another plan than the latest");

@@ -43,8 +43,12 @@ extern "C" {
  *      stand where they stood: it has 824 bytes. One of 1.4 has 616; with 208 bytes of 0 behind them it is one of 1.5, with no current plan.
  * 1.6: hulmeide_draw draws the latest plan on a page, and HULMEIDE_NOT_A_PAGE is a refusal of it; hulmeide_stretch and hulmeide_stretch_row
  *      say which rows of a page the glass does not show yet. Lines, answers and layout are those of 1.5.
+ * 1.8: a load and a load rule have a kind. `load` and `rule` take it as a last field, which may be left out: lines as before mean what they
+ *      meant. `save` writes every kind. `save1` is a command, which writes the form of 1.2 that planners before 1.8 take, and
+ *      HULMEIDE_KINDS_IN_USE its refusal. A planner has 888 bytes, and its fields stand at other places; the field `kind` of an outcome is
+ *      `status` now. There is no 1.7.
  */
-#define HULMEIDE_VERSION 10600
+#define HULMEIDE_VERSION 10800
 
 /* ---- Sizes ----
  *
@@ -57,18 +61,20 @@ extern "C" {
 /* A number in a line has at most this many digits, zeros in front of it among them: such zeros change nothing. */
 #define HULMEIDE_MAX_DIGITS 5
 
-/* So many bytes must be free in the output from the place on, for every line but `save`, `last` among them. No answer but a save is longer. */
+/* So many bytes must be free in the output from the place on, for every line but `save` and `save1`, `last` among them. No answer but a save is
+ * longer. */
 #define HULMEIDE_FREE_BYTES 1024
 
-/* So many must be free for `save`, and no save is longer: a caller that passes every line on lends this. A line that only begins like it, as
- * `save,1` and `saves` do, or one over HULMEIDE_LINE_BYTES bytes, needs HULMEIDE_FREE_BYTES. */
+/* So many must be free for `save` and for `save1`, and no save is longer: a caller that passes every line on lends this. A line that only begins
+ * like one, as `save,1` and `save1,` do, or one over HULMEIDE_LINE_BYTES bytes, needs HULMEIDE_FREE_BYTES. */
 #define HULMEIDE_SAVE_BYTES 3000
 
 /* The line program's number, and no limit of the library: the cells of 32 bits that it lends as work. Another caller lends what its plans
  * need, hulmeide_cells_needed, or HULMEIDE_MAX_CELLS, which is enough for every plan. */
 #define HULMEIDE_LINE_PROGRAM_CELLS 16384
 
-/* The largest cabinet. There are at most HULMEIDE_MAX_RULES rules of each sort. Power and budget are in watts. */
+/* The largest cabinet. There are at most HULMEIDE_MAX_RULES rules of each sort, load rules of every kind counted together. Power and budget are
+ * in watts. A kind is 0 to HULMEIDE_MAX_KIND. */
 #define HULMEIDE_MAX_LOADS 64
 #define HULMEIDE_MAX_RULES 32
 #define HULMEIDE_MAX_STATES 8
@@ -76,6 +82,7 @@ extern "C" {
 #define HULMEIDE_MAX_POWER 500
 #define HULMEIDE_MAX_WORTH 1000
 #define HULMEIDE_MAX_BUDGET 500
+#define HULMEIDE_MAX_KIND 3
 
 /* A page of the handheld: rows of ASCII bytes, one after the other, with nothing between them and no NUL byte at the end. */
 #define HULMEIDE_PAGE_ROWS 8
@@ -96,9 +103,9 @@ extern "C" {
 enum hulmeide_number {
     /* A line was accepted. The judge: yes, the numbers are a run. A page was drawn. */
     HULMEIDE_ACCEPTED = 0,
-    /* Fewer free bytes from the place on than the line needs (HULMEIDE_SAVE_BYTES for `save`, HULMEIDE_FREE_BYTES for every other line), a
-     * place past the end, or a planner that breaks a limit, in its tables or in its outcome (the judge and a drawing: only the last). Nothing
-     * is written, and everything is left as it was. */
+    /* Fewer free bytes from the place on than the line needs (HULMEIDE_SAVE_BYTES for `save` and `save1`, HULMEIDE_FREE_BYTES for every other
+     * line), a place past the end, or a planner that breaks a limit, in its tables or in its outcome (the judge and a drawing: only the last).
+     * Nothing is written, and everything is left as it was. */
     HULMEIDE_TURNED_AWAY = 1,
     /* A line over HULMEIDE_LINE_BYTES bytes. */
     HULMEIDE_LONG_LINE = 2,
@@ -111,7 +118,7 @@ enum hulmeide_number {
     HULMEIDE_OUT_OF_RANGE = 5,
     /* HULMEIDE_MAX_LOADS loads, or HULMEIDE_MAX_RULES rules of that sort, already. */
     HULMEIDE_FULL = 6,
-    /* The same rule is in the book already. */
+    /* The same rule is in the book already. Two load rules of different kinds are not the same. */
     HULMEIDE_SAME_RULE = 7,
     /* `plan` with too few cells of work. */
     HULMEIDE_FEW_CELLS = 8,
@@ -127,6 +134,8 @@ enum hulmeide_number {
     HULMEIDE_NO_PLAN = 12,
     /* A drawing on other than HULMEIDE_PAGE_BYTES bytes. */
     HULMEIDE_NOT_A_PAGE = 13,
+    /* `save1` while some load or some load rule has a kind other than 0, whether a plan would use it or not. */
+    HULMEIDE_KINDS_IN_USE = 14,
     /* The judge: no, the numbers are not a run. This is no refusal, and lies above the numbers of all of them. */
     HULMEIDE_NOT_A_RUN = 255
 };
@@ -138,11 +147,13 @@ enum hulmeide_number {
  * call may change it.
  */
 
-/* A load rule is (state, mark, stage), a row rule (stage, state, next stage). */
+/* A load rule is (state, mark, stage), a row rule (stage, state, next stage). A load rule serves only the loads of its kind, so that safety
+ * readers, say, obey other rules than cameras; in plans, checks and runs that are judged. A row rule has no kind, and holds 0 there. */
 struct hulmeide_rule {
     uint8_t from;
     uint8_t label;
     uint8_t to;
+    uint8_t kind;
 };
 
 /* Rules in order of entry. The first `count` are in use, and the others hold 0. */
@@ -151,9 +162,10 @@ struct hulmeide_rules {
     size_t count;
 };
 
-/* The number of the parent (0 for load 1), watts, and worth. */
+/* The number of the parent (0 for load 1), the kind, watts, and worth. No line changes the kind of a load that is there. */
 struct hulmeide_load {
     uint8_t parent;
+    uint8_t kind;
     uint16_t power;
     uint16_t worth;
 };
@@ -176,7 +188,7 @@ struct hulmeide_book {
 };
 
 /* What is stored as the outcome of the latest plan: nothing, since no plan is current; that no allowed set fits; or a plan. */
-enum hulmeide_outcome_kind {
+enum hulmeide_outcome_status {
     HULMEIDE_OUTCOME_NOTHING = 0,
     HULMEIDE_OUTCOME_NO_SET = 1,
     HULMEIDE_OUTCOME_PLANNED = 2
@@ -191,11 +203,10 @@ struct hulmeide_run {
     uint64_t set;
 };
 
-/* The outcome of the latest plan, an enum hulmeide_outcome_kind and the run. Where it is no plan, every place of the run holds 0 and the set is
- * empty. Worth, power and the number of loads on are not stored: `last` and a drawing work
- * them out from the set and the loads. */
+/* The outcome of the latest plan, an enum hulmeide_outcome_status and the run. Where it is no plan, every place of the run holds 0 and the set
+ * is empty. Worth, power and the number of loads on are not stored: `last` and a drawing work them out from the set and the loads. */
 struct hulmeide_outcome {
-    uint8_t kind;
+    uint8_t status;
     struct hulmeide_run run;
 };
 
@@ -234,32 +245,34 @@ HULMEIDE_ASSERT(HULMEIDE_SAVE_BYTES >= HULMEIDE_FREE_BYTES, "HULMEIDE_SAVE_BYTES
 
 /* The layouts are those that the archive was built with. */
 HULMEIDE_ASSERT(sizeof(size_t) == 8, "the archive is for x86-64");
-HULMEIDE_ASSERT(sizeof(struct hulmeide_rule) == 3, "hulmeide_rule");
+HULMEIDE_ASSERT(sizeof(struct hulmeide_rule) == 4, "hulmeide_rule");
 HULMEIDE_ASSERT(offsetof(struct hulmeide_rule, label) == 1, "hulmeide_rule.label");
 HULMEIDE_ASSERT(offsetof(struct hulmeide_rule, to) == 2, "hulmeide_rule.to");
-HULMEIDE_ASSERT(sizeof(struct hulmeide_rules) == 104, "hulmeide_rules");
-HULMEIDE_ASSERT(offsetof(struct hulmeide_rules, count) == 96, "hulmeide_rules.count");
+HULMEIDE_ASSERT(offsetof(struct hulmeide_rule, kind) == 3, "hulmeide_rule.kind");
+HULMEIDE_ASSERT(sizeof(struct hulmeide_rules) == 136, "hulmeide_rules");
+HULMEIDE_ASSERT(offsetof(struct hulmeide_rules, count) == 128, "hulmeide_rules.count");
 HULMEIDE_ASSERT(sizeof(struct hulmeide_load) == 6, "hulmeide_load");
+HULMEIDE_ASSERT(offsetof(struct hulmeide_load, kind) == 1, "hulmeide_load.kind");
 HULMEIDE_ASSERT(offsetof(struct hulmeide_load, power) == 2, "hulmeide_load.power");
 HULMEIDE_ASSERT(offsetof(struct hulmeide_load, worth) == 4, "hulmeide_load.worth");
 HULMEIDE_ASSERT(sizeof(struct hulmeide_loads) == 392, "hulmeide_loads");
 HULMEIDE_ASSERT(offsetof(struct hulmeide_loads, count) == 384, "hulmeide_loads.count");
-HULMEIDE_ASSERT(sizeof(struct hulmeide_book) == 216, "hulmeide_book");
+HULMEIDE_ASSERT(sizeof(struct hulmeide_book) == 280, "hulmeide_book");
 HULMEIDE_ASSERT(offsetof(struct hulmeide_book, stages) == 1, "hulmeide_book.stages");
 HULMEIDE_ASSERT(offsetof(struct hulmeide_book, starts) == 2, "hulmeide_book.starts");
 HULMEIDE_ASSERT(offsetof(struct hulmeide_book, ends) == 3, "hulmeide_book.ends");
 HULMEIDE_ASSERT(offsetof(struct hulmeide_book, load_rules) == 8, "hulmeide_book.load_rules");
-HULMEIDE_ASSERT(offsetof(struct hulmeide_book, row_rules) == 112, "hulmeide_book.row_rules");
+HULMEIDE_ASSERT(offsetof(struct hulmeide_book, row_rules) == 144, "hulmeide_book.row_rules");
 HULMEIDE_ASSERT(sizeof(struct hulmeide_run) == 200, "hulmeide_run");
 HULMEIDE_ASSERT(offsetof(struct hulmeide_run, load_rules) == 64, "hulmeide_run.load_rules");
 HULMEIDE_ASSERT(offsetof(struct hulmeide_run, row_rules) == 128, "hulmeide_run.row_rules");
 HULMEIDE_ASSERT(offsetof(struct hulmeide_run, set) == 192, "hulmeide_run.set");
 HULMEIDE_ASSERT(sizeof(struct hulmeide_outcome) == 208, "hulmeide_outcome");
 HULMEIDE_ASSERT(offsetof(struct hulmeide_outcome, run) == 8, "hulmeide_outcome.run");
-HULMEIDE_ASSERT(sizeof(struct hulmeide_planner) == 824, "hulmeide_planner");
-HULMEIDE_ASSERT(offsetof(struct hulmeide_planner, loads) == 216, "hulmeide_planner.loads");
-HULMEIDE_ASSERT(offsetof(struct hulmeide_planner, budget) == 608, "hulmeide_planner.budget");
-HULMEIDE_ASSERT(offsetof(struct hulmeide_planner, outcome) == 616, "hulmeide_planner.outcome");
+HULMEIDE_ASSERT(sizeof(struct hulmeide_planner) == 888, "hulmeide_planner");
+HULMEIDE_ASSERT(offsetof(struct hulmeide_planner, loads) == 280, "hulmeide_planner.loads");
+HULMEIDE_ASSERT(offsetof(struct hulmeide_planner, budget) == 672, "hulmeide_planner.budget");
+HULMEIDE_ASSERT(offsetof(struct hulmeide_planner, outcome) == 680, "hulmeide_planner.outcome");
 HULMEIDE_ASSERT(sizeof(struct hulmeide_reply) == 16, "hulmeide_reply");
 HULMEIDE_ASSERT(offsetof(struct hulmeide_reply, count) == 8, "hulmeide_reply.count");
 HULMEIDE_ASSERT(sizeof(struct hulmeide_part) == 16, "hulmeide_part");
@@ -280,7 +293,9 @@ void hulmeide_fresh(struct hulmeide_planner *planner);
  * `last` shows the outcome of the latest plan as `plan` printed it, HULMEIDE_NONE_FITS as well, without planning anew. It changes nothing and
  * needs no work: a display may ask as often as it likes. Once a change was accepted it is HULMEIDE_NO_PLAN until the next plan.
  * `save` changes nothing and writes lines, each with its line feed, that rebuild the tables: any planner that breaks no limit accepts them one
- * by one, and has these tables then.
+ * by one, and has these tables then. `save1` writes them without kinds, for a planner before 1.8, where every kind is 0, and is
+ * HULMEIDE_KINDS_IN_USE otherwise. It changes nothing either.
+ * `load` and `rule` may have a kind as a last field, as in "load,1,5,30,2" and "rule,1,1,1,2"; without it the kind is 0.
  * `drop` takes out a load that has no children. The numbers above its own fall by one, in parents too; the order of the loads stays, and the
  * place that is free then can be filled again, however often.
  */
@@ -288,7 +303,8 @@ struct hulmeide_reply hulmeide_call(struct hulmeide_planner *planner, const uint
                                     size_t out_length, size_t place, uint32_t *work, size_t work_length);
 
 /*
- * Are these numbers a run? They are three for each load in load order: its state, its load rule and its row rule (0 for load 1).
+ * Are these numbers a run? They are three for each load in load order: its state, its load rule, which is of the load's kind, and its row rule
+ * (0 for load 1).
  * Returns HULMEIDE_ACCEPTED for yes, HULMEIDE_NOT_A_RUN for no, or HULMEIDE_TURNED_AWAY, HULMEIDE_NO_LOADS or HULMEIDE_OUT_OF_RANGE.
  */
 uint32_t hulmeide_judge(const struct hulmeide_planner *planner, const uint32_t *run, size_t run_length);

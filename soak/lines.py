@@ -2,28 +2,36 @@
 
 The weights of the words change from season to season, so that lists run full, books are replaced, and plans are asked for.
 """
+from collections import namedtuple
+
 from model import RANGES, Model
 from edges import BELOW  # of tests/, which model.py put on the path
 
 SEASON = 150  # lines
 SEASONS = (
-    {b'load': 30, b'power': 2, b'worth': 2, b'budget': 1, b'plan': 2, b'check': 2, b'save': 1, b'last': 1},
-    {b'start': 2, b'end': 2, b'rule': 20, b'row': 20, b'load': 3, b'plan': 2, b'check': 2, b'save': 1, b'last': 1},
+    {b'load': 30, b'power': 2, b'worth': 2, b'budget': 1, b'plan': 2, b'check': 2, b'save': 1, b'save1': 1, b'last': 1},
+    {b'start': 2, b'end': 2, b'rule': 20, b'row': 20, b'load': 3, b'plan': 2, b'check': 2, b'save': 1, b'save1': 1, b'last': 1},
     {b'start': 1, b'end': 1, b'rule': 5, b'row': 5, b'load': 2, b'power': 5, b'worth': 5, b'budget': 5, b'plan': 8, b'check': 5, b'save': 1,
-     b'last': 3},
-    {b'book': 1, b'start': 6, b'end': 6, b'rule': 8, b'row': 8, b'load': 1, b'budget': 2, b'plan': 2, b'check': 2, b'save': 1, b'last': 1},
-    {b'load': 20, b'drop': 20, b'power': 1, b'worth': 1, b'budget': 2, b'plan': 3, b'check': 3, b'save': 2, b'last': 1},
-    {b'load': 10, b'drop': 20, b'rule': 3, b'row': 3, b'budget': 2, b'plan': 2, b'check': 2, b'save': 1, b'last': 1},
+     b'save1': 1, b'last': 3},
+    {b'book': 1, b'start': 6, b'end': 6, b'rule': 8, b'row': 8, b'load': 1, b'budget': 2, b'plan': 2, b'check': 2, b'save': 1, b'save1': 1,
+     b'last': 1},
+    {b'load': 20, b'drop': 20, b'power': 1, b'worth': 1, b'budget': 2, b'plan': 3, b'check': 3, b'save': 2, b'save1': 1, b'last': 1},
+    {b'load': 10, b'drop': 20, b'rule': 3, b'row': 3, b'budget': 2, b'plan': 2, b'check': 2, b'save': 1, b'save1': 1, b'last': 1},
     {word: 1 for word in (*RANGES, b'check')},
 )
 OTHER_WORDS = (
-    b'', b'Plan', b'plans', b'pla', b'save', b'saves', b'drop', b'Drop', b'drops', b'dro', b' drop', b'last', b'Last', b'lasts', b'las',
-    b'need', b'rules', b'check1', b'cler', b'0', b'no', b'ok',
+    b'', b'Plan', b'plans', b'pla', b'save', b'saves', b'save1', b'save2', b'Save1', b'drop', b'Drop', b'drops', b'dro', b' drop', b'last',
+    b'Last', b'lasts', b'las', b'need', b'rules', b'check1', b'cler', b'0', b'no', b'ok',
 )
-ASKED = (b'save', b'last', b'plan', b'last', b'check')  # after a drop; they change no table
+ASKED = (b'save', b'save1', b'last', b'plan', b'last', b'check')  # after a drop; they change no table
 POLLED = 0.3  # how often `last` comes after a line before or after which an outcome is stored
-# The greatest values of a line's last fields, power and worth, in a season in which many sets are equal in worth.
-EQUALS = {b'load': (3, 1), b'power': (3,), b'worth': (1,)}
+# The greatest power and worth, each with its place in a line, in a season in which many sets are equal in worth.
+EQUALS = {b'load': {1: 3, 2: 1}, b'power': {1: 3}, b'worth': {1: 1}}
+# The kinds of the load rules and of the loads of a season that begins without any, and numbers that are no kind.
+KINDS = (0,), (0,), (0,), (0, 1), (2,), range(Model.most_kind + 1)
+NO_KINDS = Model.most_kind + 1, Model.most_kind + 2, 255, 256, 257, 10 ** Model.most_digits - 1
+WITH_KIND = b'rule', b'load'
+Style = namedtuple('Style', 'equals kinds')  # of a season: are many sets equal in worth, and which kinds are there?
 STRAY = bytes((0, 1, 9, 11, 13, 32, 34, 43, 44, 45, 46, 47, 48, 49, 57, 58, 65, 97, 127, 128, 255))
 LONG = (*range(Model.most_bytes - 1, Model.most_bytes + 3), Model.most_bytes + 20, 1024, 1025, 4095, 4096, 4097, 9000)
 
@@ -43,12 +51,12 @@ def budget(rng, model):
     """A budget: any, a small one, the greatest for which the cells lent are enough, or one more than that."""
     each = max(1, len(model.loads) * (model.states + model.stages))
     last = model.cells_lent // each - 1
-    kind = rng.randrange(4)
-    if kind == 0:
+    sort = rng.randrange(4)
+    if sort == 0:
         return rng.randint(0, model.most_budget)
-    if kind == 1:
+    if sort == 1:
         return rng.randint(0, 12)
-    return max(0, last + kind - 2)
+    return max(0, last + sort - 2)
 
 
 def bits(rng, model):
@@ -59,12 +67,12 @@ def bits(rng, model):
 
 def leaf(rng, model):
     """The number of a load without children."""
-    return rng.choice(sorted({*range(1, len(model.loads) + 1)} - {parent for parent, _, _ in model.loads}))
+    return rng.choice(sorted({*range(1, len(model.loads) + 1)} - {parent for parent, *_ in model.loads}))
 
 
-def values(rng, model, word, equals):
+def values(rng, model, word, style):
     """Values for the fields of a word: in their ranges, now and then at an edge, now and then those of a rule that is there. A load that is to
-    leave has mostly no children. Where `equals`, loads have few different figures."""
+    leave has mostly no children. By the season's style loads have few different figures or many, and few kinds."""
     there = {b'rule': model.rules, b'row': model.rows}.get(word)
     if there and rng.random() < 0.1:
         return rng.choice(there)
@@ -74,10 +82,12 @@ def values(rng, model, word, equals):
         return [leaf(rng, model)]
     ranges = RANGES[word](model)
     found = [rng.randint(low, max(low, high)) for low, high in ranges]
-    if equals and word in EQUALS:
-        found[-len(EQUALS[word]):] = [rng.randint(0, most) for most in EQUALS[word]]
+    for place, most in EQUALS.get(word, {}).items() if style.equals else ():
+        found[place] = rng.randint(0, most)
+    if word in WITH_KIND:
+        found[-1] = rng.choice(style.kinds if rng.random() < 0.95 else NO_KINDS)
     if ranges and rng.random() < 0.2:
-        field = rng.randrange(len(ranges))
+        field = rng.randrange(min(3, len(ranges)))  # any but the kind
         found[field] = at_an_edge(rng, *ranges[field])
     return found
 
@@ -87,11 +97,14 @@ def number(rng, value):
     return (b'%d' % value).zfill(rng.randint(1, Model.most_digits) if rng.random() < 0.3 else 1)
 
 
-def line_of(rng, model, word, equals):
-    """A line that is in form."""
+def line_of(rng, model, word, style):
+    """A line that is in form. A kind of 0 is often left out."""
     if word == b'check':
         return b'check,' + bits(rng, model)
-    return b','.join([word] + [number(rng, value) for value in values(rng, model, word, equals)])
+    found = values(rng, model, word, style)
+    if word in WITH_KIND and found[-1] == 0 and rng.random() < 0.6:
+        found = found[:-1]
+    return b','.join([word] + [number(rng, value) for value in found])
 
 
 # ---- damage to a line
@@ -143,7 +156,7 @@ def made_long(rng, line):
     """The line filled up to a length at or past the limit, in form or not."""
     length = rng.choice(LONG)
     filling = rng.choice((b'0', b'1', b',', b' ', b'x', b'\0'))
-    return rng.choice((line, b'check,', b'budget,', b'save', b'last')).ljust(length, filling)
+    return rng.choice((line, b'check,', b'budget,', b'save', b'save1', b'last')).ljust(length, filling)
 
 
 def noise(rng, line):
@@ -184,26 +197,32 @@ def dropped(taken):
     return values[0] if number == 0 and word == b'drop' else None
 
 
-def after(rng, model, line, equals):
+def after(rng, model, line, style):
     """What follows a line, which the model takes: the words of ASKED after a drop, and often `last` where an outcome is stored or was."""
     stored = model.stored
     if dropped(model.take(line)):
-        return [line_of(rng, model, word, equals) for word in ASKED]
+        return [line_of(rng, model, word, style) for word in ASKED]
     return [b'last'] if (stored or model.stored) and rng.random() < POLLED else []
+
+
+def kinds_for(rng, model):
+    """The kinds for a season: those that are there, mostly, so that most loads have a rule."""
+    there = [one[3] for one in model.rules + model.loads]
+    return there if there and rng.random() < 0.8 else rng.choice(KINDS)
 
 
 def season(rng, model):
     """The lines of a season. The model takes each, so that the next one is written for the tables in force."""
-    weights, equals = rng.choice(SEASONS), rng.random() < 0.4
+    weights, lines = rng.choice(SEASONS), first_lines(rng, model)
     words, shares = list(weights), list(weights.values())
-    lines = first_lines(rng, model)
     for line in lines:
         model.take(line)
+    style = Style(rng.random() < 0.4, kinds_for(rng, model))
     while len(lines) < SEASON:
-        line = line_of(rng, model, rng.choices(words, shares)[0], equals)
+        line = line_of(rng, model, rng.choices(words, shares)[0], style)
         if rng.random() < 0.2:
             line = rng.choice(DAMAGE)(rng, line)
-        following = after(rng, model, line, equals)
+        following = after(rng, model, line, style)
         for next_line in following:
             model.take(next_line)
         lines += [line, *following]
@@ -216,6 +235,29 @@ def one_rule_more():
     rules = [b'rule,%d,0,%d' % (q, g) for q in range(1, states + 1) for g in range(1, stages + 1)]
     rows = [b'row,1,%d,%d' % (q, h) for q in range(1, states + 1) for h in range(1, stages + 1)]
     return [b'book,%d,%d' % (states, stages)] + [line for sort in (rules, rows) for line in (*sort[:Model.most_rules + 1], sort[0])]
+
+
+def kinds_past_all():
+    """As many load rules of one kind as there may be, and then one more of each kind, of one past the last, and of those that are there."""
+    rules = [b'rule,%d,%d,%d,1' % (n % 8 + 1, n // 8 % 2, n // 16 + 1) for n in range(Model.most_rules)]
+    return [b'book,8,8', *rules] + [b'rule,1,0,%d,%d' % (stage, kind) for stage in (1, 8) for kind in range(Model.most_kind + 2)]
+
+
+# Lines of load rules and of loads with kinds at every edge, and lines that are nearly such.
+NEAR_KINDS = (
+    b'rule,1,0,1', b'rule,1,0,1,0', b'rule,1,0,1,00000', b'rule,1,0,1,1', b'rule,1,0,1,1', b'rule,1,0,1,3', b'rule,1,0,1,00003', b'rule,1,0,1,4',
+    b'rule,1,0,1,256', b'rule,1,0,1,', b'rule,1,0,1,0,0', b'rule,1,0,1,000000', b'row,1,1,1,0', b'row,1,1,1,1', b'row,1,1,1,', b'row,1,1,1',
+    b'load,0,1,1,3', b'load,1,1,1,4', b'load,1,1,1,65536', b'load,1,1,1,', b'load,1,1,1,0,0', b'load,1,1,1', b'load,1,1,1,0', b'load,2,2,2,2',
+)
+
+
+def of_kinds():
+    """A kind on a load alone and on a load rule alone, both at every edge, and what changes loads, books and plans with them, with saves between."""
+    lines = [b'clear', b'save1', b'load,0,1,1', b'save1', b'load,1,1,1,1', b'save1', b'drop,2', b'save1', b'book,2,2', b'rule,2,0,2,3', b'save1']
+    lines += [b'save1,', b'save1,1', b'save,1', b'save1s', b'book,1,1', b'save1', *NEAR_KINDS, b'drop,4', b'power,1,9', b'worth,1,9', b'power,3,9']
+    lines += [b'worth,4,2', b'drop,3', b'start,1', b'end,1', b'budget,20', b'plan', b'rule,1,1,1,3', b'rule,1,1,1,2', b'rule,1,0,1,2', b'plan']
+    lines = [line for one in lines for line in (one, b'save', b'last')]
+    return lines + [b'plan', b'save1', b'last', b'check,000', b'check,101', b'check,111', b'book,2,2', b'save', b'clear', b'save1']
 
 
 def all_cells():
@@ -234,8 +276,8 @@ def cameras(*powers):
 
 # Lines that leave the last plan of a feed with two cameras as it is, and lines that do not, though they leave every table equal.
 LEFT = (
-    b'budget,501', b'drop,4', b'power,4,1', b'rule,1,0,2', b'row,2,2,2', b'drop,1', b'check,110', b'check,101', b'check,011', b'save', b'last',
-    b'plan', b'plan,', b'', b'last,', b'clear'.ljust(Model.most_bytes + 1, b','),
+    b'budget,501', b'drop,4', b'power,4,1', b'rule,1,0,2', b'row,2,2,2', b'drop,1', b'check,110', b'check,101', b'check,011', b'save', b'save1',
+    b'last', b'rule,1,0,2,0', b'rule,1,0,2,4', b'load,1,1,1,4', b'plan', b'plan,', b'', b'last,', b'clear'.ljust(Model.most_bytes + 1, b','),
 )
 WIPED = (b'start,1', b'end,2', b'power,2,9', b'worth,3,20', b'budget,9')
 
@@ -255,7 +297,7 @@ def seldom():
     """What random lines seldom have, in a session of its own."""
     sizes = [b'book,%d,1' % (Model.most_states + 1), b'book,1,%d' % (Model.most_stages + 1)]
     others = [b'\0plan', b'\0budget,1', b'check,', b'save']
-    return sizes + one_rule_more() + all_cells() + others + cameras(9, 6) + cameras(6, 9) + polled()
+    return sizes + one_rule_more() + kinds_past_all() + all_cells() + others + cameras(9, 6) + cameras(6, 9) + polled() + of_kinds()
 
 
 def session(rng, model, count):

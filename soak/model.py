@@ -1,5 +1,5 @@
 """A plain model of the planner's tables, straight from papers 01 and 02: what each line changes, the refusals that the tables settle, the lines
-of a save, and whether the outcome of a plan is stored.
+of both saves, and whether the outcome of a plan is stored.
 
 It does no planning, so what the outcome is it does not know; that is held to what was printed for the plan (soak.py). It shares no code with
 the product, nor with tests/oracle.py; the limits are those of the header, by tests/limits.py.
@@ -25,6 +25,7 @@ class Model:
     most_power = limits.MAX_POWER
     most_worth = limits.MAX_WORTH
     most_budget = limits.MAX_BUDGET
+    most_kind = limits.MAX_KIND
     cells_lent = limits.CELLS
 
     def __init__(self):
@@ -34,7 +35,7 @@ class Model:
     # ---- "A fresh planner has 0 states and stages, no rules, no loads and budget 0"
 
     def clear(self):
-        self.loads = []  # Load k is [parent, power, worth] at place k - 1.
+        self.loads = []  # Load k is [parent, power, worth, kind] at place k - 1.
         self.budget = 0
         self.book(0, 0)
 
@@ -43,7 +44,7 @@ class Model:
         self.stages = stages
         self.starts = set()
         self.ends = set()
-        self.rules = []
+        self.rules = []  # [state, mark, stage, kind]
         self.rows = []
 
     # ---- "Lines": the form of a line
@@ -65,25 +66,30 @@ class Model:
             return None
         return [byte - ord('0') for byte in field]
 
+    def with_kind(self, word, fields):
+        """The fields of a load rule or of a load with its kind: "Lines without it mean kind 0." """
+        return [*fields, b'0'] if word in (b'rule', b'load') and len(fields) == 3 else fields
+
     def read(self, line):
         """The word and its values, or None for a line that is no command of the table or breaks its form."""
         word, *fields = line.split(b',')
         if word == b'check':
             values = self.bits(fields[0]) if len(fields) == 1 else None
             return None if values is None else (word, values)
+        fields = self.with_kind(word, fields)
         if word not in RANGES or len(fields) != len(RANGES[word](self)):
             return None
         values = [self.number(field) for field in fields]
         return None if None in values else (word, values)
 
-    # ---- "Causes and numbers", from 4 to 8, 11 and 12
+    # ---- "Causes and numbers", from 4 to 8, 11, 12 and 14
 
     def in_range(self, word, values):
         if word == b'check':
             return len(values) == len(self.loads)
         return all(low <= value <= high for value, (low, high) in zip(values, RANGES[word](self)))
 
-    def full(self, word):
+    def full(self, word, values):
         if word == b'load':
             return len(self.loads) >= self.most_loads
         if word == b'rule':
@@ -101,13 +107,21 @@ class Model:
     def has_children(self, k):
         return any(load[0] == k for load in self.loads)
 
+    def kinds_in_use(self):
+        """"some load or load rule has a kind other than 0"."""
+        return any(one[3] for one in self.rules + self.loads)
+
+    def serves(self, rule, load):
+        """"a rule serves only loads of its kind"."""
+        return rule[3] == load[3]
+
     def cause(self, word, values):
         """The lowest number that applies and that the tables settle, or 0."""
         if word in (b'plan', b'check') and not self.loads:
             return 4
         if not self.in_range(word, values):
             return 5
-        if self.full(word):
+        if self.full(word, values):
             return 6
         if self.known(word, values):
             return 7
@@ -117,6 +131,8 @@ class Model:
             return 11
         if word == b'last' and not self.stored:
             return 12
+        if word == b'save1' and self.kinds_in_use():
+            return 14
         return 0
 
     # ---- "Lines": the effect of an accepted line
@@ -176,9 +192,16 @@ class Model:
                 yield word, values
         yield b'budget', (self.budget,)
 
+    def written(self, word, values):
+        return b','.join([word] + [b'%d' % value for value in values])
+
     def saved(self):
-        """The lines of a save."""
-        return [b','.join([word] + [b'%d' % value for value in values]) for word, values in self.rebuilding()]
+        """The lines of `save`, which "writes every kind, 0 too"."""
+        return [self.written(word, values) for word, values in self.rebuilding()]
+
+    def saved_before(self):
+        """The lines of `save1`, which "writes the form of request Two"."""
+        return [self.written(word, values[:3]) for word, values in self.rebuilding()]
 
     # ---- "A plan, or its refusal 9, stores its outcome beside the tables ..; an accepted change wipes it."
 
@@ -217,19 +240,20 @@ RANGES = {
     b'book': lambda t: ((1, t.most_states), (1, t.most_stages)),
     b'start': lambda t: ((1, t.states),),
     b'end': lambda t: ((1, t.stages),),
-    b'rule': lambda t: ((1, t.states), (0, t.most_mark), (1, t.stages)),
+    b'rule': lambda t: ((1, t.states), (0, t.most_mark), (1, t.stages), (0, t.most_kind)),
     b'row': lambda t: ((1, t.stages), (1, t.states), (1, t.stages)),
-    b'load': lambda t: ((min(1, len(t.loads)), len(t.loads)), (0, t.most_power), (0, t.most_worth)),
+    b'load': lambda t: ((min(1, len(t.loads)), len(t.loads)), (0, t.most_power), (0, t.most_worth), (0, t.most_kind)),
     b'power': lambda t: ((1, len(t.loads)), (0, t.most_power)),
     b'worth': lambda t: ((1, len(t.loads)), (0, t.most_worth)),
     b'budget': lambda t: ((0, t.most_budget),),
     b'plan': lambda t: (),
     b'save': lambda t: (),
+    b'save1': lambda t: (),
     b'drop': lambda t: ((1, len(t.loads)),),
     b'last': lambda t: (),
 }
 
-# The method that makes each change; `plan`, `check`, `save` and `last` change no table.
+# The method that makes each change; `plan`, `check`, `save`, `save1` and `last` change no table.
 EFFECTS = {
     b'clear': 'clear', b'book': 'book', b'start': 'start', b'end': 'end', b'rule': 'rule', b'row': 'row',
     b'load': 'load', b'power': 'power', b'worth': 'worth', b'budget': 'set_budget', b'drop': 'drop',

@@ -16,12 +16,13 @@ def entry(line, number):
     return values[1:] if values[0] == number else None
 
 
-def load_rule(model, entry):
-    """The load rule of an entry, if it is one of the book and begins with the entry's state and mark."""
-    mark, state, rule, _ = entry
-    if not 1 <= rule <= len(model.rules):
+def load_rule(model, entry, load):
+    """The load rule of a load's entry, if it is one of the book, serves the load, and begins with the entry's state and mark."""
+    mark, state, number, _ = entry
+    if not 1 <= number <= len(model.rules):
         return None
-    return model.rules[rule - 1] if model.rules[rule - 1][:2] == [state, mark] else None
+    rule = model.rules[number - 1]
+    return rule if rule[:2] == [state, mark] and model.serves(rule, load) else None
 
 
 def reached(model, entry, stage):
@@ -34,14 +35,14 @@ def reached(model, entry, stage):
 
 def is_tree(model):
     """Does each parent come before its children? A model that is wrong on purpose may leave a load whose parent does not."""
-    return all(0 < parent < k if k > 1 else parent == 0 for k, (parent, _, _) in enumerate(model.loads, 1))
+    return all(0 < parent < k if k > 1 else parent == 0 for k, (parent, *_) in enumerate(model.loads, 1))
 
 
 def is_run(model, entries):
     """Is this a run? A parent comes before its children, and children come in order, so one pass in load order follows every row."""
     stages = []
     for k, entry in enumerate(entries):
-        rule = load_rule(model, entry)
+        rule = load_rule(model, entry, model.loads[k])
         if rule is None:
             return False
         if k == 0:

@@ -4,10 +4,11 @@ drawn by no line (tests/pagecheck.py).
 
   soak.py PROGRAM [--lines N] [--seed S] [--wrong NAME]
 
-Every answer to a change, every refusal from 2 to 8, every 11 and 12 and every save is compared. Of a plan or a check that the tables do not
+Every answer to a change, every refusal from 2 to 8, every 11, 12 and 14 and every save is compared. Of a plan or a check that the tables do not
 refuse, the answer must be 9 or 10, or a run of the set it shows, line for line (shown.py). The last plan must be what was printed for the
 latest one, where the model has one stored. Every number that a word can be answered with must come up.
-After a drop a save, a plan with `last` before and after it, and a check are asked for. Another process, fed the tree without that load, must answer the same.
+After a drop both saves, a plan with `last` before and after it, and a check are asked for. Another process, fed the tree without that load,
+must answer the same.
 Plans are asked for again, of another process, with a budget of just their power and with a watt less (budgets.py); and where the last plan was
 shown, the tables in force are fed to another process, whose plan must be the same (latest.py).
 Then the same lines are given to models that are wrong on purpose (wrong.py), and each must be told apart from the program.
@@ -37,8 +38,8 @@ KEPT = 20  # sessions that the wrong models are given
 # The numbers that each word can be answered with, 0 for accepted. A line with no word that counts is answered with 2 or 3.
 KINDS = {
     b'clear': (0,), b'book': (0, 5), b'start': (0, 5), b'end': (0, 5), b'rule': (0, 5, 6, 7), b'row': (0, 5, 6, 7), b'load': (0, 5, 6),
-    b'power': (0, 5), b'worth': (0, 5), b'budget': (0, 5), b'plan': (0, 4, 8, 9), b'check': (0, 4, 5, 10), b'save': (0,), b'drop': (0, 5, 11),
-    b'last': (0, 9, 12), None: (2, 3),
+    b'power': (0, 5), b'worth': (0, 5), b'budget': (0, 5), b'plan': (0, 4, 8, 9), b'check': (0, 4, 5, 10), b'save': (0,),
+    b'save1': (0, 14), b'drop': (0, 5, 11), b'last': (0, 9, 12), None: (2, 3),
 }
 
 
@@ -62,8 +63,8 @@ def expected(model, line, planned):
         return number, word, values, [b'no,%d' % number]
     if word == b'last':
         return number_in(planned[0]), word, values, planned
-    if word == b'save':
-        return number, word, values, model.saved()
+    if word in (b'save', b'save1'):
+        return number, word, values, model.saved() if word == b'save' else model.saved_before()
     return number, word, values, [b'ok'] if word in EFFECTS else None
 
 

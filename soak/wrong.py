@@ -166,8 +166,8 @@ class FewerRules(Model):
 class RulesTogether(Model):
     """The two sorts of rules are counted together."""
 
-    def full(self, word):
-        return super().full(word) or word in (b'rule', b'row') and len(self.rules) + len(self.rows) >= self.most_rules
+    def full(self, word, values):
+        return super().full(word, values) or word in (b'rule', b'row') and len(self.rules) + len(self.rows) >= self.most_rules
 
 
 class SixBeforeFive(Model):
@@ -175,7 +175,7 @@ class SixBeforeFive(Model):
 
     def cause(self, word, values):
         number = super().cause(word, values)
-        return 6 if number == 5 and self.full(word) else number
+        return 6 if number == 5 and self.full(word, values) else number
 
 
 class SevenBeforeSix(Model):
@@ -197,7 +197,7 @@ class SortsMixed(Model):
     """A row rule with the numbers of a load rule counts as the same rule."""
 
     def known(self, word, values):
-        return word in (b'rule', b'row') and values in self.rules + self.rows
+        return word in (b'rule', b'row') and values[:3] in [rule[:3] for rule in self.rules + self.rows] or super().known(word, values)
 
 
 class StartTwice(Model):
@@ -427,8 +427,8 @@ class PlaceLost(Model):
         super().load(*figures)
         self.entered += 1
 
-    def full(self, word):
-        return super().full(word) or word == b'load' and self.entered >= self.most_loads
+    def full(self, word, values):
+        return super().full(word, values) or word == b'load' and self.entered >= self.most_loads
 
 
 class LongLineWipes(Model):
@@ -589,6 +589,240 @@ class LastTakesFields(Model):
 
     def read(self, line):
         return super().read(b'last' if line.startswith(b'last,') else line)
+
+
+# ---- kinds
+
+
+class KindMore(Model):
+    """There is one kind more."""
+    most_kind = Model.most_kind + 1
+
+
+class KindFewer(Model):
+    """There is one kind fewer."""
+    most_kind = Model.most_kind - 1
+
+
+class KindNotTested(Model):
+    """A kind may be any number."""
+    most_kind = 10 ** Model.most_digits - 1
+
+
+class KindWanted(Model):
+    """A line of a load rule or of a load has a kind."""
+
+    def with_kind(self, word, fields):
+        return fields
+
+
+class KindBarred(Model):
+    """A line of a load rule or of a load may have no kind."""
+
+    def with_kind(self, word, fields):
+        return fields + [b''] if word in (b'rule', b'load') and len(fields) == 4 else super().with_kind(word, fields)
+
+
+class EmptyKindTaken(Model):
+    """An empty last field counts as kind 0."""
+
+    def with_kind(self, word, fields):
+        is_empty = word in (b'rule', b'load') and len(fields) == 4 and not fields[3]
+        return super().with_kind(word, fields[:3] if is_empty else fields)
+
+
+class FieldAfterKind(Model):
+    """A field after the kind is left out."""
+
+    def with_kind(self, word, fields):
+        return super().with_kind(word, fields[:4] if word in (b'rule', b'load') else fields)
+
+
+class RowKindTaken(Model):
+    """A row rule may have a kind, which means nothing."""
+
+    def with_kind(self, word, fields):
+        return fields[:3] if word == b'row' else super().with_kind(word, fields)
+
+
+class KindOfWrongForm(Model):
+    """A kind out of its range is told as a wrong form."""
+
+    def cause(self, word, values):
+        number = super().cause(word, values)
+        return 3 if number == 5 and word in (b'rule', b'load') and values[3] > self.most_kind else number
+
+
+class KindNotStored(Model):
+    """The kind of a load rule is answered `ok` and not stored."""
+
+    def rule(self, *rule):
+        super().rule(*rule[:3], 0)
+
+
+class LoadKindNotStored(Model):
+    """The kind of a load is answered `ok` and not stored."""
+
+    def load(self, *figures):
+        super().load(*figures[:3], 0)
+
+
+class SameWithoutKind(Model):
+    """Two load rules that differ in their kinds alone are the same."""
+
+    def known(self, word, values):
+        return super().known(word, values) or word == b'rule' and values[:3] in [rule[:3] for rule in self.rules]
+
+
+class SameOfAKindTaken(Model):
+    """The same load rule of a kind other than 0 is taken twice."""
+
+    def known(self, word, values):
+        return super().known(word, values) and (word == b'row' or values[3] == 0)
+
+
+class RulesOfEachKind(Model):
+    """There may be so many load rules of each kind."""
+
+    def full(self, word, values):
+        of_kind = [rule for rule in self.rules if rule[3] == values[3]] if word == b'rule' else []
+        return super().full(word, values) and (word != b'rule' or len(of_kind) >= self.most_rules)
+
+
+class NoneServed(Model):
+    """A rule of a kind other than 0 serves no load."""
+
+    def serves(self, rule, load):
+        return super().serves(rule, load) and rule[3] == 0
+
+
+class SaveWithoutKinds(Model):
+    """`save` writes no kinds."""
+
+    def saved(self):
+        return self.saved_before()
+
+
+class SaveWithoutKindNone(Model):
+    """`save` leaves out a kind of 0."""
+
+    def saved(self):
+        return [self.written(word, values[:3] if values[3:] == [0] else values) for word, values in self.rebuilding()]
+
+
+class SaveKindsIfAny(Model):
+    """`save` writes kinds only while some are other than 0."""
+
+    def saved(self):
+        return super().saved() if self.kinds_in_use() else self.saved_before()
+
+
+class SaveRowKinds(Model):
+    """`save` writes a kind of 0 for a row rule too."""
+
+    def saved(self):
+        return [self.written(word, [*values, 0] if word == b'row' else values) for word, values in self.rebuilding()]
+
+
+class Save1WithKinds(Model):
+    """`save1` writes kinds as `save` does."""
+
+    def saved_before(self):
+        return self.saved()
+
+
+class KindsDropped(Model):
+    """`save1` leaves out kinds other than 0."""
+
+    def kinds_in_use(self):
+        return False
+
+
+class KindsOfLoadsAlone(Model):
+    """`save1` is refused for the kind of a load alone."""
+
+    def kinds_in_use(self):
+        return any(load[3] for load in self.loads)
+
+
+class KindsOfRulesAlone(Model):
+    """`save1` is refused for the kind of a load rule alone."""
+
+    def kinds_in_use(self):
+        return any(rule[3] for rule in self.rules)
+
+
+class FiveForFourteen(Model):
+    """`save1` while kinds are in use is told as a value out of its range."""
+
+    def cause(self, word, values):
+        number = super().cause(word, values)
+        return 5 if number == 14 else number
+
+
+class Save1TakesFields(Model):
+    """`save1` may have a field."""
+
+    def read(self, line):
+        return super().read(b'save1' if line.startswith(b'save1,') else line)
+
+
+class Save1Wipes(Model):
+    """`save1` wipes the outcome."""
+
+    def wipes(self, number, word):
+        return number == 0 and word == b'save1' or super().wipes(number, word)
+
+
+class KindsWipe(Model):
+    """`save1` that is refused wipes the outcome."""
+
+    def wipes(self, number, word):
+        return number == 14 or super().wipes(number, word)
+
+
+class DropForgetsKinds(Model):
+    """A drop leaves the loads behind the one that leaves kind 0."""
+
+    def drop(self, k):
+        super().drop(k)
+        for load in self.loads[k - 1:]:
+            load[3] = 0
+
+
+class KindsStay(Model):
+    """A drop leaves the kinds at their places, whatever loads move there."""
+
+    def drop(self, k):
+        kinds = [load[3] for load in self.loads]
+        super().drop(k)
+        for load, kind in zip(self.loads, kinds):
+            load[3] = kind
+
+
+class PowerForgetsKind(Model):
+    """`power` leaves its load kind 0."""
+
+    def power(self, k, watts):
+        super().power(k, watts)
+        self.loads[k - 1][3] = 0
+
+
+class WorthForgetsKind(Model):
+    """`worth` leaves its load kind 0."""
+
+    def worth(self, k, value):
+        super().worth(k, value)
+        self.loads[k - 1][3] = 0
+
+
+class BookForgetsKinds(Model):
+    """A new book leaves every load kind 0."""
+
+    def book(self, states, stages):
+        super().book(states, stages)
+        for load in self.loads:
+            load[3] = 0
 
 
 def keeping(words):

@@ -3,23 +3,26 @@
 
   crosscheck.py PROGRAM [--cases N] [--seed S]
 
-Each case is a session on a fresh book and tree. Every printed line is compared. Each session is run again with other zeros in front of its
-numbers, and must print the same. It is run once more with `plan` in the place of each `last` that shows an outcome, and must print the same.
+Each case is a session on a fresh book and tree. Half of them have loads and load rules of other kinds than 0. Every printed line is compared.
+Each session is run again with other zeros in front of its numbers, and must print the same; so it must with kinds of 0 written where they were
+not, and left out where they were, and with `plan` in the place of each `last` that shows an outcome.
 The save that each ends with is fed to another process, after other lines, which must take it line by line and save the same bytes; so must
-those of a fresh planner and of the fullest cabinet. The sessions of edges.py have answers written by hand, which the program and the oracle
-must both give. Then the lines, but for those of the largest trees, are given to oracles that are wrong on purpose (wrong_oracles.py), and each
-must be told apart from the program: a comparison that cannot fail would show nothing.
+those of a fresh planner and of the fullest cabinet. Where `save1` is not refused its lines are fed in the same way, and both saves must be the
+same then. The sessions of edges.py have answers written by hand, which the program and the oracle must both give. Then the lines, but for those
+of the largest trees, are given to oracles that are wrong on purpose (wrong_oracles.py), and each must be told apart from the program: a
+comparison that cannot fail would show nothing.
 The last line is 'N passed, M failed'.
 """
 import argparse
 import random
+import re
 import subprocess
 import sys
 from collections import Counter, namedtuple
 from itertools import compress
 
-from edges import BELOW, EDGES, EVERY_OTHER, LARGEST_EDGES, NEAR_DROPS, NEAR_LASTS, ON_BY_ROW, ON_FIRST
-from limits import LINE_BYTES, MAX_BUDGET, MAX_DIGITS, MAX_LOADS, MAX_POWER, MAX_RULES, MAX_STAGES, MAX_STATES, MAX_WORTH, NOTHING
+from edges import BELOW, EDGES, EVERY_OTHER, LARGEST_EDGES, NEAR_DROPS, NEAR_KINDS, NEAR_LASTS, NEAR_SAVES, ON_BY_ROW, ON_FIRST
+from limits import LINE_BYTES, MAX_BUDGET, MAX_DIGITS, MAX_KIND, MAX_LOADS, MAX_POWER, MAX_RULES, MAX_STAGES, MAX_STATES, MAX_WORTH, NOTHING
 from oracle import WORDS, Oracle
 from wrong_oracles import WRONG, with_fields
 
@@ -35,6 +38,16 @@ EQUALS = Figures((0, 1, 2, 3), (0, 1), range(7))
 FEW_CELLS = Figures(MIXED.powers, MIXED.worths, (0, 5, 20, MAX_BUDGET, MAX_BUDGET))
 FREE_BOOKS = [book.split() for book in (BELOW, EVERY_OTHER, ON_FIRST, ON_BY_ROW)]  # these leave most loads the choice
 
+# The kinds of a session's loads and of its load rules, with how often they are taken. By the last ones some loads have no rule, or some rules
+# no load.
+Kinds = namedtuple('Kinds', 'loads rules')
+NO_KINDS, EVERY_KIND = Kinds((0,), (0,)), Kinds(range(MAX_KIND + 1), range(MAX_KIND + 1))
+KINDS = {
+    NO_KINDS: 20, Kinds((0, 1), (0, 1)): 8, Kinds((0, 0, 0, 3), (0, 3)): 4, Kinds((1, 2), (1, 2)): 2, Kinds((2,), (2,)): 2, EVERY_KIND: 2,
+    Kinds((0, 0, 1), (0,)): 2, Kinds((0, 1), (1,)): 1, Kinds((0,), (0, 0, 2)): 2,
+}
+KIND_OF_NONE = re.compile(rb'((?:rule|load)(?:,[0-9]{1,%d}){3})(,0{1,%d})?' % (MAX_DIGITS, MAX_DIGITS))  # with the kind 0, or none
+
 
 def padded(rng, line):
     """The line with other zeros in front of its numbers, these still within their digits."""
@@ -44,7 +57,8 @@ def padded(rng, line):
 def few_runs(oracle):
     """Does enumeration stay small? Counts the runs of the tree without keeping them."""
     def branch(k, state):
-        return sum(row(oracle.children(k), r[2]) for r in oracle.rules if r[0] == state)
+        load = oracle.loads[k - 1]
+        return sum(row(oracle.children(k), r[2]) for r in oracle.rules if r[0] == state and oracle.serves(r, load))
 
     def row(loads, stage):
         if not loads:
@@ -53,31 +67,55 @@ def few_runs(oracle):
     return not oracle.loads or sum(branch(1, q) for q in oracle.starts) <= MOST_RUNS
 
 
-def book_lines(rng):
+def any_kinds(rng):
+    (kinds,) = rng.choices(list(KINDS), KINDS.values())
+    return kinds
+
+
+def with_kind(rng, line, kind):
+    """The line of a load rule or of a load with its kind, which is now and then left out if it is 0."""
+    return line if kind == 0 and rng.random() < 0.6 else '%s,%d' % (line, kind)
+
+
+def of_kinds(rng, line, kinds):
+    """The line of a load rule, for one of the kinds or for more of them."""
+    chosen = [kind for kind in sorted(set(kinds.rules)) if rng.random() < 0.7] or [rng.choice(kinds.rules)]
+    return [with_kind(rng, line, kind) for kind in chosen]
+
+
+def book_lines(rng, kinds=NO_KINDS):
     states, stages = rng.randint(1, 3), rng.randint(1, 3)
     lines = ['book,%d,%d' % (states, stages)]
     lines += ['start,%d' % q for q in range(1, states + 1) if rng.random() < 0.7]
     lines += ['end,%d' % g for g in range(1, stages + 1) if rng.random() < 0.7]
     for _ in range(rng.randint(1, 6)):
-        lines.append('rule,%d,%d,%d' % (rng.randint(1, states), rng.randint(0, 1), rng.randint(1, stages)))
+        lines += of_kinds(rng, 'rule,%d,%d,%d' % (rng.randint(1, states), rng.randint(0, 1), rng.randint(1, stages)), kinds)
     for _ in range(rng.randint(1, 6)):
         lines.append('row,%d,%d,%d' % (rng.randint(1, stages), rng.randint(1, states), rng.randint(1, stages)))
     return lines
 
 
-def any_book(rng, figures):
-    """The lines of a book: by chance, but half of the books for many equals leave a choice between them."""
-    lines = rng.choice(FREE_BOOKS) if figures is EQUALS and rng.random() < 0.5 else book_lines(rng)
+def free_book(rng, kinds):
+    """The lines of a book that leaves most loads the choice, its load rules for several kinds."""
+    lines = [of_kinds(rng, line, kinds) if line.startswith('rule,') else [line] for line in rng.choice(FREE_BOOKS)]
+    return [line for part in lines for line in part]
+
+
+def any_book(rng, figures, kinds=NO_KINDS):
+    """The lines of a book: by chance, but half of the books for many equals or for several kinds leave most loads the choice."""
+    free = (figures is EQUALS or kinds is not NO_KINDS) and rng.random() < 0.5
+    lines = free_book(rng, kinds) if free else book_lines(rng, kinds)
     return ['book,%d,%d' % (MAX_STATES, MAX_STAGES), *lines[1:]] if figures is FEW_CELLS else lines
 
 
-def load_line(rng, count, figures):
+def load_line(rng, count, figures, kinds=NO_KINDS):
     """The line of a load that comes after so many others."""
-    return 'load,%d,%d,%d' % (rng.randint(1, count) if count else 0, rng.choice(figures.powers), rng.choice(figures.worths))
+    line = 'load,%d,%d,%d' % (rng.randint(1, count) if count else 0, rng.choice(figures.powers), rng.choice(figures.worths))
+    return with_kind(rng, line, rng.choice(kinds.loads))
 
 
-def tree_lines(rng, figures=MIXED):
-    return [load_line(rng, count, figures) for count in range(rng.randint(1, 5))]
+def tree_lines(rng, figures=MIXED, kinds=NO_KINDS):
+    return [load_line(rng, count, figures, kinds) for count in range(rng.randint(1, 5))]
 
 
 def budget_line(rng, figures):
@@ -93,17 +131,17 @@ def field(rng):
 
 def damaged(rng):
     """A line that may break its form, its range or its length in any way."""
-    kind = rng.randrange(8)
+    sort = rng.randrange(9)
     word = rng.choice((*WORDS, 'check', 'Plan', 'plans', 'Save', 'saves', 'Last', 'lasts', ''))
-    if kind == 7:
-        return rng.choice(rng.choice((NEAR_DROPS, NEAR_LASTS)))
-    if kind < 4 and word != 'clear':
-        return ','.join([word] + [field(rng) for _ in range(rng.randint(0, 4))]).encode()
-    if kind == 4:
+    if sort > 6:
+        return rng.choice(rng.choice((NEAR_DROPS, NEAR_LASTS, NEAR_KINDS, NEAR_SAVES)))
+    if sort < 4 and word != 'clear':
+        return ','.join([word] + [field(rng) for _ in range(rng.randint(0, 5))]).encode()
+    if sort == 4:
         return bytes(rng.choice((0, 9, 13, 32, 44, 48, 49, 57, 99, 112, 128, 255)) for _ in range(rng.randint(0, 12)))
-    if kind == 5:
+    if sort == 5:
         return b'check,' + rng.choice((b'0', b'1')) * rng.randint(1, LINE_BYTES)
-    return rng.choice((b'budget,', b'save,', b'save', b'last')) + b'0' * rng.randint(LINE_BYTES - 20, LINE_BYTES + 10)
+    return rng.choice((b'budget,', b'save,', b'save', b'save1', b'last')) + b'0' * rng.randint(LINE_BYTES - 20, LINE_BYTES + 10)
 
 
 def drop_line(rng, oracle):
@@ -116,21 +154,31 @@ def drop_line(rng, oracle):
 def same_again(rng, oracle):
     """A line that leaves every table equal, if the planner takes it: a mark, a rule or a figure that is there, or an empty book."""
     marks = [b'start,%d' % state for state in oracle.starts] + [b'end,%d' % stage for stage in oracle.ends]
-    rules = [b'rule,%d,%d,%d' % rule for rule in oracle.rules] + [b'row,%d,%d,%d' % row for row in oracle.rows]
+    rules = [with_kind(rng, 'rule,%d,%d,%d' % rule[:3], rule[3]).encode() for rule in oracle.rules]
+    rules += [b'row,%d,%d,%d' % row for row in oracle.rows]
     loads = [b'%s,%d,%d' % (word, k, load[at]) for k, load in enumerate(oracle.loads, 1) for word, at in ((b'power', 1), (b'worth', 2))]
     book = [] if marks or rules else [b'book,%d,%d' % (oracle.states, oracle.stages)]
     return rng.choice(rng.choice([lines for lines in (marks, rules, loads, book) if lines] + [[b'budget,%d' % oracle.budget]]))
 
 
-def question(rng, oracle, figures):
+def near_a_kind(rng, oracle):
+    """A load rule that is there, or a load that could be, with another kind, in its range or not."""
+    kind = rng.choice((*range(MAX_KIND + 3), MAX_KIND + 1, 255, 256, 65536, 10**MAX_DIGITS - 1))
+    if oracle.rules and rng.random() < 0.7:
+        return b'rule,%d,%d,%d,%d' % (*rng.choice(oracle.rules)[:3], kind)
+    return b'load,%d,1,1,%d' % (min(1, len(oracle.loads)), kind)
+
+
+def question(rng, oracle, figures, kinds):
     """A line of a session whose book and tree stand: mostly plans and what changes them."""
     loads = len(oracle.loads)
     return rng.choice((
-        lambda: budget_line(rng, figures).encode(), *4 * [lambda: b'plan'], lambda: b'save', lambda: b'last', lambda: same_again(rng, oracle),
+        lambda: budget_line(rng, figures).encode(), *4 * [lambda: b'plan'], lambda: b'save', lambda: b'save1', lambda: b'last',
+        lambda: same_again(rng, oracle), lambda: near_a_kind(rng, oracle),
         lambda: b'check,' + bytes(rng.choice(b'01') for _ in range(loads)),
         lambda: b'power,%d,%d' % (rng.randint(1, loads + 1), rng.choice(figures.powers)),
         lambda: b'worth,%d,%d' % (rng.randint(1, loads + 1), rng.choice(figures.worths)),
-        *2 * [lambda: drop_line(rng, oracle), lambda: load_line(rng, loads, figures).encode()],
+        *2 * [lambda: drop_line(rng, oracle), lambda: load_line(rng, loads, figures, kinds).encode()],
         lambda: damaged(rng)))()
 
 
@@ -158,20 +206,20 @@ class Said:
 
 def session(rng):
     """The lines of a session that starts with `clear`, and the oracle's answers; or nothing where there are too many runs."""
-    said, (figures,) = Said(rng), rng.choices((MIXED, EQUALS, FEW_CELLS), (4, 5, 1))
-    book, tree = any_book(rng, figures), tree_lines(rng, figures)
+    said, kinds, (figures,) = Said(rng), any_kinds(rng), rng.choices((MIXED, EQUALS, FEW_CELLS), (4, 5, 1))
+    book, tree = any_book(rng, figures, kinds), tree_lines(rng, figures, kinds)
     for line in ['clear', budget_line(rng, figures)] + rng.choice((book + tree, tree + book)):
         if not said.say(line.encode()):
             return None
         if rng.random() < 0.05:
-            said.say(rng.choice((b'save', b'plan')))
+            said.say(rng.choice((b'save', b'save1', b'plan')))
     for _ in range(rng.randint(4, 14)):
-        line = question(rng, said.oracle, figures)
+        line = question(rng, said.oracle, figures, kinds)
         if line.startswith((b'load,', b'book', b'rule', b'row', b'start')) and rng.random() < 0.5:
             continue  # half of what would change the book or the tree is left out, so that more plans are of the cabinet built
         if not said.say(line):
             return None
-    for line in (b'plan', b'last', b'save'):
+    for line in (b'plan', b'last', b'save1', b'save'):
         said.add(line)
     return said.lines, said.answers
 
@@ -233,6 +281,19 @@ def again(rng, cases):
     return [([padded(rng, line) for line in lines], answers) for lines, answers in cases]
 
 
+def with_kind_or_not(rng, line):
+    """The line with a kind of 0 if it has none but may, and without it if it has."""
+    found = KIND_OF_NONE.fullmatch(line)
+    if not found:
+        return line
+    return found[1] if found[2] else found[1] + b',' + b'0' * rng.choice((1, 1, MAX_DIGITS))
+
+
+def in_other_form(rng, cases):
+    """The sessions with kinds of 0 written where they were not, and left out where they were, and the same answers."""
+    return [([with_kind_or_not(rng, line) for line in lines], answers) for lines, answers in cases]
+
+
 def planned_anew(case):
     """The session with `plan` in the place of each `last` that shows an outcome, and the same answers: "equals what `plan` .. would print"."""
     lines, answers = case
@@ -245,6 +306,17 @@ def fed_back(case, out, other):
     saved = out[-len(case[1][-1]):]
     lines, answers = other
     return lines + [line.encode('latin-1') for line in saved] + [b'save'], answers + [['ok']] * len(saved) + [saved]
+
+
+def fed_back_old(case, out, other):
+    """A session that ends with `save1` and `save`, fed back by what was printed for the first: both are to be the same then. Where it is refused,
+    nothing is fed."""
+    ends = len(case[1][-1]), len(case[1][-2])
+    old, saved = out[-sum(ends):-ends[0]], out[-ends[0]:]
+    lines, answers = other
+    if old == ['no,14']:
+        return lines, answers
+    return lines + [line.encode('latin-1') for line in old] + [b'save1', b'save'], answers + [['ok']] * len(old) + [old, saved]
 
 
 def answered_by(oracle, lines):
@@ -262,12 +334,12 @@ def told_apart(wrong, cases, outs):
 
 
 def fullest():
-    """The lines of the fullest cabinet: every mark, as many rules and loads as there may be, and the widest figures."""
+    """The lines of the fullest cabinet: every mark, as many rules and loads as there may be, the widest figures, and every kind."""
     lines = ['book,%d,%d' % (MAX_STATES, MAX_STAGES)]
     lines += ['start,%d' % (q + 1) for q in range(MAX_STATES)] + ['end,%d' % (g + 1) for g in range(MAX_STAGES)]
-    lines += ['rule,%d,%d,%d' % (n % MAX_STATES + 1, n // MAX_STATES % 2, n // MAX_STATES // 2 + 1) for n in range(MAX_RULES)]
+    lines += ['rule,%d,%d,%d,%d' % (n % MAX_STATES + 1, n // MAX_STATES % 2, n // MAX_STATES // 2 + 1, n % (MAX_KIND + 1)) for n in range(MAX_RULES)]
     lines += ['row,%d,%d,%d' % (n % MAX_STAGES + 1, n // MAX_STAGES + 1, MAX_STAGES) for n in range(MAX_RULES)]
-    lines += ['load,%d,%d,%d' % (k, MAX_POWER, MAX_WORTH) for k in range(MAX_LOADS)]
+    lines += ['load,%d,%d,%d,%d' % (k, MAX_POWER, MAX_WORTH, k % (MAX_KIND + 1)) for k in range(MAX_LOADS)]
     return lines + ['budget,%d' % MAX_BUDGET]
 
 
@@ -303,6 +375,7 @@ def sessions_differ(wrong, cases):
     counts = [said[False, first] for first in ('plan', 'no,9', 'no,8', 'yes', 'no,10')]
     print('%d sessions with %d plans shown, %d refusals 9, %d refusals 8, %d sets allowed, %d not' % (len(cases), *counts))
     print('last: %d plans shown, %d refusals 9, %d refusals 12' % tuple(said[True, first] for first in ('plan', 'no,9', 'no,12')))
+    print('%d sessions with kinds in use' % sum(['no,14'] in answers for _, answers in cases))
     return len(wrong)
 
 
@@ -337,8 +410,8 @@ def main():
     rng = random.Random(args.seed)
     cases, edges = sessions(rng, args.cases), list(EDGES.values())
     outs, edge_outs = all_printed(args.program, cases), [printed(args.program, lines) for lines, _ in edges]
-    others = again(rng, cases) + [planned_anew(case) for case in cases]
-    others += [fed_back(*three) for three in zip(cases, outs, cases[1:] + cases[:1])]
+    others = again(rng, cases) + in_other_form(rng, cases) + [planned_anew(case) for case in cases]
+    others += [feed(*three) for feed in (fed_back, fed_back_old) for three in zip(cases, outs, cases[1:] + cases[:1])]
     wrong = differing(cases, outs) + differing(others, all_printed(args.program, others))
     failed = sessions_differ(wrong, cases) + saves_differ(args.program) + edges_differ(edge_outs)
     quick = [name not in LARGEST_EDGES for name in EDGES]

@@ -3,10 +3,10 @@
 
   dropcheck.py PROGRAM [--sessions N] [--seed S]
 
-In some sessions hundreds of loads come and go; in others the fullest tree is emptied leaf by leaf, in any order, and filled again. After each
-drop a save, a plan and checks are asked for, and the last plan: none is current before the plan, and then it is that. Another process is fed
-the tree without that load: the lines of the save before the drop, without the line of the load and with the parents above it one less. It
-must take them all, and answer the same questions the same.
+In some sessions hundreds of loads come and go; in others the fullest tree is emptied leaf by leaf, in any order, and filled again. In most the
+loads are of several kinds. After each drop both saves, a plan and checks are asked for, and the last plan: none is current before the plan, and
+then it is that. Another process is fed the tree without that load: the lines of the save before the drop, without the line of the load and with
+the parents above it one less. It must take them all, and answer the same questions the same.
 Sessions on small trees are given to the oracle too, and to oracles that are wrong on purpose (wrong_oracles.py), in the program's place. Each
 wrong one must be told apart.
 The last line is 'N passed, M failed'.
@@ -15,14 +15,15 @@ import argparse
 import random
 import sys
 
-from crosscheck import book_lines, printed
+from crosscheck import Kinds, book_lines, printed, with_kind
 from edges import BELOW, EVERY_OTHER, TOGETHER
-from limits import CELLS, MAX_LOADS
+from limits import CELLS, MAX_KIND, MAX_LOADS
 from oracle import Oracle
 from texts import entered_without, grouped
 from wrong_oracles import WRONG_DROPS, keeping
 
 BOOKS = [book.split() for book in (BELOW, EVERY_OTHER, TOGETHER)]
+KINDS = (0,), (0, 1), (0, 0, 0, 3), range(MAX_KIND + 1)  # those of the loads of a session
 MOST_WAYS = 6  # states and stages of a book
 STEPS = 400  # loads that enter or leave, in a session in which they come and go
 SMALL, SMALL_STEPS, SMALL_SESSIONS = 6, 200, 6  # the most loads, the steps and the sessions that an oracle is given
@@ -41,9 +42,10 @@ class Question:
 class Session:
     """The lines of a session, those of their answers that are known beforehand, the loads as they stand, and what is asked after each drop."""
 
-    def __init__(self, rng, book, most):
+    def __init__(self, rng, book, most, kinds):
         self.rng = rng
         self.most = most  # loads
+        self.kinds = kinds
         self.reach = rng.choice((2, 9, MAX_LOADS))  # how far before a load its parent may be
         self.most_worth = rng.choice((1, 9))  # of a load; where it is 1, many sets are equal in worth
         self.lines = []
@@ -69,6 +71,7 @@ class Session:
         count = len(self.loads)
         parent = self.rng.randint(max(1, count - self.reach), count) if count else 0
         line = 'load,%d,%d,%d' % (parent, self.rng.choice((0, 1, 1, 2, 3, 5)), self.rng.randint(0, self.most_worth))
+        line = with_kind(self.rng, line, self.rng.choice(self.kinds))
         if count < self.most:
             self.loads.append(line)
             self.say(line, 'ok')
@@ -103,7 +106,7 @@ class Session:
         self.say('save')
         self.say('drop,' + str(load).zfill(self.rng.choice((1, 1, 5))), 'ok')
         self.loads = entered_without(self.loads, load)
-        question = Question(load, len(self.lines) - 2, ['save', 'last', 'plan', 'last', *self.checks()])
+        question = Question(load, len(self.lines) - 2, ['save', 'save1', 'last', 'plan', 'last', *self.checks()])
         self.questions.append(question)
         for line in question.asked:
             self.say(line)
@@ -154,15 +157,26 @@ def emptied(session, turns):
         session.empty()
 
 
-def any_book(rng):
-    return rng.choice(BOOKS) if rng.random() < 0.8 else book_lines(rng)
+def for_kinds(book, kinds):
+    """The lines of a book, each load rule for each of the kinds."""
+    lines = [['%s,%d' % (line, kind) for kind in sorted(set(kinds))] if line.startswith('rule,') else [line] for line in book]
+    return [line for part in lines for line in part]
+
+
+def any_book(rng, kinds):
+    return for_kinds(rng.choice(BOOKS), kinds) if rng.random() < 0.8 else book_lines(rng, Kinds(kinds, kinds))
+
+
+def any_session(rng):
+    kinds = rng.choice(KINDS)
+    return Session(rng, any_book(rng, kinds), MAX_LOADS, kinds)
 
 
 def sessions(rng, count):
     """So many sessions of each sort."""
     made = []
     for _ in range(count):
-        going, full = Session(rng, any_book(rng), MAX_LOADS), Session(rng, any_book(rng), MAX_LOADS)
+        going, full = any_session(rng), any_session(rng)
         come_and_go(going, STEPS)
         emptied(full, 2)
         made += [going, full]
@@ -170,7 +184,8 @@ def sessions(rng, count):
 
 
 def small_sessions(rng):
-    made = [Session(rng, BOOKS[number % len(BOOKS)], SMALL) for number in range(SMALL_SESSIONS)]
+    drawn = [(BOOKS[number % len(BOOKS)], KINDS[number % len(KINDS)]) for number in range(SMALL_SESSIONS)]
+    made = [Session(rng, for_kinds(book, kinds), SMALL, kinds) for book, kinds in drawn]
     for session in made:
         come_and_go(session, SMALL_STEPS)
         emptied(session, 1)

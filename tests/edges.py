@@ -1,10 +1,13 @@
 """Sessions by name, each with its answers as paper 02 has them: of loads that leave (request Three), of equal plans, of which the cooler one
-wins (request Four), and of the last plan, shown again (request Five). The answers are written by hand but for the listings of the fullest
-trees, which a formula makes.
+wins (request Four), of the last plan, shown again (request Five), and of kinds of load (request Eight). The answers are written by hand but for
+the listings of the fullest trees, which a formula makes.
 
-In the text of a session a row is `LINE LINE .. -> ANSWER`: each of the lines has this answer, and an answer's lines are parted by blanks.
+In the text of a session a row is `LINE LINE .. -> ANSWER`: each of the lines has this answer, and an answer's lines are parted by blanks. Where
+the answer of `save` has a line without a kind, the kind 0 is added to it. That of `save1` stands as it is.
 """
-from limits import CELLS, LINE_BYTES, MAX_BUDGET, MAX_LOADS, MAX_WORTH
+import re
+
+from limits import CELLS, LINE_BYTES, MAX_BUDGET, MAX_KIND, MAX_LOADS, MAX_RULES, MAX_STAGES, MAX_STATES, MAX_WORTH
 
 # A load may be on only if its parent is.
 BELOW = 'book,2,2 start,1 start,2 end,1 end,2 rule,1,0,2 rule,1,1,1 rule,2,0,2 row,1,1,1 row,2,2,2'
@@ -50,13 +53,39 @@ NEAR_LASTS = (
 )
 LONG_LAST = b'last,'.ljust(LINE_BYTES + 1, b'0')
 
+# Lines that are nearly a load rule or a load with a kind, or another line with one more field, which none has: each is answered with 3.
+NEAR_KINDS = (
+    b'rule,1,0,1,', b'rule,1,0,1,,', b'rule,1,0,1,,0', b'rule,1,0,1,0,', b'rule,1,0,1,0,0', b'rule,1,0,1,1,1', b'rule,1,0,1,000000',
+    b'rule,1,0,1,000001', b'rule,1,0,1,100000', b'rule,1,0,1,-1', b'rule,1,0,1,+1', b'rule,1,0,1, 1', b'rule,1,0,1,1 ', b'rule,1,0,1,1\r',
+    b'rule,1,0,1,x', b'rule,1,0,1;1', b'rule,1,0,,1', b'rule,,0,1,1', b'rule,1,0', b'rules,1,0,1,1', b'load,1,2,3,', b'load,1,2,3,,',
+    b'load,1,2,3,,0', b'load,1,2,3,0,', b'load,1,2,3,0,0', b'load,1,2,3,1,1', b'load,1,2,3,000000', b'load,1,2,3,000003', b'load,1,2,3,-1',
+    b'load,1,2,3,1\0', b'load,1,2,3,1 ', b'load,1,2,3,x', b'load,1,2,,1', b'load,,2,3,1', b'load,1,2', b'loads,1,2,3,1', b'row,1,1,1,',
+    b'row,1,1,1,0', b'row,1,1,1,1', b'row,1,1,1,3', b'row,1,1,1,4', b'row,1,1,1,00000', b'row,1,1,1,0,0', b'power,1,1,0', b'worth,1,1,1',
+    b'drop,1,0', b'start,1,0', b'end,1,1', b'book,1,1,0', b'budget,1,0', b'kind,1,1', b'rule1,1,0,1', b'load1,1,2,3',
+)
+
+# Lines that are nearly `save1`: each breaks its form, and is answered with 3.
+NEAR_SAVES = (
+    b'save1,', b'save1,,', b'save1,0', b'save1,1', b'save1,00001', b'save,1', b'save,', b'save0', b'save2', b'save01', b'save10', b'save11',
+    b'save1s', b'saves1', b'Save1', b'SAVE1', b'sav1', b'save 1', b'save1 ', b' save1', b'save1\t', b'save1\r', b'save1\0', b'\0save1',
+    b'save\xb1', b',save1', b'1', b'save1'.ljust(LINE_BYTES, b'1'), b'save1,'.ljust(LINE_BYTES, b'0'),
+)
+LONG_SAVE = b'save1'.ljust(LINE_BYTES + 1, b'1')
+
+WITHOUT_KIND = re.compile('(rule|load)(,[0-9]+){3}')
+
+
+def with_kinds(lines):
+    """The lines of a save, of load rules and of loads each with its kind, 0 where none is written."""
+    return [line + ',0' if WITHOUT_KIND.fullmatch(line) else line for line in lines]
+
 
 def steps(text):
     """The lines of a session's text, each with the lines of its answer."""
     for row in text.strip().splitlines():
         lines, answer = row.split(' -> ')
         for line in lines.split():
-            yield line.encode(), answer.split()
+            yield line.encode(), with_kinds(answer.split()) if line == 'save' else answer.split()
 
 
 def parted(said):
@@ -86,6 +115,26 @@ def near_lasts():
         *steps(f'clear {WORKED} budget,30 -> ok'), *near,
         *steps(f'last -> no,12\nplan -> {PLAN_30}'), *near,
         *steps(f'last -> {PLAN_30}'),
+    ])
+
+
+def near_kinds():
+    """The lines that are nearly of a kind, with a book and a load that some could be meant for. Both stay as they are."""
+    saved = 'save -> clear book,1,1 rule,1,1,1 load,0,1,1,2 budget,0'
+    return parted([
+        *steps(f'clear book,1,1 rule,1,1,1 load,0,1,1,2 -> ok\n{saved}'),
+        *((line, ['no,3']) for line in NEAR_KINDS),
+        (b'rule,1,0,1'.ljust(LINE_BYTES + 1, b','), ['no,2']),
+        *steps(f'{saved}\nrule,1,0,1,1 load,1,2,3,3 -> ok\nsave -> clear book,1,1 rule,1,1,1 rule,1,0,1,1 load,0,1,1,2 load,1,2,3,3 budget,0'),
+    ])
+
+
+def near_saves():
+    """The lines that are nearly `save1`, while every kind is 0 and while some are not: 3 comes before 14."""
+    near = [*((line, ['no,3']) for line in NEAR_SAVES), (LONG_SAVE, ['no,2'])]
+    return parted([
+        *steps('clear load,0,1,1 -> ok'), *near, *steps('save1 -> clear load,0,1,1 budget,0'),
+        *steps('load,1,2,2,1 -> ok'), *near, *steps('save1 -> no,14'),
     ])
 
 
@@ -719,6 +768,293 @@ last -> no,12
 '''),
 }
 
+# Cameras, of kind 0, may be on only if their parent is. A safety reader, of kind 1, is on exactly if its parent is.
+READERS = 'book,2,2 start,1 start,2 end,1 end,2 rule,1,0,2 rule,1,1,1 rule,2,0,2 rule,1,1,1,1 rule,2,0,2,1 row,1,1,1 row,2,2,2'
+# A feed with a camera, a safety reader and another camera.
+PLANT = 'load,0,10,0 load,1,15,40 load,1,5,0,1 load,1,7,50'
+READER_ON = 'plan,50,22,3 1,1,1,2,0 2,0,1,1,1 3,1,1,4,1 4,1,1,2,1'
+
+# As many load rules as there may be, in turn of each kind.
+OF_EVERY_KIND = ' '.join('rule,%d,%d,%d,%d' % (n // 4 % 8 + 1, n // 32, 1, n % 4) for n in range(MAX_RULES))
+
+KIND_EDGES = {
+    'near kinds': near_kinds(),
+    'near saves': near_saves(),
+    'kinds 0 to 3, and past them': session(f'''
+book,1,1 -> ok
+rule,1,0,1,0 rule,1,0,1,1 rule,1,0,1,2 rule,1,0,1,{MAX_KIND} -> ok
+rule,1,1,1,{MAX_KIND + 1} rule,1,1,1,5 rule,1,1,1,255 rule,1,1,1,256 rule,1,1,1,257 rule,1,1,1,65537 rule,1,1,1,99999 -> no,5
+load,0,1,1,{MAX_KIND} load,1,2,2,2 load,1,3,3,1 load,1,4,4,0 load,1,5,5 -> ok
+load,1,6,6,{MAX_KIND + 1} load,1,6,6,5 load,1,6,6,255 load,1,6,6,256 load,1,6,6,257 load,1,6,6,65536 load,1,6,6,99999 -> no,5
+save -> clear book,1,1 rule,1,0,1,0 rule,1,0,1,1 rule,1,0,1,2 rule,1,0,1,3 load,0,1,1,3 load,1,2,2,2 load,1,3,3,1 load,1,4,4,0 load,1,5,5,0 budget,0
+'''),
+    'kinds with zeros in front': session('''
+book,1,1 rule,1,0,1,00003 rule,01,00,001,02 rule,1,0,1,00000 load,0,1,1,00003 load,001,00002,2,000 -> ok
+rule,1,0,1,3 rule,1,0,1,003 rule,1,0,1,2 rule,1,0,1 rule,1,0,1,0 -> no,7
+rule,1,0,1,00004 load,1,1,1,00004 load,1,1,1,0010 -> no,5
+rule,1,1,1,000003 load,1,1,1,000000 -> no,3
+save -> clear book,1,1 rule,1,0,1,3 rule,1,0,1,2 rule,1,0,1,0 load,0,1,1,3 load,1,2,2,0 budget,0
+'''),
+    # A kind out of its range is 5 with a book and without one, among other values out of theirs, and before 6 and 7.
+    'kinds among the other values': session('''
+rule,1,0,1,1 rule,1,0,1,4 -> no,5
+book,1,1 rule,1,0,1 load,0,1,1,1 -> ok
+rule,2,0,1,3 rule,1,2,1,1 rule,1,0,2,0 rule,0,0,1,4 rule,1,0,1,4 load,2,1,1,1 load,0,1,1,1 load,1,501,0,0 load,1,0,1001,4 load,1,0,0,4 -> no,5
+rule,1,0,1,0 -> no,7
+save -> clear book,1,1 rule,1,0,1,0 load,0,1,1,1 budget,0
+'''),
+    'kind 0, written and not': session(f'''
+book,1,1 rule,1,0,1 -> ok
+rule,1,0,1 rule,1,0,1,0 rule,1,0,1,00000 -> no,7
+book,1,1 rule,1,0,1,0 -> ok
+rule,1,0,1,0 rule,1,0,1 -> no,7
+load,0,1,1 load,1,2,2,0 -> ok
+save -> clear book,1,1 rule,1,0,1,0 load,0,1,1,0 load,1,2,2,0 budget,0
+save1 -> clear book,1,1 rule,1,0,1 load,0,1,1 load,1,2,2 budget,0
+{' '.join(with_kinds(BELOW.split()))} -> ok
+save1 -> clear {BELOW} load,0,1,1 load,1,2,2 budget,0
+'''),
+    # "Two load rules are the same only if their kinds agree too."
+    'the same rule of another kind': session('''
+book,2,2 rule,1,0,1,1 -> ok
+rule,1,0,1,1 -> no,7
+rule,1,0,1 -> ok
+rule,1,0,1 rule,1,0,1,0 rule,1,0,1,1 -> no,7
+rule,1,0,1,3 rule,1,0,1,2 rule,1,1,1,1 -> ok
+rule,1,0,1,0 rule,1,0,1,1 rule,1,0,1,2 rule,1,0,1,3 rule,1,1,1,1 -> no,7
+save -> clear book,2,2 rule,1,0,1,1 rule,1,0,1,0 rule,1,0,1,3 rule,1,0,1,2 rule,1,1,1,1 budget,0
+'''),
+    # 32 load rules in all, whatever their kinds.
+    'as many load rules as there may be, of every kind': session(f'''
+book,{MAX_STATES},{MAX_STAGES} {OF_EVERY_KIND} -> ok
+rule,1,0,1,0 rule,1,0,1,3 rule,1,0,2,0 rule,8,1,8,1 rule,8,1,8,2 rule,8,1,8,3 rule,8,1,8 -> no,6
+rule,1,0,1,4 rule,9,0,1,0 rule,1,2,1,3 -> no,5
+row,1,1,1 row,1,1,2 -> ok
+save1 -> no,14
+save -> clear book,{MAX_STATES},{MAX_STAGES} {OF_EVERY_KIND} row,1,1,1 row,1,1,2 budget,0
+book,{MAX_STATES},{MAX_STAGES} rule,8,1,8,3 -> ok
+'''),
+    'as many load rules of one kind': session(f'''
+book,{MAX_STATES},{MAX_STAGES} {' '.join('rule,%d,%d,%d,2' % (n % 8 + 1, n // 8 % 2, n // 16 + 1) for n in range(MAX_RULES))} -> ok
+rule,1,0,3,2 rule,1,0,1,0 rule,1,0,1,1 rule,1,0,1,3 rule,1,0,1,2 -> no,6
+'''),
+    'as many loads as there may be, of every kind': session(f'''
+{' '.join('load,%d,1,1,%d' % (min(k, 1), k % 4) for k in range(MAX_LOADS))} -> ok
+load,1,1,1,1 load,1,1,1,3 load,1,1,1 -> no,6
+load,1,1,1,4 load,65,1,1,1 load,0,1,1,0 -> no,5
+save1 -> no,14
+save -> clear {' '.join('load,%d,1,1,%d' % (min(k, 1), k % 4) for k in range(MAX_LOADS))} budget,0
+'''),
+    # "Safety readers must obey other rules than cameras."
+    'a safety reader that may not be off': session(f'''
+{READERS} {PLANT} budget,30 -> ok
+plan last -> {READER_ON}
+check,1101 check,1000 check,0010 -> no,10
+check,1010 -> yes 1,1,1,2,0 2,0,1,1,1 3,1,1,4,1 4,0,1,1,1
+check,1111 -> yes 1,1,1,2,0 2,1,1,2,1 3,1,1,4,1 4,1,1,2,1
+check,0000 -> yes 1,0,1,1,0 2,0,2,3,2 3,0,2,5,2 4,0,2,3,2
+budget,14 -> ok
+plan last -> plan,0,0,0 1,0,1,1,0 2,0,2,3,2 3,0,2,5,2 4,0,2,3,2
+budget,36 -> ok
+plan last -> {READER_ON}
+budget,37 -> ok
+plan last -> plan,90,37,4 1,1,1,2,0 2,1,1,2,1 3,1,1,4,1 4,1,1,2,1
+drop,3 budget,30 -> ok
+plan last -> plan,50,17,2 1,1,1,2,0 2,0,1,1,1 3,1,1,2,1
+load,1,5,0 -> ok
+plan last -> plan,50,17,2 1,1,1,2,0 2,0,1,1,1 3,1,1,2,1 4,0,1,1,1
+'''),
+    # Without a rule of its kind a load has no run, whatever rules the others have.
+    'only kind 0 has rules': session(f'''
+{BELOW} load,0,1,1 load,1,2,2,1 budget,9 -> ok
+plan last -> no,9
+check,00 check,10 check,11 -> no,10
+drop,2 -> ok
+plan last -> plan,1,1,1 1,1,1,2,0
+load,1,2,2 -> ok
+plan last -> plan,3,3,2 1,1,1,2,0 2,1,1,2,1
+'''),
+    'only kind 1 has rules': session('''
+book,1,1 start,1 end,1 rule,1,1,1,1 rule,1,0,1,1 row,1,1,1 load,0,1,1 load,1,2,2,1 budget,9 -> ok
+plan last -> no,9
+check,00 check,01 check,10 check,11 -> no,10
+rule,1,0,1,2 -> ok
+plan last -> no,9
+rule,1,0,1 -> ok
+plan last -> plan,2,2,1 1,0,1,4,0 2,1,1,1,1
+check,01 -> yes 1,0,1,4,0 2,1,1,1,1
+check,00 -> yes 1,0,1,4,0 2,0,1,2,1
+check,10 check,11 -> no,10
+'''),
+    'every load and every rule of one kind': session(f'''
+book,2,2 start,1 start,2 end,1 end,2 rule,1,0,2,3 rule,1,1,1,3 rule,2,0,2,3 row,1,1,1 row,2,2,2 -> ok
+load,0,10,0,3 load,1,15,40,3 load,1,5,30,3 load,2,7,50,3 budget,30 -> ok
+plan last -> {PLAN_30}
+check,0100 -> no,10
+save1 -> no,14
+load,2,0,0 -> ok
+plan last -> no,9
+drop,5 -> ok
+plan last -> {PLAN_30}
+'''),
+    # Load 2 has power and worth for rule 1, but not its kind. Of its own kind the lowest rule is rule 3, and a rule's number counts every kind.
+    'the lowest rule of its kind': session('''
+book,1,1 start,1 end,1 rule,1,1,1,2 rule,1,0,1,1 rule,1,0,1 rule,1,1,1 row,1,1,1 load,0,0,0 load,1,0,0 load,1,0,0,1 load,1,0,5,2 budget,9 -> ok
+plan last -> plan,5,0,1 1,0,1,3,0 2,0,1,3,1 3,0,1,2,1 4,1,1,1,1
+check,0101 -> yes 1,0,1,3,0 2,1,1,4,1 3,0,1,2,1 4,1,1,1,1
+check,0111 check,0000 -> no,10
+worth,2,1 -> ok
+plan last -> plan,6,0,2 1,0,1,3,0 2,1,1,4,1 3,0,1,2,1 4,1,1,1,1
+'''),
+    # The kind parts loads that stand in one row and in one state, and loads below one another.
+    'kinds in a row and in a branch': session('''
+book,1,1 start,1 end,1 rule,1,1,1 rule,1,0,1,1 rule,1,1,1,2 rule,1,0,1,2 row,1,1,1 budget,9 -> ok
+load,0,1,1 load,1,1,1,1 load,1,1,1,2 load,2,1,1 load,4,1,1,1 load,4,9,9,2 load,1,1,1 -> ok
+plan last -> plan,4,4,4 1,1,1,1,0 2,0,1,2,1 3,1,1,3,1 4,1,1,1,1 5,0,1,2,1 6,0,1,4,1 7,1,1,1,1
+check,1001001 -> yes 1,1,1,1,0 2,0,1,2,1 3,0,1,4,1 4,1,1,1,1 5,0,1,2,1 6,0,1,4,1 7,1,1,1,1
+check,1011011 -> yes 1,1,1,1,0 2,0,1,2,1 3,1,1,3,1 4,1,1,1,1 5,0,1,2,1 6,1,1,3,1 7,1,1,1,1
+check,1101001 check,1001101 check,0001001 check,1000001 check,1001000 -> no,10
+'''),
+    'the root has a kind': session('''
+book,1,1 start,1 end,1 rule,1,1,1,1 rule,1,0,1 load,0,1,5,1 budget,1 -> ok
+plan last -> plan,5,1,1 1,1,1,1,0
+check,0 -> no,10
+budget,0 -> ok
+plan last -> no,9
+drop,1 load,0,1,5 -> ok
+plan last -> plan,0,0,0 1,0,1,2,0
+check,1 -> no,10
+'''),
+    # "`save` now writes every kind, 0 too, and `save1` writes the form of request Two": nothing is added to a row rule or to the budget.
+    'save and save1': session(f'''
+save1 save1 -> clear budget,0
+{WORKED} budget,30 -> ok
+save1 -> clear {BELOW} {CABINET} budget,30
+save -> clear {BELOW} {CABINET} budget,30
+save1 -> clear {BELOW} {CABINET} budget,30
+drop,3 -> ok
+save1 -> clear {BELOW} load,0,10,0 load,1,15,40 load,2,7,50 budget,30
+book,1,1 budget,0 -> ok
+save1 -> clear book,1,1 load,0,10,0 load,1,15,40 load,2,7,50 budget,0
+clear -> ok
+save1 -> clear budget,0
+'''),
+    # "14, `save1` while some load or load rule has a kind other than 0"
+    'save1 while a load has a kind': session('''
+load,0,1,1 load,1,2,2,1 -> ok
+save1 save1 -> no,14
+save -> clear load,0,1,1 load,1,2,2,1 budget,0
+load,1,3,3 -> ok
+save1 -> no,14
+drop,2 -> ok
+save1 -> clear load,0,1,1 load,1,3,3 budget,0
+load,1,2,2,3 -> ok
+save1 -> no,14
+book,1,1 budget,9 -> ok
+save1 -> no,14
+clear -> ok
+save1 -> clear budget,0
+'''),
+    # .. "even if no plan would use it": no state 2 is reached, and there are no loads at first.
+    'save1 while a load rule has a kind': session('''
+book,2,1 start,1 end,1 rule,1,1,1 -> ok
+save1 -> clear book,2,1 start,1 end,1 rule,1,1,1 budget,0
+rule,2,1,1,2 -> ok
+save1 save1 -> no,14
+load,0,1,1 budget,9 -> ok
+plan last -> plan,1,1,1 1,1,1,1,0
+save1 -> no,14
+save -> clear book,2,1 start,1 end,1 rule,1,1,1,0 rule,2,1,1,2 load,0,1,1,0 budget,9
+book,2,1 -> ok
+save1 -> clear book,2,1 load,0,1,1 budget,9
+'''),
+    'save1 while both have kinds': session(f'''
+{READERS} {PLANT} -> ok
+save1 -> no,14
+drop,3 -> ok
+save1 -> no,14
+{BELOW} -> ok
+save1 -> clear {BELOW} load,0,10,0 load,1,15,40 load,1,7,50 budget,0
+'''),
+    # A save1 that is written, and one that is refused, are no changes.
+    'the last plan after save1': session(f'''
+save1 -> clear budget,0
+last -> no,12
+{WORKED} budget,30 -> ok
+plan last -> {PLAN_30}
+save1 -> clear {BELOW} {CABINET} budget,30
+last -> {PLAN_30}
+save -> clear {BELOW} {CABINET} budget,30
+last -> {PLAN_30}
+save1, -> no,3
+last -> {PLAN_30}
+rule,1,1,1,1 -> ok
+last -> no,12
+save1 -> no,14
+last -> no,12
+'''),
+    'the last plan after 14': session(f'''
+{READERS} {PLANT} budget,30 -> ok
+save1 -> no,14
+last -> no,12
+plan last -> {READER_ON}
+save1 save1 -> no,14
+last -> {READER_ON}
+budget,0 {ALL_ON} -> ok
+last -> no,12
+plan last -> no,9
+save1 -> no,14
+last -> no,9
+'''),
+    'a drop keeps the kinds': session(f'''
+{READERS} load,0,1,1 load,1,2,2,1 load,2,3,3,2 load,1,4,4,3 load,2,5,5 load,4,6,6,1 budget,9 -> ok
+drop,3 -> ok
+save -> clear {READERS} load,0,1,1 load,1,2,2,1 load,1,4,4,3 load,2,5,5,0 load,3,6,6,1 budget,9
+drop,5 drop,3 -> ok
+save -> clear {READERS} load,0,1,1 load,1,2,2,1 load,2,5,5,0 budget,9
+plan last -> plan,8,8,3 1,1,1,2,0 2,1,1,4,1 3,1,1,2,1
+load,3,0,1 -> ok
+save -> clear {READERS} load,0,1,1 load,1,2,2,1 load,2,5,5,0 load,3,0,1,0 budget,9
+drop,4 drop,3 drop,2 drop,1 load,0,1,1 -> ok
+save -> clear {READERS} load,0,1,1,0 budget,9
+'''),
+    'power and worth keep the kinds': session('''
+load,0,1,1,1 load,1,2,2,2 load,1,3,3,3 -> ok
+power,2,500 worth,2,1000 power,1,0 worth,3,0 power,3,3 -> ok
+save -> clear load,0,0,1,1 load,1,500,1000,2 load,1,3,0,3 budget,0
+power,2,501 worth,4,1 -> no,5
+save -> clear load,0,0,1,1 load,1,500,1000,2 load,1,3,0,3 budget,0
+'''),
+    # "loads (with kinds) and budget stay": the rules go, and their kinds with them.
+    'a new book': session(f'''
+{READERS} {PLANT} budget,30 book,2,2 -> ok
+save -> clear book,2,2 {PLANT} budget,30
+save1 -> no,14
+{READERS} -> ok
+plan last -> {READER_ON}
+'''),
+    # "An old save, taken in and written with `save1`, comes back byte for byte"
+    'an old save': session(f'''
+{READERS} {PLANT} budget,9 -> ok
+clear {BELOW} {CABINET} budget,30 -> ok
+save1 -> clear {BELOW} {CABINET} budget,30
+save -> clear {BELOW} {CABINET} budget,30
+clear load,0,0,0 budget,0 -> ok
+save1 -> clear load,0,0,0 budget,0
+clear book,8,1 end,1 rule,8,1,1 rule,1,0,1 budget,500 -> ok
+save1 -> clear book,8,1 end,1 rule,8,1,1 rule,1,0,1 budget,500
+'''),
+    'a save with kinds, fed back': session(f'''
+{READERS} {PLANT} budget,30 -> ok
+plan last -> {READER_ON}
+save -> clear {READERS} {PLANT} budget,30
+clear {' '.join(with_kinds(f'{READERS} {PLANT} budget,30'.split()))} -> ok
+last -> no,12
+save -> clear {READERS} {PLANT} budget,30
+plan last -> {READER_ON}
+'''),
+}
+
 # As many loads as there may be, of the greatest worth, that draw nothing.
 RICHEST = ['load,0,0,%d' % MAX_WORTH] + ['load,1,0,%d' % MAX_WORTH] * (MAX_LOADS - 1)
 WORTH_OF_ALL = MAX_WORTH * MAX_LOADS
@@ -737,7 +1073,12 @@ CHAIN_POWER = MAX_BUDGET // CHAIN_LOADS
 CHAIN = ['load,0,%d,0' % (MAX_BUDGET - CHAIN_POWER * (CHAIN_LOADS - 1))] + ['load,%d,%d,0' % (k, CHAIN_POWER) for k in range(1, CHAIN_LOADS)]
 CHAIN_RUN = ['1,1,1,1,0'] + ['%d,1,1,1,1' % k for k in range(2, CHAIN_LOADS + 1)]
 
-# Of equal plans too, but of trees so large that enumeration takes its time.
+# A root, readers of kind 1 and cameras in turn, as many as there may be. Rule 1 is a camera's and rule 2 a reader's, and every load is on.
+IN_TURN = ['load,0,0,1'] + ['load,1,0,%d,%d' % (k, k % 2) for k in range(1, MAX_LOADS)]
+IN_TURN_RUN = ['1,1,1,1,0'] + ['%d,1,1,%d,1' % (k + 1, k % 2 + 1) for k in range(1, MAX_LOADS)]
+IN_TURN_WORTH = 1 + sum(range(1, MAX_LOADS))
+
+# Of equal plans and of kinds too, but of trees so large that enumeration takes its time.
 LARGEST_EDGES = {
     'the whole budget over a long chain': session(f'''
 {ALL_ON} {' '.join(CHAIN)} budget,{MAX_BUDGET} -> ok
@@ -771,7 +1112,14 @@ plan -> plan,{WORTH_OF_ALL - MAX_WORTH},6,{MAX_LOADS - 1} 1,1,3,1,0 2,0,2,3,1 {l
 worth,2,{MAX_WORTH - 1} power,2,5 -> ok
 plan -> plan,{WORTH_OF_ALL - MAX_WORTH},6,{MAX_LOADS - 1} 1,1,3,1,0 2,0,2,3,1 {listing(3, 2, 4)}
 '''),
+    'the most loads, of two kinds in turn': session(f'''
+book,1,1 start,1 end,1 rule,1,1,1 rule,1,1,1,1 row,1,1,1 {' '.join(IN_TURN)} -> ok
+plan last -> plan,{IN_TURN_WORTH},0,{MAX_LOADS} {' '.join(IN_TURN_RUN)}
+drop,{MAX_LOADS} load,1,0,0,2 -> ok
+plan last -> no,9
+save1 -> no,14
+'''),
 }
-SORTS = DROP_EDGES, COOLER_EDGES, LAST_EDGES, LARGEST_EDGES
+SORTS = DROP_EDGES, COOLER_EDGES, LAST_EDGES, KIND_EDGES, LARGEST_EDGES
 EDGES = {name: case for edges in SORTS for name, case in edges.items()}
 assert len(EDGES) == sum(map(len, SORTS)), 'two sessions have one name'

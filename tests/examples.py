@@ -1,13 +1,14 @@
 #!/usr/bin/env python3
 """Programs that link the library, in C and in Rust, against the line program: the same bytes in, the same bytes out.
 
-  examples.py LINE_PROGRAM PROGRAM.. [--sessions N] [--seed S] [--interrupted LIBRARY] [--ports PROGRAM]
+  examples.py LINE_PROGRAM PROGRAM.. [--sessions N] [--seed S] [--interrupted LIBRARY] [--ports PROGRAM] [--reader PROGRAM]
 
 The input holds sessions of valid and damaged lines, lines of every length around the most that a line may have, lines far longer than any
-buffer, bytes of every value, large cabinets, and a last line with and without its line feed. Each program must also answer a line as soon as
-it is complete, while its input stays open, and print the same where every other read and write is interrupted (a library that is loaded
-before it: interrupted.c). A program that switches ports must have switched them as its plans and its drops say, and its display must have shown
-the latest plan, and none after a change.
+buffer, bytes of every value, large cabinets of one kind and of two, and a last line with and without its line feed. Each program must also
+answer a line as soon as it is complete, while its input stays open, and print the same where every other read and write is interrupted (a library
+that is loaded before it: interrupted.c). A program that switches ports must have switched them as its plans and its drops say, and its display
+must have shown the latest plan, and none after a change. A program that prints its own lines, as that of a safety reader does, must print the
+answers that the oracle has, with a plan and with refusals 10 and 14 among them.
 The last line is 'N passed, M failed'.
 """
 import argparse
@@ -20,6 +21,7 @@ from pathlib import Path
 
 from crosscheck import session
 from limits import CELLS, LINE_BYTES, MAX_BUDGET, MAX_LOADS, MAX_WORTH
+from oracle import Oracle
 from texts import grouped
 
 WORKED = Path('crates/load_planner/stdin')
@@ -33,7 +35,7 @@ def joined(lines):
 def long_lines(rng):
     """Lines around the most bytes, and far beyond it."""
     lengths = [0, 1, *range(LINE_BYTES - 1, LINE_BYTES + 3), 2 * LINE_BYTES, 255, 256, 257, 4095, 4096, 4097, 20000]
-    lines = [word + b'1' * length for length in lengths for word in (b'check,', b'save', b'drop,', b'last')]
+    lines = [word + b'1' * length for length in lengths for word in (b'check,', b'save', b'save1', b'drop,', b'last')]
     lines += [bytes(rng.choice(b'01,plan\r\x00\xff') for _ in range(length)) for length in lengths]
     return joined(lines + [b'plan'])
 
@@ -41,34 +43,39 @@ def long_lines(rng):
 def every_byte():
     """Each byte alone, before and after a command, but for the line feed that ends a line."""
     bytes_but_feed = [bytes([b]) for b in range(256) if b != 10]
-    commands = (b'plan', b'save', b'budget,1', b'drop,1', b'drop', b'last')
+    commands = (b'plan', b'save', b'save1', b'budget,1', b'drop,1', b'drop', b'last', b'load,0,1,1,', b'load,0,1,1,1')
     return joined([line for b in bytes_but_feed for line in (b, b + b'plan', *(command + b for command in commands))])
 
 
-def any_load(rng, count):
+def any_load(rng, count, kinds):
     """The line of a load that comes after so many others."""
-    return b'load,%d,%d,%d' % (rng.randint(1, count) if count else 0, rng.randint(0, 9), rng.randint(0, MAX_WORTH))
+    line = b'load,%d,%d,%d' % (rng.randint(1, count) if count else 0, rng.randint(0, 9), rng.randint(0, MAX_WORTH))
+    kind = rng.randrange(kinds)
+    return line + b',%d' % kind if kind or rng.random() < 0.3 else line
 
 
-def come_and_go(rng):
+def come_and_go(rng, kinds):
     """On the fullest cabinet: drops of any loads, of which those without children leave, more loads, and plans between them."""
     lines = []
     for _ in range(3):
         lines += [b'drop,%d' % rng.randint(0, MAX_LOADS + 1) for _ in range(20)] + [b'last', b'plan', b'last', b'last']
-        lines += [any_load(rng, MAX_LOADS - 20) for _ in range(20)] + [b'last', b'plan', b'drop,%d' % (MAX_LOADS - 20), b'last', b'save']
+        lines += [any_load(rng, MAX_LOADS - 20, kinds) for _ in range(20)]
+        lines += [b'last', b'plan', b'drop,%d' % (MAX_LOADS - 20), b'last', b'save', b'save1', b'last']
     return lines
 
 
-def large_cabinet(rng):
-    """The most loads under a book with two states and two stages, plans with as many cells as the line program lends, drops, and a save."""
+def large_cabinet(rng, kinds):
+    """The most loads, of so many kinds, under a book with two states and two stages, plans with as many cells as the line program lends, drops,
+    and saves."""
     lines = [b'clear', b'book,2,2', b'start,1', b'start,2', b'end,1', b'end,2']
-    lines += [b'rule,1,1,1', b'rule,1,0,2', b'rule,2,0,2', b'row,1,1,1', b'row,2,2,2', b'row,1,2,1']
-    lines += [any_load(rng, count) for count in range(MAX_LOADS + 1)]
+    lines += [b'%s,%d' % (rule, kind) for kind in range(kinds) for rule in (b'rule,1,1,1', b'rule,1,0,2', b'rule,2,0,2')]
+    lines += [b'row,1,1,1', b'row,2,2,2', b'row,1,2,1']
+    lines += [any_load(rng, count, kinds) for count in range(MAX_LOADS + 1)]
     last = CELLS // (4 * MAX_LOADS) - 1
     for budget in (0, 1, 20, last - 1, last, last + 1, MAX_BUDGET):
         lines += [b'budget,%d' % budget, b'last', b'plan', b'check,' + bytes(rng.choice(b'01') for _ in range(MAX_LOADS)), b'last']
-    lines += [b'check,' + b'0' * MAX_LOADS, b'check,' + b'1' * MAX_LOADS, b'save', b'budget,%d' % last]
-    return joined(lines + come_and_go(rng))
+    lines += [b'check,' + b'0' * MAX_LOADS, b'check,' + b'1' * MAX_LOADS, b'save', b'save1', b'budget,%d' % last]
+    return joined(lines + come_and_go(rng, kinds))
 
 
 def inputs(rng, sessions):
@@ -79,8 +86,8 @@ def inputs(rng, sessions):
     yield 'no line feed at the end', b'book,1,1\nplan'
     yield 'long lines', long_lines(rng)
     yield 'every byte', every_byte()
-    for number in range(5):
-        yield 'large cabinet %d' % (number + 1), large_cabinet(rng)
+    for number in range(6):
+        yield 'large cabinet %d' % (number + 1), large_cabinet(rng, 1 + number % 2)
     made = [s for s in (session(rng) for _ in range(sessions)) if s]
     for number in range(0, len(made), 100):
         lines = [line for lines, _ in made[number:number + 100] for line in lines]
@@ -150,6 +157,14 @@ def switches_ports(program, data):
     return ended.returncode == 0 and ended.stderr.decode().splitlines() == logged_for(data, ended.stdout)
 
 
+def shows_kinds(program):
+    """Are the lines that a program prints, each after `> `, answered as the oracle answers them, a plan and refusals 10 and 14 among them?"""
+    text, oracle = subprocess.run([program], stdout=subprocess.PIPE, check=True).stdout.decode(), Oracle()
+    said = [part.splitlines() for part in text.split('> ')[1:]]
+    firsts = {answer[0].split(',')[0] if answer[0].startswith('plan') else answer[0] for _, *answer in said}
+    return all(oracle.answer(line.encode()) == answer for line, *answer in said) and {'plan', 'no,10', 'no,14', 'clear'} <= firsts
+
+
 def compared(programs, expected, data, name):
     """How many programs print what is expected for an input."""
     same = [program for program in programs if printed(program, data) == expected]
@@ -167,6 +182,7 @@ def main():
     options.add_argument('--seed', type=int, default=1)
     options.add_argument('--interrupted')
     options.add_argument('--ports')
+    options.add_argument('--reader')
     args = options.parse_args()
     passed = 0
     made = list(inputs(random.Random(args.seed), args.sessions))
@@ -180,6 +196,8 @@ def main():
         ]
     if args.ports:
         tests += [('switches ports and shows plans, ' + name, args.ports, switches_ports(args.ports, data)) for name, data in made]
+    if args.reader:
+        tests.append(('shows kinds', args.reader, shows_kinds(args.reader)))
     for what, program, held in tests:
         if not held:
             print('%s: not so of %s' % (what, program))

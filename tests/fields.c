@@ -2,8 +2,8 @@
  * The header against the archive: their versions; the layout, for which the planner's fields are read by their names after the lines of
  * paper 01's session, and the memory after the planner must be as it was; what the header's helpers answer; the outcome of the session's plan,
  * as it is stored, shown by `last`, wiped, and out of range; the pages of that plan, and the stretches of every set of rows that differ; the
- * session's save, with the free bytes that the header names; and the places of the loads when one leaves and another comes. It is C99, C11 and
- * C++11.
+ * session's saves, with the free bytes that the header names; kinds, in range and out of it; and the places of the loads when one leaves and
+ * another comes. It is C99, C11 and C++11.
  * The last line printed is 'N passed, M failed'.
  */
 #include "hulmeide.h"
@@ -52,18 +52,20 @@ static void expect(const char *what, size_t value, size_t expected)
     }
 }
 
-static void expect_rule(const char *what, struct hulmeide_rule rule, size_t from, size_t label, size_t to)
+static void expect_rule(const char *what, struct hulmeide_rule rule, size_t from, size_t label, size_t to, size_t kind)
 {
     expect(what, rule.from, from);
     expect(what, rule.label, label);
     expect(what, rule.to, to);
+    expect(what, rule.kind, kind);
 }
 
-static void expect_load(const char *what, struct hulmeide_load load, size_t parent, size_t power, size_t worth)
+static void expect_load(const char *what, struct hulmeide_load load, size_t parent, size_t power, size_t worth, size_t kind)
 {
     expect(what, load.parent, parent);
     expect(what, load.power, power);
     expect(what, load.worth, worth);
+    expect(what, load.kind, kind);
 }
 
 static void expect_reply(const char *what, struct hulmeide_reply reply, size_t number, size_t count)
@@ -110,14 +112,14 @@ static void expect_entry(const char *what, size_t load, size_t state, size_t loa
 }
 
 /* No run: each place of the outcome holds 0, and so does its set. */
-static void expect_no_run(const char *what, size_t kind)
+static void expect_no_run(const char *what, size_t status)
 {
     const struct hulmeide_outcome *outcome = &kept.planner.outcome;
     size_t used = 0;
     for (size_t i = 0; i < HULMEIDE_MAX_LOADS; i++) {
         used += outcome->run.states[i] != 0 || outcome->run.load_rules[i] != 0 || outcome->run.row_rules[i] != 0;
     }
-    expect(what, outcome->kind, kind);
+    expect(what, outcome->status, status);
     expect(what, used, 0);
     expect(what, outcome->run.set, 0);
 }
@@ -125,7 +127,7 @@ static void expect_no_run(const char *what, size_t kind)
 static void expect_plan(const char *what)
 {
     const struct hulmeide_outcome *outcome = &kept.planner.outcome;
-    expect(what, outcome->kind, HULMEIDE_OUTCOME_PLANNED);
+    expect(what, outcome->status, HULMEIDE_OUTCOME_PLANNED);
     expect_entry("load 1 of a plan", 1, 1, 2, 0);
     expect_entry("load 2 of a plan", 2, 1, 2, 1);
     expect_entry("load 3 of a plan", 3, 1, 2, 1);
@@ -269,24 +271,68 @@ static void expect_pages(void)
     planner->outcome.run.set = 7;
     expect_line("last", HULMEIDE_ACCEPTED, 53);
     memset(&planner->outcome, 0, sizeof planner->outcome);
-    planner->outcome.kind = HULMEIDE_OUTCOME_NO_SET;
+    planner->outcome.status = HULMEIDE_OUTCOME_NO_SET;
     expect_drawing("a page of none", 4, HULMEIDE_PAGE_BYTES, HULMEIDE_ACCEPTED, refused_page);
     expect_line("budget,30", HULMEIDE_ACCEPTED, 3);
     expect_drawing("a change", 1, HULMEIDE_PAGE_BYTES, HULMEIDE_NO_PLAN, NULL);
 }
 
-/* The session's save, with just the free bytes that it needs, and with one less. The session's lines stand in the order of a save. */
-static void expect_save(void)
+/* A save of the session, whose lines stand in the order of a save, with just the free bytes that it needs, and with one less. What is written of
+ * a kind, of load rules and of loads, is `kind`. */
+static void expect_save(const char *line, const char *kind)
 {
     struct hulmeide_planner *planner = &kept.planner;
     char saved[HULMEIDE_SAVE_BYTES] = "clear\n";
     for (size_t i = 0; i < sizeof lines / sizeof *lines; i++) {
-        strcat(strcat(saved, lines[i]), "\n");
+        int has_kind = strncmp(lines[i], "rule", 4) == 0 || strncmp(lines[i], "load", 4) == 0;
+        strcat(strcat(strcat(saved, lines[i]), has_kind ? kind : ""), "\n");
     }
-    expect_line("save", HULMEIDE_ACCEPTED, strlen(saved));
+    expect_line(line, HULMEIDE_ACCEPTED, strlen(saved));
     expect("the save is another text", memcmp(out, saved, strlen(saved)) != 0, 0);
-    expect_reply("one byte less", hulmeide_call_text(planner, "save", out, sizeof out - 1, 0, NULL, 0), HULMEIDE_TURNED_AWAY, 0);
-    expect_reply("no save", hulmeide_call_text(planner, "save,", out, HULMEIDE_FREE_BYTES, 0, NULL, 0), HULMEIDE_BAD_FORM, 5);
+    expect_reply("one byte less", hulmeide_call_text(planner, line, out, sizeof out - 1, 0, NULL, 0), HULMEIDE_TURNED_AWAY, 0);
+}
+
+static void expect_saves(void)
+{
+    expect_save("save", ",0");
+    expect_save("save1", "");
+    expect_reply("no save", hulmeide_call_text(&kept.planner, "save,", out, HULMEIDE_FREE_BYTES, 0, NULL, 0), HULMEIDE_BAD_FORM, 5);
+    expect_reply("no save1", hulmeide_call_text(&kept.planner, "save1,", out, HULMEIDE_FREE_BYTES, 0, NULL, 0), HULMEIDE_BAD_FORM, 5);
+}
+
+/* A byte out of its range turns a call away, and so does one in an unused place. Then it is as it was. */
+static void expect_tested(const char *what, uint8_t *byte, uint8_t value)
+{
+    uint8_t before = *byte;
+    *byte = value;
+    expect_reply(what, hulmeide_call_text(&kept.planner, "save1", out, sizeof out, 0, NULL, 0), HULMEIDE_TURNED_AWAY, 0);
+    *byte = before;
+}
+
+/* A load of kind 2 has no rule until one of its kind comes, and then `save1` is refused for either. They leave again, with a new book. */
+static void expect_kinds(void)
+{
+    struct hulmeide_planner *planner = &kept.planner;
+    struct hulmeide_book before = planner->book;
+    expect_line("load,1,0,0,4", HULMEIDE_OUT_OF_RANGE, 5);
+    expect_line("load,1,0,0,2", HULMEIDE_ACCEPTED, 3);
+    expect_load("a load of kind 2", planner->loads.items[4], 1, 0, 0, 2);
+    expect_line("save1", HULMEIDE_KINDS_IN_USE, 6);
+    expect_line("check,00000", HULMEIDE_NOT_ALLOWED, 6);
+    expect_line("rule,2,0,2,2", HULMEIDE_ACCEPTED, 3);
+    expect_line("rule,2,0,2,2", HULMEIDE_SAME_RULE, 5);
+    expect_rule("a rule of kind 2", planner->book.load_rules.items[3], 2, 0, 2, 2);
+    expect_line("check,00000", HULMEIDE_ACCEPTED, 4 + 5 * 10);
+    expect_tested("a load of kind 4", &planner->loads.items[0].kind, HULMEIDE_MAX_KIND + 1);
+    expect_tested("a load rule of kind 4", &planner->book.load_rules.items[0].kind, HULMEIDE_MAX_KIND + 1);
+    expect_tested("a row rule of kind 1", &planner->book.row_rules.items[0].kind, 1);
+    expect_tested("a kind of no load", &planner->loads.items[5].kind, 1);
+    expect_tested("a kind of no load rule", &planner->book.load_rules.items[4].kind, 1);
+    expect_tested("a kind of no row rule", &planner->book.row_rules.items[2].kind, 1);
+    expect_line("drop,5", HULMEIDE_ACCEPTED, 3);
+    expect_line("save1", HULMEIDE_KINDS_IN_USE, 6);
+    planner->book = before;
+    expect_save("save1", "");
 }
 
 /* Load 3 leaves: load 4 has its place and number then, the last place is free, and the next load takes it. */
@@ -298,12 +344,16 @@ static void expect_drop(void)
     expect("loads after refused drops", loads->count, 4);
     expect_line("drop,3", HULMEIDE_ACCEPTED, 3);
     expect("loads after a drop", loads->count, 3);
-    expect_load("load 2 after a drop", loads->items[1], 1, 15, 40);
-    expect_load("load 3 after a drop", loads->items[2], 2, 7, 50);
-    expect_load("the place that is free", loads->items[3], 0, 0, 0);
-    expect_line("load,3,5,30", HULMEIDE_ACCEPTED, 3);
+    expect_load("load 2 after a drop", loads->items[1], 1, 15, 40, 0);
+    expect_load("load 3 after a drop", loads->items[2], 2, 7, 50, 0);
+    expect_load("the place that is free", loads->items[3], 0, 0, 0, 0);
+    expect_line("load,3,5,30,3", HULMEIDE_ACCEPTED, 3);
     expect("loads after another came", loads->count, 4);
-    expect_load("load 4 after another came", loads->items[3], 3, 5, 30);
+    expect_load("load 4 after another came", loads->items[3], 3, 5, 30, 3);
+    expect_line("load,1,6,60,1", HULMEIDE_ACCEPTED, 3);
+    expect_line("drop,4", HULMEIDE_ACCEPTED, 3);
+    expect_load("a kind after a drop", loads->items[3], 1, 6, 60, 1);
+    expect_load("the place that is free again", loads->items[4], 0, 0, 0, 0);
 }
 
 int main(void)
@@ -316,15 +366,15 @@ int main(void)
     expect("starts", book->starts, 3);
     expect("ends", book->ends, 3);
     expect("load rules", book->load_rules.count, 3);
-    expect_rule("load rule 1", book->load_rules.items[0], 1, 0, 2);
-    expect_rule("load rule 3", book->load_rules.items[2], 2, 0, 2);
-    expect_rule("load rule 32", book->load_rules.items[HULMEIDE_MAX_RULES - 1], 0, 0, 0);
+    expect_rule("load rule 1", book->load_rules.items[0], 1, 0, 2, 0);
+    expect_rule("load rule 3", book->load_rules.items[2], 2, 0, 2, 0);
+    expect_rule("load rule 32", book->load_rules.items[HULMEIDE_MAX_RULES - 1], 0, 0, 0, 0);
     expect("row rules", book->row_rules.count, 2);
-    expect_rule("row rule 2", book->row_rules.items[1], 2, 2, 2);
+    expect_rule("row rule 2", book->row_rules.items[1], 2, 2, 2, 0);
     expect("loads", kept.planner.loads.count, 4);
-    expect_load("load 1", kept.planner.loads.items[0], 0, 10, 0);
-    expect_load("load 4", kept.planner.loads.items[3], 2, 7, 50);
-    expect_load("load 64", kept.planner.loads.items[HULMEIDE_MAX_LOADS - 1], 0, 0, 0);
+    expect_load("load 1", kept.planner.loads.items[0], 0, 10, 0, 0);
+    expect_load("load 4", kept.planner.loads.items[3], 2, 7, 50, 0);
+    expect_load("load 64", kept.planner.loads.items[HULMEIDE_MAX_LOADS - 1], 0, 0, 0, 0);
     expect("budget", kept.planner.budget, 30);
     expect_last();
     expect_last_of_none();
@@ -332,7 +382,8 @@ int main(void)
     expect_pages();
     expect_stretches();
     expect_helpers();
-    expect_save();
+    expect_saves();
+    expect_kinds();
     expect_drop();
     expect("bytes kept after the planner", bytes_kept(kept.guard, GUARD_BYTES), GUARD_BYTES);
     printf("%d passed, %d failed\n", passed, failed);

@@ -3,23 +3,24 @@
 
   judgecheck.py LIBRARY.so [--cases N] [--seed S]
 
-Each case is a book and a tree, built line by line, and proposed runs of every sort: runs, what would be runs but for one rule of the paper,
-runs with one number changed, numbers that name nothing, numbers of another width, and too few or too many of them. Numbers are a run exactly
-if the enumeration has them, whatever outcome the planner stores: none, that of its plan, or any other in range. One with an outcome out of
-range is refusal 1. Then the same numbers are given to oracles that are wrong on purpose, and each must be told apart from the judge.
+Each case is a book and a tree, built line by line, half of them with several kinds, and proposed runs of every sort: runs, what would be runs
+but for one rule of the paper, that of kinds among them, runs with one number changed, numbers that name nothing, numbers of another width, and
+too few or too many of them. Numbers are a run exactly if the enumeration has them, whatever outcome the planner stores: none, that of its plan,
+or any other in range. One with an outcome out of range is refusal 1. Then the same numbers are given to oracles that are wrong on purpose, and
+each must be told apart from the judge.
 The last line is 'N passed, M failed'.
 """
 import argparse
 import random
 import sys
 
-from crosscheck import book_lines, few_runs, tree_lines
+from crosscheck import MIXED, any_book, any_kinds, few_runs, tree_lines
 from library import Library, Planner, content_with, held
 from limits import MAX_RULES, MAX_STATES, NOT_A_RUN, NOTHING
 from oracle import Oracle
 from outcomes import with_any_outcome
 from script import keeps_limits
-from wrong_oracles import LeafAlwaysEnds, StageRestarts
+from wrong_oracles import HigherServed, KindsIgnored, LeafAlwaysEnds, NoneServedByAll, NoneServesAll, RootOfAnyKind, StageRestarts
 
 
 class Judge(Oracle):
@@ -45,6 +46,26 @@ class RowRestarts(StageRestarts, Judge):
     """A row starts its stage anew at each child."""
 
 
+class BlindToKinds(KindsIgnored, Judge):
+    """A load may have a load rule of any kind."""
+
+
+class NoneForAll(NoneServesAll, Judge):
+    """A load may have a load rule of kind 0, whatever its own."""
+
+
+class AllForNone(NoneServedByAll, Judge):
+    """A load of kind 0 may have a load rule of any kind."""
+
+
+class LowerForHigher(HigherServed, Judge):
+    """A load may have a load rule of a lower kind."""
+
+
+class AnyKindOfRoot(RootOfAnyKind, Judge):
+    """The root may have a load rule of any kind."""
+
+
 class OutcomeNotTested(Judge):
     """An outcome out of range is not turned away."""
 
@@ -56,10 +77,12 @@ class OutcomeTurnedAway(Judge):
     """A planner that stores an outcome is turned away."""
 
     def keeps(self, p):
-        return super().keeps(p) and p.kind == NOTHING
+        return super().keeps(p) and p.status == NOTHING
 
 
-WRONG = [AnyRoot, LeafEnds, RowRestarts, OutcomeNotTested, OutcomeTurnedAway]
+WRONG = [
+    AnyRoot, LeafEnds, RowRestarts, BlindToKinds, NoneForAll, AllForNone, LowerForHigher, AnyKindOfRoot, OutcomeNotTested, OutcomeTurnedAway,
+]
 PROPOSED = 12  # runs judged in each case
 
 
@@ -85,17 +108,17 @@ def any_number(rng):
 
 def proposal(rng, oracle, runs):
     """Numbers that may be a run, made of numbers that are one or nearly so."""
-    kind = rng.randrange(6)
+    sort = rng.randrange(6)
     length = 3 * len(oracle.loads)
-    if kind == 0 or not runs:
+    if sort == 0 or not runs:
         return [rng.randint(0, 4) for _ in range(length)]
     numbers = list(rng.choice(runs))
     place = rng.randrange(length)
-    if kind == 2:
+    if sort == 2:
         numbers[place] = any_number(rng)
-    elif kind == 3:
+    elif sort == 3:
         numbers[place] += rng.choice((256, 65536, 2**31))
-    elif kind == 4:
+    elif sort == 4:
         numbers = rng.choice((numbers[:place], numbers + [0], numbers + numbers, []))
     return numbers
 
@@ -114,7 +137,8 @@ def runs_of(oracle):
 def cabinet(rng):
     """The lines of a random cabinet with few runs. Now and then it has no loads."""
     while True:
-        lines = [b'clear'] + [line.encode() for line in book_lines(rng) + tree_lines(rng)]
+        kinds = any_kinds(rng)
+        lines = [b'clear'] + [line.encode() for line in any_book(rng, MIXED, kinds) + tree_lines(rng, MIXED, kinds)]
         if rng.random() < 0.02:
             lines = lines[:1]
         if few_runs(after(Oracle(), lines)):
@@ -131,7 +155,7 @@ def left(planner, lines):
 def judged_runs(rng, planner, lines):
     """Proposed runs of a cabinet, each with the planner handed in and the judge's answer. It has no outcome, that of its plan, or any."""
     bare, planned = left(planner, lines), left(planner, [b'plan'])
-    oracles = [after(kind(), lines) for kind in [Judge] + WRONG]
+    oracles = [after(judge(), lines) for judge in [Judge] + WRONG]
     near = sorted(set().union(*(runs_of(oracle) for oracle in oracles)))
     asked = [(rng.choice((bare, planned, with_any_outcome(rng, bare))), proposal(rng, oracles[0], near)) for _ in range(PROPOSED)]
     return [(p, numbers, Planner(planner.library, content_with(p)).judge(numbers)) for p, numbers in asked]
@@ -163,9 +187,9 @@ def main():
     answers = [answer for _, judged in cases for *_, answer in judged]
     counts = ', '.join('%d times %d' % (answers.count(a), a) for a in sorted(set(answers)))
     print('%d cabinets, %d proposed runs; answers: %s' % (len(cases), len(answers), counts))
-    for kind in WRONG:
-        told = sum(bool(differences(after(kind(), lines), judged)) for lines, judged in cases[:500])
-        print('%s: told apart in %d of %d cabinets' % (kind.__name__, told, len(cases[:500])))
+    for judge in WRONG:
+        told = sum(bool(differences(after(judge(), lines), judged)) for lines, judged in cases[:500])
+        print('%s: told apart in %d of %d cabinets' % (judge.__name__, told, len(cases[:500])))
         failed += told == 0
     print('%d passed, %d failed' % (len(cases) + len(WRONG) - failed, failed))
     return 1 if failed else 0

@@ -106,9 +106,9 @@ def content_with(p):
     book.states, book.stages, book.starts, book.ends = p.states, p.stages, p.starts, p.ends
     book.load_rules.items[:], book.load_rules.count = p.load_rules, p.load_rule_count
     book.row_rules.items[:], book.row_rules.count = p.row_rules, p.row_rule_count
-    loads.items[:], loads.count = p.loads, p.load_count
+    loads.items[:], loads.count = [(parent, kind, power, worth) for parent, power, worth, kind in p.loads], p.load_count
     planner.budget = p.budget
-    planner.outcome.kind, run.set = p.kind, p.set
+    planner.outcome.status, run.set = p.status, p.set
     run.states[:], run.load_rules[:], run.row_rules[:] = zip(*p.run)
     return bytes(planner)
 
@@ -118,15 +118,15 @@ def held(content):
     planner, p = StoredPlanner.from_buffer_copy(content), script.Planner()
     book, loads, run = planner.book, planner.loads, planner.outcome.run
     p.states, p.stages, p.starts, p.ends = book.states, book.stages, book.starts, book.ends
-    p.load_rules, p.load_rule_count = figures(book.load_rules), book.load_rules.count
-    p.row_rules, p.row_rule_count = figures(book.row_rules), book.row_rules.count
-    p.loads, p.load_count = figures(loads), loads.count
+    p.load_rules, p.load_rule_count = rules_in(book.load_rules), book.load_rules.count
+    p.row_rules, p.row_rule_count = rules_in(book.row_rules), book.row_rules.count
+    p.loads, p.load_count = [(load.parent, load.power, load.worth, load.kind) for load in loads.items], loads.count
     p.budget = planner.budget
-    p.kind, p.set = planner.outcome.kind, run.set
+    p.status, p.set = planner.outcome.status, run.set
     p.run = list(zip(run.states, run.load_rules, run.row_rules))
     return p
 
 
-def figures(items):
-    """The figures of each place of a list."""
-    return [tuple(getattr(item, name) for name, _ in item._fields_) for item in items.items]
+def rules_in(rules):
+    """The figures of each place of a list of rules."""
+    return [tuple(getattr(rule, name) for name, _ in rule._fields_) for rule in rules.items]

@@ -6,8 +6,9 @@
 Each line of a random session is handed to the library with an output full of rubbish, of any length and with any place in it, and with a work
 full of rubbish, of any length. Compared are the number, the count, every byte of the output, every cell of the work and every field of the
 planner. The lines of the save that each session ends with, each with the free bytes that it needs, must make the planner that an
-earlier session left hold the same tables and no outcome. Then the planner is handed in with any outcome in the place of its own, in range or
-not. Callers that are wrong on purpose are given the same lines, with the same output and work, and each must be told apart.
+earlier session left hold the same tables and no outcome. Then the planner is handed in with any outcome in the place of its own, and now and
+then with any kind, in range or not. Callers that are wrong on purpose are given the same lines, with the same output and work, and each must be
+told apart.
 The sessions of edges.py, with what the line program lends, must have the answers that stand there, and planners that are wrong on purpose must
 be told apart in one of them. The last line is 'N passed, M failed'.
 """
@@ -22,7 +23,7 @@ from edges import EDGES
 from library import Lent, Library, Planner, content_with, held
 from limits import FREE_BYTES, NO_SET, NOTHING, PLANNED, PLANNER_BYTES, SAVE_BYTES
 from oracle import Oracle, bytes_needed
-from outcomes import with_any_outcome
+from outcomes import with_any_kind, with_any_outcome
 from script import is_plan, number_of, stored
 from wrong_oracles import FewCellsWipe
 
@@ -142,8 +143,37 @@ class NineNeedsLittleRoom(Caller):
         return len('no,9\n') if line == b'last' and self.outcome == NO_SET else super().needed(line)
 
 
+class Save1NeedsLittleRoom(Caller):
+    """`save1` needs as many free bytes as any other line."""
+
+    def needed(self, line):
+        return FREE_BYTES if line == b'save1' else super().needed(line)
+
+
+class KindsNeedLittleRoom(Caller):
+    """`save1` needs as many free bytes as a save only where it is not refused."""
+
+    def needed(self, line):
+        return FREE_BYTES if line == b'save1' and self.kinds_in_use() else super().needed(line)
+
+
+class BrokenSave1NeedsRoom(Caller):
+    """A line that only begins like `save1` needs as many free bytes as it does."""
+
+    def needed(self, line):
+        return SAVE_BYTES if line.startswith(b'save1') else super().needed(line)
+
+
+class Save1FillsWork(Caller):
+    """`save1` leaves 0 in a plan's cells."""
+
+    def zero_cells(self, line, number):
+        return self.cells() if line == b'save1' else super().zero_cells(line, number)
+
+
 WRONG = [
     FewCells, TurnedAwayWipes, TurnedAwayStores, LastFillsWork, LastNeedsCells, LastNeedsRoomOfSave, NoPlanNeedsLittleRoom, NineNeedsLittleRoom,
+    Save1NeedsLittleRoom, KindsNeedLittleRoom, BrokenSave1NeedsRoom, Save1FillsWork,
 ]
 
 
@@ -181,7 +211,7 @@ def rebuilds(planner, other):
     return set(replies) == {(0, len('ok\n'))} and held(other.state.content()).same(held(planner.state.content()).without_outcome())
 
 
-# ---- planners handed in with any outcome
+# ---- planners handed in with any outcome and with any kind
 
 
 def handed_in_fault(rng, library, p, lines):
@@ -192,16 +222,19 @@ def handed_in_fault(rng, library, p, lines):
         got, text = planner.call(line, output, room.place, b''), text_of(reply.lines)
         want = reply.number, len(text), written(output, room.place, text), b''
         if got != want or not held(planner.state.content()).same(reply.planner):
-            return '%r on a planner handed in with %r: %r for %r' % (line, (p.kind, p.run[:p.load_count + 1], p.set), got[:2], want[:2])
+            return '%r on a planner handed in with %r: %r for %r' % (line, vars(p), got[:2], want[:2])
     judged = Planner(library, content_with(p)).judge([])
     return None if judged == int(script.verdict(p, [])) else 'the judge says %d' % judged
 
 
 def outcome_faults(rng, library, p, lines, count, seen):
-    """What is wrong with a planner handed in with so many outcomes by chance. What `last` answers is counted, 1 where the outcome is out of range."""
+    """What is wrong with a planner handed in with so many outcomes by chance, and now and then with a kind by chance. What `last` answers is
+    counted, 1 where either is out of range."""
     faults = []
     for _ in range(count):
         q = with_any_outcome(rng, p)
+        if rng.random() < 0.4:
+            q = with_any_kind(rng, q)
         seen[script.reply(q, script.ROOM, b'last').number] += 1
         faults.append(handed_in_fault(rng, library, q, lines))
     return faults
@@ -231,6 +264,32 @@ class PlaceKept(Planner):
         return reply
 
 
+class KindKept(Planner):
+    """A planner that is wrong on purpose: the place that a drop frees keeps its kind."""
+
+    def call(self, line, output, place, work):
+        before = held(self.state.content())
+        reply = super().call(line, output, place, work)
+        after = held(self.state.content())
+        if line.startswith(b'drop,') and after.load_count < before.load_count:
+            after.loads[after.load_count] = (0, 0, 0, before.loads[after.load_count][3])
+            self.state = Lent(content_with(after))
+        return reply
+
+
+class KindsKept(Planner):
+    """A planner that is wrong on purpose: the places that a new book frees keep the kinds of their load rules."""
+
+    def call(self, line, output, place, work):
+        before = held(self.state.content())
+        reply = super().call(line, output, place, work)
+        after = held(self.state.content())
+        if line.startswith(b'book,') and after.load_rule_count < before.load_rule_count:
+            after.load_rules = [(0, 0, 0, rule[3]) for rule in before.load_rules]
+            self.state = Lent(content_with(after))
+        return reply
+
+
 class RunKept(Planner):
     """A planner that is wrong on purpose: an outcome that is wiped leaves its run."""
 
@@ -238,13 +297,13 @@ class RunKept(Planner):
         before = held(self.state.content())
         reply = super().call(line, output, place, work)
         after = held(self.state.content())
-        if (before.kind, after.kind) == (PLANNED, NOTHING):
+        if (before.status, after.status) == (PLANNED, NOTHING):
             after.run = before.run
             self.state = Lent(content_with(after))
         return reply
 
 
-WRONG_PLANNERS = [PlaceKept, RunKept]
+WRONG_PLANNERS = [PlaceKept, KindKept, KindsKept, RunKept]
 
 
 def edge_fault(planner, case):
@@ -285,12 +344,12 @@ class Checked:
         self.faults.append(first_fault(Caller(), calls))
         self.untold = {caller for caller in self.untold if not first_fault(caller(), calls)}
         self.faults.append(None if rebuilds(planner, self.other) else 'the save after %r does not rebuild the planner' % lines)
-        asked = (b'last', b'plan', b'save', b'clear', b'budget,501', b'last,', b'check,1')
+        asked = (b'last', b'plan', b'save', b'save1', b'clear', b'budget,501', b'last,', b'check,1')
         self.faults += outcome_faults(self.rng, self.library, calls[-1].left, asked, HANDED_IN, self.seen)
 
     def named(self):
         self.faults += edge_faults(Planner, self.library)
-        self.faults += outcome_faults(self.rng, self.library, fullest(self.library), (b'last', b'save', b'drop,64'), FULLEST, self.seen)
+        self.faults += outcome_faults(self.rng, self.library, fullest(self.library), (b'last', b'save', b'save1', b'drop,64'), FULLEST, self.seen)
         untold = sorted(caller.__name__ for caller in self.untold)
         untold += [kind.__name__ for kind in WRONG_PLANNERS if not any(edge_faults(kind, self.library))]
         told = len(WRONG) + len(WRONG_PLANNERS) - len(untold)
@@ -312,7 +371,7 @@ def main():
         print('DIFFERS: ' + fault)
     failed = sum(fault is not None for fault in checked.faults)
     print('%d calls in %d sessions, and %d sessions by name' % (sum(map(len, cases)), len(cases), len(EDGES)))
-    print('%d outcomes handed in; last: %s' % (
+    print('%d outcomes and kinds handed in; last: %s' % (
         sum(checked.seen.values()), ', '.join('%d times %d' % (checked.seen[number], number) for number in sorted(checked.seen))))
     print('%d passed, %d failed' % (len(checked.faults) - failed, failed))
     return 1 if failed else 0

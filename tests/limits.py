@@ -28,7 +28,7 @@ def enumerated(name):
 
 SIZES = named(r'^#define HULMEIDE_(\w+) (\d+)$')
 NUMBERS = enumerated('number')
-KINDS = enumerated('outcome_kind')
+STATUSES = enumerated('outcome_status')
 
 LINE_BYTES = SIZES['LINE_BYTES']
 FREE_BYTES = SIZES['FREE_BYTES']
@@ -42,11 +42,12 @@ MAX_STAGES = SIZES['MAX_STAGES']
 MAX_POWER = SIZES['MAX_POWER']
 MAX_WORTH = SIZES['MAX_WORTH']
 MAX_BUDGET = SIZES['MAX_BUDGET']
+MAX_KIND = SIZES['MAX_KIND']
 PAGE_ROWS = SIZES['PAGE_ROWS']
 ROW_BYTES = SIZES['ROW_BYTES']
 PAGE_BYTES = PAGE_ROWS * ROW_BYTES
 NOT_A_RUN = NUMBERS['NOT_A_RUN']
-NOTHING, NO_SET, PLANNED = (KINDS['OUTCOME_' + name] for name in ('NOTHING', 'NO_SET', 'PLANNED'))
+NOTHING, NO_SET, PLANNED = (STATUSES['OUTCOME_' + name] for name in ('NOTHING', 'NO_SET', 'PLANNED'))
 VERSION = SIZES['VERSION']
 
 
@@ -64,8 +65,8 @@ def fields_of(body):
     """The fields of a struct, each with its type. Those whose type is a struct come after it in the header."""
     for line in body.splitlines():
         struct, plain, name, length = FIELD.fullmatch(line.strip()).groups()
-        kind = STRUCTS[struct] if struct else PLAIN[plain]
-        yield name, kind * SIZES[length] if length else kind
+        held = STRUCTS[struct] if struct else PLAIN[plain]
+        yield name, held * SIZES[length] if length else held
 
 
 for found, body in re.findall(r'^struct hulmeide_(\w+) \{\n(.*?)^\};$', HEADER, re.M | re.S):

@@ -1,17 +1,18 @@
-"""Paper 01 and requests One to Five of paper 02 by plain enumeration: every run of every set, straight from the text. It shares no code with
-the product, and with the header of the product only the limits.
+"""Paper 01 and requests One to Five and Eight of paper 02 by plain enumeration: every run of every set, straight from the text. It shares no
+code with the product, and with the header of the product only the limits.
 
 It is slow on purpose. Trees of up to five or six loads and small books are what it is for.
 """
 import re
 
 from limits import CELLS, FREE_BYTES, LINE_BYTES, SAVE_BYTES
-from limits import MAX_BUDGET, MAX_DIGITS, MAX_LOADS, MAX_POWER, MAX_RULES, MAX_STAGES, MAX_STATES, MAX_WORTH, NO_SET, NOTHING
+from limits import MAX_BUDGET, MAX_DIGITS, MAX_KIND, MAX_LOADS, MAX_POWER, MAX_RULES, MAX_STAGES, MAX_STATES, MAX_WORTH, NO_SET, NOTHING
 
 WORDS = {
-    'clear': 0, 'book': 2, 'start': 1, 'end': 1, 'rule': 3, 'row': 3, 'load': 3, 'power': 2, 'worth': 2, 'budget': 1, 'plan': 0, 'save': 0,
-    'drop': 1, 'last': 0,
+    'clear': 0, 'book': 2, 'start': 1, 'end': 1, 'rule': 4, 'row': 3, 'load': 4, 'power': 2, 'worth': 2, 'budget': 1, 'plan': 0, 'save': 0,
+    'save1': 0, 'drop': 1, 'last': 0,
 }
+WITH_KIND = 'rule', 'load'  # their last field is a kind, and may be left out
 NUMBER = re.compile(rb'[0-9]{1,%d}\Z' % MAX_DIGITS)
 BITS = re.compile(rb'[01]+\Z')
 
@@ -28,6 +29,8 @@ def parse(line):
         name = word.decode('ascii')
     except UnicodeDecodeError:
         return None
+    if name in WITH_KIND and len(fields) == WORDS[name] - 1:
+        fields.append(b'0')  # "Lines without it mean kind 0."
     if name not in WORDS or len(fields) != WORDS[name]:
         return None
     if not all(NUMBER.match(f) for f in fields):
@@ -37,25 +40,26 @@ def parse(line):
 
 def bytes_needed(line):
     """How many bytes must be free for the answer to a line."""
-    return SAVE_BYTES if len(line) <= LINE_BYTES and parse(line) == ('save', []) else FREE_BYTES
+    return SAVE_BYTES if len(line) <= LINE_BYTES and parse(line) in (('save', []), ('save1', [])) else FREE_BYTES
 
 
 class Oracle:
     """The tables of a planner and the outcome that it stores, and what each line answers."""
+    most_kind = MAX_KIND
 
     def __init__(self):
         self.clear()
         self.wipe()
 
     def clear(self):
-        self.loads = []  # (parent, power, worth), load k at place k - 1
+        self.loads = []  # (parent, power, worth, kind), load k at place k - 1
         self.budget = 0
         self.new_book(0, 0)
 
     def new_book(self, states, stages):
         self.states, self.stages = states, stages
         self.starts, self.ends = set(), set()
-        self.rules, self.rows = [], []
+        self.rules, self.rows = [], []  # (state, mark, stage, kind), (stage, state, next stage)
 
     # ---- "A plan, or its refusal 9, stores its outcome beside the tables ..; an accepted change wipes it."
 
@@ -93,6 +97,14 @@ class Oracle:
         """The number of a load after load k has left."""
         return number - 1 if number > k else number
 
+    def serves(self, rule, load):
+        """"a rule serves only loads of its kind": both have it last."""
+        return rule[3] == load[3]
+
+    def is_same(self, rule, other):
+        """"Two load rules are the same only if their kinds agree too": a kind is a load rule's last figure."""
+        return rule == other
+
     # ---- runs, by enumeration
 
     def children(self, k):
@@ -108,8 +120,8 @@ class Oracle:
 
     def rule_runs(self, k, state, n):
         """Those with load rule n."""
-        q, mark, stage = self.rules[n - 1]
-        if q != state:
+        q, mark, stage, _ = self.rules[n - 1]
+        if q != state or not self.serves(self.rules[n - 1], self.loads[k - 1]):
             return
         power, worth = self.figures(k, mark)
         for v, w, below in self.row_runs(self.children(k), stage):
@@ -223,16 +235,29 @@ class Oracle:
         return ['%s,%d' % (word, number) for number in sorted(marks)]
 
     def save(self):
+        """"`save` now writes every kind, 0 too"."""
+        return self.rebuilding('rule,%d,%d,%d,%d', 'load,%d,%d,%d,%d', 4)
+
+    def save1(self):
+        """"`save1` writes the form of request Two"."""
+        return self.rebuilding('rule,%d,%d,%d', 'load,%d,%d,%d', 3)
+
+    def rebuilding(self, rule_form, load_form, figures):
+        """The lines of a save, those of load rules and loads in these forms, with so many of their figures."""
         return [
             'clear',
             *self.book_lines(),
             *self.mark_lines('start', self.starts),
             *self.mark_lines('end', self.ends),
-            *('rule,%d,%d,%d' % rule for rule in self.rules),
+            *(rule_form % rule[:figures] for rule in self.rules),
             *('row,%d,%d,%d' % row for row in self.rows),
-            *('load,%d,%d,%d' % load for load in self.loads),
+            *(load_form % load[:figures] for load in self.loads),
             'budget,%d' % self.budget,
         ]
+
+    def kinds_in_use(self):
+        """"some load or load rule has a kind other than 0"."""
+        return any(rule[3] for rule in self.rules) or any(load[3] for load in self.loads)
 
     # ---- lines
 
@@ -246,11 +271,11 @@ class Oracle:
         if word == 'end':
             return 1 <= f[0] <= stages
         if word == 'rule':
-            return 1 <= f[0] <= states and f[1] <= 1 and 1 <= f[2] <= stages
+            return 1 <= f[0] <= states and f[1] <= 1 and 1 <= f[2] <= stages and f[3] <= self.most_kind
         if word == 'row':
             return 1 <= f[0] <= stages and 1 <= f[1] <= states and 1 <= f[2] <= stages
         if word == 'load':
-            return (f[0] == 0 if n == 0 else 1 <= f[0] <= n) and f[1] <= MAX_POWER and f[2] <= MAX_WORTH
+            return (f[0] == 0 if n == 0 else 1 <= f[0] <= n) and f[1] <= MAX_POWER and f[2] <= MAX_WORTH and f[3] <= self.most_kind
         if word == 'power':
             return 1 <= f[0] <= n and f[1] <= MAX_POWER
         if word == 'worth':
@@ -273,7 +298,7 @@ class Oracle:
         kept, most = {'load': (self.loads, MAX_LOADS), 'rule': (self.rules, MAX_RULES), 'row': (self.rows, MAX_RULES)}.get(word, ([], 1))
         if len(kept) >= most:
             return 6
-        if word in ('rule', 'row') and tuple(f) in kept:
+        if word in ('rule', 'row') and any(self.is_same(tuple(f), rule) for rule in kept):
             return 7
         if word == 'plan' and cells < self.cells():
             return 8
@@ -281,6 +306,8 @@ class Oracle:
             return 11
         if word == 'last' and self.outcome == NOTHING:
             return 12
+        if word == 'save1' and self.kinds_in_use():
+            return 14
         return 0
 
     def cells(self):
@@ -289,7 +316,7 @@ class Oracle:
     def drop(self, k):
         """Load k leaves, and the numbers above it fall, in parents too."""
         staying = self.loads[:k - 1] + self.loads[k:]
-        self.loads = [(self.fallen(parent, k), power, worth) for parent, power, worth in staying]
+        self.loads = [(self.fallen(parent, k), *others) for parent, *others in staying]
 
     def act(self, word, f):
         if word == 'clear':
@@ -307,11 +334,11 @@ class Oracle:
         elif word == 'load':
             self.loads.append(tuple(f))
         elif word == 'power':
-            p, _, v = self.loads[f[0] - 1]
-            self.loads[f[0] - 1] = (p, f[1], v)
+            p, _, v, t = self.loads[f[0] - 1]
+            self.loads[f[0] - 1] = (p, f[1], v, t)
         elif word == 'worth':
-            p, w, _ = self.loads[f[0] - 1]
-            self.loads[f[0] - 1] = (p, w, f[1])
+            p, w, _, t = self.loads[f[0] - 1]
+            self.loads[f[0] - 1] = (p, w, f[1], t)
         elif word == 'budget':
             self.budget = f[0]
         elif word == 'drop':
@@ -339,6 +366,8 @@ class Oracle:
             return ['no,10'] if run is None else ['yes'] + self.lines_of(run)
         if word == 'save':
             return self.save()
+        if word == 'save1':
+            return self.save1()
         self.act(word, f)
         self.wipe()
         return ['ok']

@@ -1,5 +1,7 @@
-"""Outcomes by chance, in range and out of it, for planners that are handed in."""
-from limits import MAX_LOADS, NO_SET, NOTHING, PLANNED
+"""Outcomes and kinds by chance, in range and out of it, for planners that are handed in."""
+import copy
+
+from limits import MAX_KIND, MAX_LOADS, MAX_RULES, NO_SET, NOTHING, PLANNED
 from script import padded
 
 
@@ -20,7 +22,7 @@ def damage(rng, q):
     """Changes one figure of an outcome."""
     place = rng.choice((0, max(0, q.load_count - 1), min(q.load_count, MAX_LOADS - 1), rng.randrange(MAX_LOADS), MAX_LOADS - 1))
     state, rule, row = q.run[place]
-    figure = rng.choice(('state', 'rule', 'row', 'set', 'kind'))
+    figure = rng.choice(('state', 'rule', 'row', 'set', 'status'))
     if figure == 'state':
         q.run[place] = near(rng, q.states), rule, row
     elif figure == 'rule':
@@ -30,14 +32,24 @@ def damage(rng, q):
     elif figure == 'set':
         q.set ^= 1 << place
     else:
-        q.kind = rng.choice((NOTHING, NO_SET, PLANNED, PLANNED + 1, 255))
+        q.status = rng.choice((NOTHING, NO_SET, PLANNED, PLANNED + 1, 255))
+
+
+def with_any_kind(rng, p):
+    """The planner with one kind by chance, of a load, a load rule or a row rule, in use or not."""
+    q = copy.deepcopy(p)
+    places, used, most = rng.choice(
+        ((q.loads, q.load_count, MAX_LOADS), (q.load_rules, q.load_rule_count, MAX_RULES), (q.row_rules, q.row_rule_count, MAX_RULES)))
+    place = rng.choice((0, max(0, used - 1), min(used, most - 1), most - 1, rng.randrange(most)))
+    places[place] = *places[place][:3], rng.choice((0, 1, rng.randint(0, MAX_KIND), MAX_KIND, MAX_KIND + 1, 255))
+    return q
 
 
 def with_any_outcome(rng, p):
     """The planner with an outcome by chance, mostly a plan. In half of them one figure is changed."""
     q = p.without_outcome()
-    q.kind = rng.choice((NOTHING, NO_SET, *6 * [PLANNED]))
-    if q.kind == PLANNED:
+    q.status = rng.choice((NOTHING, NO_SET, *6 * [PLANNED]))
+    if q.status == PLANNED:
         q.run = padded(any_run(rng, p), MAX_LOADS)
         q.set = rng.choice((0, 2**p.load_count - 1, rng.randrange(2**p.load_count)))
     if rng.random() < 0.5:

@@ -21,7 +21,7 @@ from collections import Counter
 from itertools import product
 from pathlib import Path
 
-from crosscheck import Figures, any_book, budget_line, load_line, session
+from crosscheck import EVERY_KIND, Figures, any_book, budget_line, load_line, session
 from edges import ALL_ON
 from library import Library, Planner, content_with
 from limits import MAX_BUDGET, MAX_LOADS, MAX_POWER, MAX_WORTH, NO_SET, NOTHING, PAGE_BYTES, PAGE_ROWS, PLANNED, ROW_BYTES
@@ -40,7 +40,8 @@ HANDED_IN = 8  # and of each planner handed in
 BROKEN = (
     'size 9 1', 'size 0 1', 'marks 255 0', 'marks 0 255', 'budget 501', 'counts 33 0 0', 'counts 0 33 0', 'counts 0 0 65', 'rubbish',
     'rule of sort 1 at place 31: 0 0 1', 'rule of sort 2 at place 31: 1 0 0', 'load at place 0: 1 0 0', 'load at place 0: 0 501 0',
-    'load at place 0: 0 0 1001', 'load at place 63: 64 0 0',
+    'load at place 0: 0 0 1001', 'load at place 63: 64 0 0', 'load at place 0: 0 0 0 4', 'rule of sort 1 at place 0: 1 0 1 4',
+    'rule of sort 2 at place 0: 1 1 1 1', 'rule of sort 1 at place 31: 0 0 0 1', 'rule of sort 2 at place 31: 0 0 0 1',
 )
 
 
@@ -73,26 +74,26 @@ def with_lines(lines):
 def cabinet(rng):
     """A cabinet of any size, with any outcome, in range or not; now and then it breaks a limit of its tables."""
     count = rng.choice((*COUNTS, rng.randint(0, MAX_LOADS)))
-    loads = [load_line(rng, number, WIDE) for number in range(count)]
-    p = with_any_outcome(rng, with_lines([*any_book(rng, WIDE), *loads, budget_line(rng, WIDE)]))
+    loads = [load_line(rng, number, WIDE, EVERY_KIND) for number in range(count)]
+    p = with_any_outcome(rng, with_lines([*any_book(rng, WIDE, EVERY_KIND), *loads, budget_line(rng, WIDE)]))
     return changed(p, [rng.choice(BROKEN)]) if rng.random() < 0.1 else p
 
 
-def plain_cabinet(count, kind):
-    """So many loads, no two with the same figures, and an outcome of a kind, with every third load on where it is a plan."""
+def plain_cabinet(count, status):
+    """So many loads, no two with the same figures, and an outcome of this status, with every third load on where it is a plan."""
     p = with_lines([*ALL_ON.split(), *('load,%d,%d,%d' % (min(k, 1), 7 * k, 1000 - k) for k in range(count))])
-    p.kind = kind
-    if kind == PLANNED:
+    p.status = status
+    if status == PLANNED:
         p.run, p.set = padded([(1, 1, min(k, 1)) for k in range(count)], MAX_LOADS), sum(1 << k for k in range(0, count, 3))
     return p
 
 
 def made_old(p, latest):
     """The planner as if no change had made its latest outcome old, if one has: `latest` is the one that held it."""
-    if p.kind != NOTHING or latest is None:
+    if p.status != NOTHING or latest is None:
         return None
     q = copy.copy(p)
-    q.kind, q.run, q.set = latest.kind, latest.run, latest.set
+    q.status, q.run, q.set = latest.status, latest.run, latest.set
     return q
 
 
@@ -153,7 +154,7 @@ def of_session(rng, observed):
         planner.answer(line)
         followed.follow(line, answer)
         p = stored(followed)
-        latest = p if p.kind != NOTHING else latest
+        latest = p if p.status != NOTHING else latest
         kept, stale = keeps_limits(p), made_old(p, latest)
         for _ in range(IN_SESSION):
             observed.draw(planner, Asked(p, kept, any_load(rng, p.load_count), rng.randbytes(any_length(rng)), stale))
@@ -168,9 +169,9 @@ def of_cabinet(rng, observed):
 
 
 def of_every_end(rng, observed):
-    """Pages of cabinets of several sizes, with each kind of outcome and one that there is not, from each load around an end, on each length."""
+    """Pages of cabinets of several sizes, with each status of an outcome and one that there is not, from each load around an end, on each length."""
     for count in COUNTS:
-        for p in [plain_cabinet(count, kind) for kind in (NOTHING, NO_SET, PLANNED, PLANNED + 1)]:
+        for p in [plain_cabinet(count, status) for status in (NOTHING, NO_SET, PLANNED, PLANNED + 1)]:
             planner, kept = Planner(observed.library, content_with(p)), keeps_limits(p)
             for load in loads_near(count):
                 for length in LENGTHS:
@@ -249,7 +250,7 @@ def observed_of(rng, library, cases):
 def faults_of(observed):
     """What differs from the model, each in a line."""
     for asked in drawing_faults(Pages(), observed.drawings):
-        outcome = asked.p.kind, asked.p.set
+        outcome = asked.p.status, asked.p.set
         yield 'the page from load %d on %d bytes, with %d loads and the outcome %r' % (asked.load, len(asked.page), asked.p.load_count, outcome)
     for glass, drawn in stretch_faults(Pages(), observed.stretches):
         yield 'the stretch of %r on %r' % (drawn, glass)

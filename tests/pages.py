@@ -34,11 +34,11 @@ class Pages:
     def worth_and_power(self, p):
         """Those of the loads that are on."""
         on = [load for k, load in enumerate(p.loads[:p.load_count], 1) if self.is_on(p, k)]
-        return sum(worth for _, _, worth in on), sum(power for _, power, _ in on)
+        return sum(load[2] for load in on), sum(load[1] for load in on)
 
     def first_row(self, p):
         """"Row one is `worth `, five digits, a blank, three digits of power and `W`, or `no plan` after refusal 9"."""
-        if p.kind == NO_SET:
+        if p.status == NO_SET:
             return 'no plan'
         worth, power = self.worth_and_power(p)
         return 'worth ' + self.digits(worth, 5) + ' ' + self.digits(power, 3) + 'W'
@@ -56,7 +56,7 @@ class Pages:
 
     def row_of(self, p, k):
         """"missing loads, and all loads after refusal 9, are blank rows"."""
-        return '' if k > p.load_count or p.kind == NO_SET else self.load_row(p, k)
+        return '' if k > p.load_count or p.status == NO_SET else self.load_row(p, k)
 
     def loads_shown(self, p, k):
         """"Rows two to eight show loads k to k+6"."""
@@ -71,7 +71,7 @@ class Pages:
     def causes(self, asked):
         """What refuses a drawing, each with its number, in the order of the tests. A planner that breaks a limit is 1."""
         p = asked.p
-        return (13, len(asked.page) != PAGE_BYTES), (1, not asked.kept), (5, not 1 <= asked.load <= p.load_count), (12, p.kind == NOTHING)
+        return (13, len(asked.page) != PAGE_BYTES), (1, not asked.kept), (5, not 1 <= asked.load <= p.load_count), (12, p.status == NOTHING)
 
     def number(self, asked):
         return next((number for number, applies in self.causes(asked) if applies), 0)

@@ -19,21 +19,24 @@ tests/damaged is another, where `%` and two digits of base 16 stand for a byte o
     budget WATTS                      counts LOAD-RULES ROW-RULES LOADS
     rule of sort 1 at place I: STATE MARK STAGE      rule of sort 2 at place I: STAGE STATE NEXT
     load at place I: PARENT POWER WORTH              rubbish (255 in every byte)
-    kind KIND (of the outcome)                       set NUMBER (that holds the outcome's loads)
+    status STATUS (of the outcome)                   set NUMBER (that holds the outcome's loads)
     run at place I: STATE LOAD-RULE ROW-RULE (of the outcome)
+
+A rule, of either sort, and a load may have a kind as last number, which is 0 without it.
 """
 import copy
 import re
 import sys
 
-from limits import LINE_BYTES, MAX_BUDGET, MAX_LOADS, MAX_POWER, MAX_RULES, MAX_STAGES, MAX_STATES, MAX_WORTH, NO_SET, NOTHING, PLANNED
-from limits import PAGE_BYTES
+from limits import LINE_BYTES, MAX_BUDGET, MAX_KIND, MAX_LOADS, MAX_POWER, MAX_RULES, MAX_STAGES, MAX_STATES, MAX_WORTH
+from limits import NO_SET, NOTHING, PAGE_BYTES, PLANNED
 from oracle import Oracle, bytes_needed, parse
 from pages import Asked, Pages, put
 
-NONE = (0, 0, 0)  # what an unused place holds
+NONE = (0, 0, 0)  # what an unused place of a run holds
+UNUSED = (0, 0, 0, 0)  # and one of the rules or of the loads
 WORKED_RUN = [1, 2, 0, 1, 2, 1, 1, 2, 1, 1, 1, 1]
-HANDED_IN = (b'last', b'plan', b'', b'clear', b'check,1110', b'save', b'drop,4', b'last,', b'x' * 99)
+HANDED_IN = (b'last', b'plan', b'', b'clear', b'check,1110', b'save', b'save1', b'drop,4', b'last,', b'x' * 99)
 HANDED_IN_PAGES = (1, PAGE_BYTES), (4, PAGE_BYTES), (5, PAGE_BYTES), (MAX_LOADS, PAGE_BYTES), (1, PAGE_BYTES - 1), (0, PAGE_BYTES + 1)
 RUBBISH_BYTE = b'\xaa'  # what an output, a page and a glass hold before: no byte of an answer and of a page is this one
 DARK = RUBBISH_BYTE * PAGE_BYTES
@@ -47,14 +50,14 @@ class Planner:
         self.stages = 0
         self.starts = 0  # marks: bit 0 is for number 1
         self.ends = 0
-        self.load_rules = [NONE] * MAX_RULES  # (state, mark, stage)
-        self.row_rules = [NONE] * MAX_RULES  # (stage, state, next stage)
+        self.load_rules = [UNUSED] * MAX_RULES  # (state, mark, stage, kind)
+        self.row_rules = [UNUSED] * MAX_RULES  # (stage, state, next stage, 0)
         self.load_rule_count = 0
         self.row_rule_count = 0
-        self.loads = [NONE] * MAX_LOADS  # (parent, power, worth)
+        self.loads = [UNUSED] * MAX_LOADS  # (parent, power, worth, kind)
         self.load_count = 0
         self.budget = 0
-        self.kind = NOTHING  # of the outcome
+        self.status = NOTHING  # of the outcome
         self.run = [NONE] * MAX_LOADS  # its (state, load rule, row rule)
         self.set = 0  # its loads: bit 0 is for load 1
 
@@ -64,7 +67,7 @@ class Planner:
     def without_outcome(self):
         """The planner with these tables and no current plan."""
         other = copy.copy(self)
-        other.kind, other.run, other.set = NOTHING, [NONE] * MAX_LOADS, 0
+        other.status, other.run, other.set = NOTHING, [NONE] * MAX_LOADS, 0
         return other
 
 
@@ -76,31 +79,64 @@ def marks_on(marks):
     return {n for n in range(1, marks.bit_length() + 1) if marks >> (n - 1) & 1}
 
 
-def rules_keep(rules, count, firsts, labels, lasts):
-    """Are the rules in use in range and all different, and are the other places 0?"""
-    used = rules[:count]
-    in_range = all(a in firsts and b in labels and c in lasts for a, b, c in used)
-    return count <= MAX_RULES and in_range and len(set(used)) == count and all(r == NONE for r in rules[count:])
+class TableLimits:
+    """What the figures of the tables range over. wrong_limits.py gets what a kind adds to it wrong on purpose."""
+    of = 'tables'
+    load_kinds = rule_kinds = range(MAX_KIND + 1)
+    row_kinds = range(1)  # a row rule has no kind
 
+    def different(self, rules):
+        """"Two load rules are the same only if their kinds agree too." """
+        return len(set(rules)) == len(rules)
 
-def load_keeps(number, load):
-    parent, power, worth = load
-    parents = [0] if number == 1 else range(1, number)
-    return parent in parents and power <= MAX_POWER and worth <= MAX_WORTH
+    def unused_load(self, place):
+        return place == UNUSED
 
+    def unused_rule(self, place):
+        return place == UNUSED
 
-def loads_keep(loads, count):
-    used = all(load_keeps(k + 1, load) for k, load in enumerate(loads[:count]))
-    return count <= MAX_LOADS and used and all(load == NONE for load in loads[count:])
+    def unused_row(self, place):
+        return place == UNUSED
+
+    def rules_keep(self, rules, count, unused, *ranges):
+        """Are the rules in use in range and all different, and do the other places hold nothing?"""
+        used = rules[:count]
+        in_range = all(figure in figures for rule in used for figure, figures in zip(rule, ranges))
+        return count <= MAX_RULES and in_range and self.different(used) and all(map(unused, rules[count:]))
+
+    def load_keeps(self, number, load):
+        parent, power, worth, kind = load
+        parents = [0] if number == 1 else range(1, number)
+        return parent in parents and power <= MAX_POWER and worth <= MAX_WORTH and kind in self.load_kinds
+
+    def loads_keep(self, loads, count):
+        used = all(self.load_keeps(k + 1, load) for k, load in enumerate(loads[:count]))
+        return count <= MAX_LOADS and used and all(map(self.unused_load, loads[count:]))
+
+    def keep(self, p):
+        states = range(1, p.states + 1)
+        stages = range(1, p.stages + 1)
+        return (
+            p.states <= MAX_STATES
+            and p.stages <= MAX_STAGES
+            and (p.states == 0) == (p.stages == 0)
+            and marks_on(p.starts) <= set(states)
+            and marks_on(p.ends) <= set(stages)
+            and self.rules_keep(p.load_rules, p.load_rule_count, self.unused_rule, states, (0, 1), stages, self.rule_kinds)
+            and self.rules_keep(p.row_rules, p.row_rule_count, self.unused_row, stages, states, stages, self.row_kinds)
+            and self.loads_keep(p.loads, p.load_count)
+            and p.budget <= MAX_BUDGET
+        )
 
 
 class OutcomeLimits:
     """What the figures of a stored outcome range over, given tables that keep their limits. wrong_limits.py gets each wrong on purpose."""
-    kinds = NOTHING, NO_SET, PLANNED
+    of = 'outcome'
+    statuses = NOTHING, NO_SET, PLANNED
 
     def used(self, p):
         """The places of the run in use: one for each load, where it is a plan."""
-        return p.load_count if p.kind == PLANNED else 0
+        return p.load_count if p.status == PLANNED else 0
 
     def states(self, p):
         return range(1, p.states + 1)
@@ -127,27 +163,11 @@ class OutcomeLimits:
     def keep(self, p):
         used = self.used(p)
         in_range = all(self.entry_keeps(p, k + 1, entry) for k, entry in enumerate(p.run[:used]))
-        return p.kind in self.kinds and in_range and self.unused(p.run[used:]) and p.set in self.sets(p)
+        return p.status in self.statuses and in_range and self.unused(p.run[used:]) and p.set in self.sets(p)
 
 
-def keeps_limits(p, outcome=OutcomeLimits()):
-    return tables_keep(p) and outcome.keep(p)
-
-
-def tables_keep(p):
-    states = range(1, p.states + 1)
-    stages = range(1, p.stages + 1)
-    return (
-        p.states <= MAX_STATES
-        and p.stages <= MAX_STAGES
-        and (p.states == 0) == (p.stages == 0)
-        and marks_on(p.starts) <= set(states)
-        and marks_on(p.ends) <= set(stages)
-        and rules_keep(p.load_rules, p.load_rule_count, states, (0, 1), stages)
-        and rules_keep(p.row_rules, p.row_rule_count, stages, states, stages)
-        and loads_keep(p.loads, p.load_count)
-        and p.budget <= MAX_BUDGET
-    )
+def keeps_limits(p, tables=TableLimits(), outcome=OutcomeLimits()):
+    return tables.keep(p) and outcome.keep(p)
 
 
 # ---- A planner that keeps the limits, and the tables of the oracle
@@ -158,16 +178,16 @@ def tables_of(p):
     tables.states, tables.stages = p.states, p.stages
     tables.starts, tables.ends = marks_on(p.starts), marks_on(p.ends)
     tables.rules = p.load_rules[: p.load_rule_count]
-    tables.rows = p.row_rules[: p.row_rule_count]
+    tables.rows = [rule[:3] for rule in p.row_rules[: p.row_rule_count]]
     tables.loads = p.loads[: p.load_count]
     tables.budget = p.budget
     run = {k + 1: (p.set >> k & 1, *entry) for k, entry in enumerate(p.run[: p.load_count])}
-    tables.outcome = run if p.kind == PLANNED else p.kind
+    tables.outcome = run if p.status == PLANNED else p.status
     return tables
 
 
-def padded(items, length):
-    return items + [NONE] * (length - len(items))
+def padded(items, length, unused=NONE):
+    return items + [unused] * (length - len(items))
 
 
 def stored(tables):
@@ -175,14 +195,14 @@ def stored(tables):
     p.states, p.stages = tables.states, tables.stages
     p.starts = sum(1 << (q - 1) for q in tables.starts)
     p.ends = sum(1 << (g - 1) for g in tables.ends)
-    p.load_rules, p.load_rule_count = padded(tables.rules, MAX_RULES), len(tables.rules)
-    p.row_rules, p.row_rule_count = padded(tables.rows, MAX_RULES), len(tables.rows)
-    p.loads, p.load_count = padded(tables.loads, MAX_LOADS), len(tables.loads)
+    p.load_rules, p.load_rule_count = padded(tables.rules, MAX_RULES, UNUSED), len(tables.rules)
+    p.row_rules, p.row_rule_count = padded([(*row, 0) for row in tables.rows], MAX_RULES, UNUSED), len(tables.rows)
+    p.loads, p.load_count = padded(tables.loads, MAX_LOADS, UNUSED), len(tables.loads)
     p.budget = tables.budget
     if tables.outcome in (NOTHING, NO_SET):
-        p.kind = tables.outcome
+        p.status = tables.outcome
     else:
-        p.kind, run = PLANNED, tables.outcome
+        p.status, run = PLANNED, tables.outcome
         p.run = padded([run[k][1:] for k in sorted(run)], MAX_LOADS)
         p.set = sum(run[k][0] << (k - 1) for k in run)
     return p
@@ -277,11 +297,16 @@ def numbers(text):
 def fill(p):
     """Every byte of the planner holds 255."""
     p.states = p.stages = p.starts = p.ends = 2**8 - 1
-    p.load_rules = p.row_rules = [(2**8 - 1,) * 3] * MAX_RULES
-    p.loads = [(2**8 - 1, 2**16 - 1, 2**16 - 1)] * MAX_LOADS
+    p.load_rules = p.row_rules = [(2**8 - 1,) * 4] * MAX_RULES
+    p.loads = [(2**8 - 1, 2**16 - 1, 2**16 - 1, 2**8 - 1)] * MAX_LOADS
     p.load_rule_count = p.row_rule_count = p.load_count = 2**64 - 1
     p.budget = 2**16 - 1
-    p.kind, p.run, p.set = 2**8 - 1, [(2**8 - 1,) * 3] * MAX_LOADS, 2**64 - 1
+    p.status, p.run, p.set = 2**8 - 1, [(2**8 - 1,) * 3] * MAX_LOADS, 2**64 - 1
+
+
+def with_kind(figures):
+    """The figures of a rule or of a load, the kind last, 0 where none is given."""
+    return tuple(padded(figures, len(UNUSED), 0))
 
 
 def changed(p, changes):
@@ -306,11 +331,11 @@ def make(q, change):
         (q.budget,) = n
     elif name == 'rule':
         rules = {1: q.load_rules, 2: q.row_rules}[n[0]]
-        rules[n[1]] = tuple(n[2:])
+        rules[n[1]] = with_kind(n[2:])
     elif name == 'load':
-        q.loads[n[0]] = tuple(n[1:])
-    elif name == 'kind':
-        (q.kind,) = n
+        q.loads[n[0]] = with_kind(n[1:])
+    elif name == 'status':
+        (q.status,) = n
     elif name == 'set':
         (q.set,) = n
     elif name == 'run':

@@ -5,7 +5,8 @@
 
 Compared are the number, the count, every byte of the output, every cell of the work and every field of the planner after each call, the
 judge's answer on each run, and number, page, stretch and glass of each drawing. Which planners were turned away, in calls, by the judge and in
-drawings, must tell the limits of a stored outcome from such as are wrong on purpose (wrong_limits.py). The last line is 'N passed, M failed'.
+drawings, must tell the limits of kinds and of a stored outcome from such as are wrong on purpose (wrong_limits.py).
+The last line is 'N passed, M failed'.
 """
 import argparse
 import sys
@@ -15,8 +16,8 @@ from urllib.parse import unquote_to_bytes
 from library import Library, Planner, content_with, held
 from limits import NOT_A_RUN, NUMBERS, PAGE_BYTES
 from pages import put
-from script import RUBBISH_BYTE, Script, keeps_limits
-from wrong_limits import WRONG
+from script import RUBBISH_BYTE, Script
+from wrong_limits import WRONG, keeps
 
 RUBBISH_CELL = b'rubb'
 VERDICTS = {'yes': 0, 'no': NOT_A_RUN}
@@ -70,7 +71,7 @@ class Compared(Script):
 
 def told_apart(limits, handed_in):
     """Was some planner turned away though it keeps these limits, or the other way round?"""
-    return any(keeps_limits(p, limits()) == away for p, away in handed_in)
+    return any(keeps(p, limits) == away for p, away in handed_in)
 
 
 def untold(scripts):

@@ -1,22 +1,141 @@
-"""Limits of a stored outcome (script.py) that are wrong on purpose, each in one place. A script that cannot tell them from the product's would
-show nothing."""
-from limits import MAX_LOADS, NO_SET, NOTHING, PLANNED
-from script import NONE, OutcomeLimits, verdict
+"""Limits of kinds and of a stored outcome (script.py) that are wrong on purpose, each in one place. A script that cannot tell them from the
+product's would show nothing."""
+from limits import MAX_KIND, MAX_LOADS, NO_SET, NOTHING, PLANNED
+from script import NONE, UNUSED, OutcomeLimits, TableLimits, keeps_limits, verdict
+
+# ---- kinds
 
 
-class KindMore(OutcomeLimits):
-    """There is one kind more."""
-    kinds = *OutcomeLimits.kinds, PLANNED + 1
+class LoadKindMore(TableLimits):
+    """A load may have one kind more."""
+    load_kinds = range(MAX_KIND + 2)
 
 
-class KindNotTested(OutcomeLimits):
-    """A kind may be any number."""
-    kinds = range(256)
+class LoadKindFewer(TableLimits):
+    """No load may have the last kind."""
+    load_kinds = range(MAX_KIND)
+
+
+class LoadKindNotTested(TableLimits):
+    """The kind of a load may be any number."""
+    load_kinds = range(256)
+
+
+class LoadKindBarred(TableLimits):
+    """A load has kind 0."""
+    load_kinds = range(1)
+
+
+class RuleKindMore(TableLimits):
+    """A load rule may have one kind more."""
+    rule_kinds = range(MAX_KIND + 2)
+
+
+class RuleKindFewer(TableLimits):
+    """No load rule may have the last kind."""
+    rule_kinds = range(MAX_KIND)
+
+
+class RuleKindNotTested(TableLimits):
+    """The kind of a load rule may be any number."""
+    rule_kinds = range(256)
+
+
+class RuleKindBarred(TableLimits):
+    """A load rule has kind 0."""
+    rule_kinds = range(1)
+
+
+class RowWithKind(TableLimits):
+    """A row rule may have a kind as a load rule may."""
+    row_kinds = TableLimits.rule_kinds
+
+
+class RowKindNotTested(TableLimits):
+    """What stands in the place of a row rule's kind is not tested."""
+    row_kinds = range(256)
+
+
+class SameWithoutKind(TableLimits):
+    """Two load rules that differ in their kinds alone are the same."""
+
+    def different(self, rules):
+        return super().different([rule[:3] for rule in rules])
+
+
+class SameOfAKind(TableLimits):
+    """A load rule of a kind other than 0 may be there twice."""
+
+    def different(self, rules):
+        return super().different([rule for rule in rules if rule[3] == 0])
+
+
+class UnusedLoadKind(TableLimits):
+    """The kind in an unused place for a load is not tested."""
+
+    def unused_load(self, place):
+        return place[:3] == UNUSED[:3]
+
+
+class UnusedRuleKind(TableLimits):
+    """The kind in an unused place for a load rule is not tested."""
+
+    def unused_rule(self, place):
+        return place[:3] == UNUSED[:3]
+
+
+class UnusedRowKind(TableLimits):
+    """What stands in the place of a kind in an unused place for a row rule is not tested."""
+
+    def unused_row(self, place):
+        return place[:3] == UNUSED[:3]
+
+
+class RootOfKindNone(TableLimits):
+    """Load 1 has kind 0."""
+
+    def load_keeps(self, number, load):
+        return super().load_keeps(number, load) and (number > 1 or load[3] == 0)
+
+
+class RootKindNotTested(TableLimits):
+    """The kind of load 1 is not tested."""
+
+    def load_keeps(self, number, load):
+        return super().load_keeps(number, (*load[:3], 0) if number == 1 else load)
+
+
+class KindOfParent(TableLimits):
+    """A load has the kind of its parent."""
+
+    def keep(self, p):
+        return super().keep(p) and all(load[3] == p.loads[load[0] - 1][3] for load in p.loads[1:p.load_count])
+
+
+class KindWithRule(TableLimits):
+    """A load has a kind of which there is a load rule, if there is any."""
+
+    def keep(self, p):
+        kinds = {rule[3] for rule in p.load_rules[:p.load_rule_count]}
+        return super().keep(p) and (not kinds or all(load[3] in kinds for load in p.loads[:p.load_count]))
+
+
+# ---- a stored outcome
+
+
+class StatusMore(OutcomeLimits):
+    """There is one status more."""
+    statuses = *OutcomeLimits.statuses, PLANNED + 1
+
+
+class StatusNotTested(OutcomeLimits):
+    """A status may be any number."""
+    statuses = range(256)
 
 
 class NoSetBarred(OutcomeLimits):
     """That no allowed set fits may not be stored."""
-    kinds = NOTHING, PLANNED
+    statuses = NOTHING, PLANNED
 
 
 class StateNone(OutcomeLimits):
@@ -198,7 +317,7 @@ class SetNotEmpty(OutcomeLimits):
     """The set of a plan has a load."""
 
     def sets(self, p):
-        return range(p.kind == PLANNED, 2 ** self.used(p))
+        return range(p.status == PLANNED, 2 ** self.used(p))
 
 
 class SetWithoutPlan(OutcomeLimits):
@@ -219,28 +338,28 @@ class NothingNotTested(OutcomeLimits):
     """Where nothing is stored, run and set may be anything."""
 
     def keep(self, p):
-        return p.kind == NOTHING or super().keep(p)
+        return p.status == NOTHING or super().keep(p)
 
 
 class NoSetNotTested(OutcomeLimits):
     """Where no allowed set fits, run and set may be anything."""
 
     def keep(self, p):
-        return p.kind == NO_SET or super().keep(p)
+        return p.status == NO_SET or super().keep(p)
 
 
 class PlanOfLoads(OutcomeLimits):
     """A plan may be stored only where there are loads."""
 
     def keep(self, p):
-        return super().keep(p) and (p.kind != PLANNED or p.load_count > 0)
+        return super().keep(p) and (p.status != PLANNED or p.load_count > 0)
 
 
 class NoSetOfLoads(OutcomeLimits):
     """That no allowed set fits may be stored only where there are loads."""
 
     def keep(self, p):
-        return super().keep(p) and (p.kind != NO_SET or p.load_count > 0)
+        return super().keep(p) and (p.status != NO_SET or p.load_count > 0)
 
 
 class WithinBudget(OutcomeLimits):
@@ -270,7 +389,7 @@ class RunOfTables(OutcomeLimits):
 
     def keep(self, p):
         small = 0 < p.load_count <= 4 and p.load_rule_count <= 4
-        return super().keep(p) and (p.kind != PLANNED or not small or verdict(p, sum(map(list, p.run[:p.load_count]), [])) == 'yes')
+        return super().keep(p) and (p.status != PLANNED or not small or verdict(p, sum(map(list, p.run[:p.load_count]), [])) == 'yes')
 
 
 class NotTested(OutcomeLimits):
@@ -280,4 +399,16 @@ class NotTested(OutcomeLimits):
         return True
 
 
-WRONG = OutcomeLimits.__subclasses__()
+class KindsOfRules(OutcomeLimits):
+    """Each load rule that is stored is of its load's kind."""
+
+    def keep(self, p):
+        return super().keep(p) and all(p.load_rules[rule - 1][3] == load[3] for (_, rule, _), load in zip(p.run, p.loads) if rule)
+
+
+def keeps(p, wrong):
+    """Does a planner keep the limits with such as are wrong in the place of the right ones?"""
+    return keeps_limits(p, **{wrong.of: wrong()})
+
+
+WRONG = TableLimits.__subclasses__() + OutcomeLimits.__subclasses__()

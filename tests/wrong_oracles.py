@@ -1,6 +1,6 @@
 """Oracles that are wrong on purpose, each in one place. A comparison that cannot tell them from the product would show nothing."""
-from limits import CELLS, MAX_BUDGET, MAX_LOADS, NO_SET, NOTHING
-from oracle import Oracle, parse
+from limits import CELLS, MAX_BUDGET, MAX_KIND, MAX_LOADS, MAX_RULES, NO_SET, NOTHING
+from oracle import WITH_KIND, Oracle, parse
 
 
 def with_fields(line, change):
@@ -611,11 +611,466 @@ class LastUnknown(Oracle):
         return super().answer(b'' if line == b'last' else line, cells)
 
 
-# Those that are wrong in a drop that has its form, those that are wrong in `last`, and all of them. FewCellsWipe is not among them: with the
-# line program's cells a plan that was stored is never refused with 8 (librarycheck.py).
+# ---- kinds: which rules serve
+
+
+class KindsIgnored(Oracle):
+    """A rule serves every load."""
+
+    def serves(self, rule, load):
+        return True
+
+
+class PlanBlind(Oracle):
+    """A plan is made by rules of every kind."""
+    blind = False
+
+    def serves(self, rule, load):
+        return self.blind or super().serves(rule, load)
+
+    def plan(self):
+        self.blind = True
+        run = super().plan()
+        self.blind = False
+        return run
+
+
+class CheckBlind(PlanBlind):
+    """A set is checked by rules of every kind."""
+
+    def plan(self):
+        return Oracle.plan(self)
+
+    def check(self, bits):
+        self.blind = True
+        run = super().check(bits)
+        self.blind = False
+        return run
+
+
+class NoneServesAll(Oracle):
+    """A rule of kind 0 serves every load."""
+
+    def serves(self, rule, load):
+        return rule[3] == 0 or super().serves(rule, load)
+
+
+class NoneServedByAll(Oracle):
+    """A load of kind 0 is served by every rule."""
+
+    def serves(self, rule, load):
+        return load[3] == 0 or super().serves(rule, load)
+
+
+class HigherServed(Oracle):
+    """A rule serves loads of higher kinds too."""
+
+    def serves(self, rule, load):
+        return rule[3] <= load[3]
+
+
+class LowerServed(Oracle):
+    """A rule serves loads of lower kinds too."""
+
+    def serves(self, rule, load):
+        return rule[3] >= load[3]
+
+
+class OthersServed(Oracle):
+    """There are two sorts of rules: those of kind 0, and those of the other kinds, which serve each other's loads."""
+
+    def serves(self, rule, load):
+        return (rule[3] == 0) == (load[3] == 0)
+
+
+class RootOfAnyKind(Oracle):
+    """The root is served by every rule."""
+
+    def serves(self, rule, load):
+        return load[0] == 0 or super().serves(rule, load)
+
+
+class NoneServed(Oracle):
+    """A rule serves only loads of kind 0 that it has the kind of: those of other kinds have no run."""
+
+    def serves(self, rule, load):
+        return rule[3] == load[3] == 0
+
+
+class KindOfParent(Oracle):
+    """A load that is entered without a kind has that of its parent."""
+
+    def answer(self, line, cells=CELLS):
+        command = parse(line)
+        if command and command[0] == 'load' and line.count(b',') == 3 and 1 <= command[1][0] <= len(self.loads):
+            line += b',%d' % self.loads[command[1][0] - 1][3]
+        return super().answer(line, cells)
+
+
+# ---- kinds: the lines of load rules and loads
+
+
+class KindMore(Oracle):
+    """There is one kind more."""
+    most_kind = MAX_KIND + 1
+
+
+class KindFewer(Oracle):
+    """There is one kind fewer."""
+    most_kind = MAX_KIND - 1
+
+
+class KindNotTested(Oracle):
+    """A kind may be any number."""
+    most_kind = 99999
+
+
+def with_last(line, change):
+    """The line of a load rule or of a load with its kind changed, if it has one and is in form."""
+    command = parse(line)
+    has_kind = command and command[0] in WITH_KIND and line.count(b',') == 4
+    return line[:line.rindex(b',')] + change(command[1][3]) if has_kind else line
+
+
+class KindInAByte(Oracle):
+    """Of a kind the last 8 binary digits count."""
+
+    def answer(self, line, cells=CELLS):
+        return super().answer(with_last(line, lambda kind: b',%d' % (kind % 256)), cells)
+
+
+class KindNotStored(Oracle):
+    """A kind in its range is taken, and not stored."""
+
+    def answer(self, line, cells=CELLS):
+        return super().answer(with_last(line, lambda kind: b',%d' % (kind if kind > MAX_KIND else 0)), cells)
+
+
+class KindBarred(Oracle):
+    """A line may have no kind, as before request Eight."""
+
+    def answer(self, line, cells=CELLS):
+        return super().answer(with_last(line, lambda kind: b',x'), cells)
+
+
+class KindWanted(Oracle):
+    """A line of a load rule or of a load has a kind."""
+
+    def answer(self, line, cells=CELLS):
+        return super().answer(b'' if line.startswith((b'rule,', b'load,')) and line.count(b',') == 3 else line, cells)
+
+
+class RulesAloneHaveKinds(Oracle):
+    """The line of a load may have no kind."""
+
+    def answer(self, line, cells=CELLS):
+        return super().answer(b'' if line.startswith(b'load,') and line.count(b',') == 4 else line, cells)
+
+
+class EmptyKindTaken(Oracle):
+    """An empty last field counts as kind 0."""
+
+    def answer(self, line, cells=CELLS):
+        is_empty = line.startswith((b'rule,', b'load,')) and line.endswith(b',') and line.count(b',') == 4
+        return super().answer(line + b'0' if is_empty else line, cells)
+
+
+class FieldAfterKind(Oracle):
+    """A field after the kind is left out."""
+
+    def answer(self, line, cells=CELLS):
+        return super().answer(b','.join(line.split(b',')[:5]) if line.startswith((b'rule,', b'load,')) else line, cells)
+
+
+class RowKindTaken(Oracle):
+    """A row rule may have a kind, which means nothing."""
+
+    def answer(self, line, cells=CELLS):
+        return super().answer(b','.join(line.split(b',')[:4]) if line.startswith(b'row,') else line, cells)
+
+
+class KindOfWrongForm(Oracle):
+    """A kind out of its range is told as a wrong form."""
+
+    def refusal(self, command, cells):
+        number = super().refusal(command, cells)
+        return 3 if number == 5 and command[0] in WITH_KIND and command[1][3] > MAX_KIND else number
+
+
+class KindAfterFull(Oracle):
+    """That there is no place is told before a kind out of its range."""
+
+    def refusal(self, command, cells):
+        number = super().refusal(command, cells)
+        if number == 5 and command[0] in WITH_KIND and super().refusal((command[0], [*command[1][:3], 0]), cells) == 6:
+            return 6
+        return number
+
+
+# ---- kinds: which rules are the same, and how many there may be
+
+
+class SameWithoutKind(Oracle):
+    """Two load rules that differ in their kinds alone are the same."""
+
+    def is_same(self, rule, other):
+        return rule[:3] == other[:3]
+
+
+class SameOfAKindTaken(Oracle):
+    """The same load rule of a kind other than 0 is taken twice."""
+
+    def is_same(self, rule, other):
+        return super().is_same(rule, other) and (len(rule) == 3 or rule[3] == 0)
+
+
+class WrittenKindDiffers(Oracle):
+    """A load rule whose kind 0 is written is another one than without."""
+
+    def answer(self, line, cells=CELLS):
+        self.written = line.count(b',') == 4
+        return super().answer(line, cells)
+
+    def refusal(self, command, cells):
+        number = super().refusal(command, cells)
+        return 0 if number == 7 and command[0] == 'rule' and self.written and command[1][3] == 0 else number
+
+
+class RulesOfEachKind(Oracle):
+    """As many load rules as there may be of each kind."""
+
+    def refusal(self, command, cells):
+        number = super().refusal(command, cells)
+        if number == 6 and command[0] == 'rule':
+            of_kind = [rule for rule in self.rules if rule[3] == command[1][3]]
+            return 6 if len(of_kind) >= MAX_RULES else 7 if tuple(command[1]) in of_kind else 0
+        return number
+
+
+# ---- kinds: saves
+
+
+class SaveWithoutKinds(Oracle):
+    """`save` writes no kinds, as before request Eight."""
+
+    def save(self):
+        return self.save1()
+
+
+class SaveWithoutKindNone(Oracle):
+    """`save` leaves out a kind of 0."""
+
+    def save(self):
+        return [line[:-2] if line.startswith(WITH_KIND) and line.endswith(',0') else line for line in super().save()]
+
+
+class SaveKindsOfRules(Oracle):
+    """`save` writes the kinds of load rules alone."""
+
+    def save(self):
+        return [old if old.startswith('load') else line for line, old in zip(super().save(), self.save1())]
+
+
+class SaveKindsOfLoads(Oracle):
+    """`save` writes the kinds of loads alone."""
+
+    def save(self):
+        return [old if old.startswith('rule') else line for line, old in zip(super().save(), self.save1())]
+
+
+class SaveKindsIfAny(Oracle):
+    """`save` writes kinds only while some are other than 0."""
+
+    def save(self):
+        return super().save() if self.kinds_in_use() else self.save1()
+
+
+class SaveRowKinds(Oracle):
+    """`save` writes a kind of 0 for a row rule too."""
+
+    def save(self):
+        return [line + ',0' if line.startswith('row') else line for line in super().save()]
+
+
+class Save1WithKinds(Oracle):
+    """`save1` writes kinds as `save` does."""
+
+    def save1(self):
+        return self.save()
+
+
+class KindsDropped(Oracle):
+    """`save1` leaves out kinds other than 0."""
+
+    def kinds_in_use(self):
+        return False
+
+
+class KindsOfLoadsAlone(Oracle):
+    """`save1` is refused for the kind of a load alone."""
+
+    def kinds_in_use(self):
+        return any(load[3] for load in self.loads)
+
+
+class KindsOfRulesAlone(Oracle):
+    """`save1` is refused for the kind of a load rule alone."""
+
+    def kinds_in_use(self):
+        return any(rule[3] for rule in self.rules)
+
+
+class KindsOfBoth(Oracle):
+    """`save1` is refused only where a load and a load rule have kinds."""
+
+    def kinds_in_use(self):
+        return any(load[3] for load in self.loads) and any(rule[3] for rule in self.rules)
+
+
+class KindsOfFirst(Oracle):
+    """`save1` is refused only for the kind of the first load or of the first load rule."""
+
+    def kinds_in_use(self):
+        return any(one[3] for one in self.rules[:1] + self.loads[:1])
+
+
+class Save1Number(Oracle):
+    """`save1` while kinds are in use has another number than 14. Those below name it."""
+    number = 14
+
+    def refusal(self, command, cells):
+        number = super().refusal(command, cells)
+        return self.number if number == 14 else number
+
+
+class KindsAreFive(Save1Number):
+    """`save1` while kinds are in use is told as a value out of its range."""
+    number = 5
+
+
+class KindsAreThree(Save1Number):
+    """`save1` while kinds are in use is told as no command."""
+    number = 3
+
+
+class KindsBeforeForm(Oracle):
+    """That kinds are in use is told before a wrong form of `save1`."""
+
+    def answer(self, line, cells=CELLS):
+        return super().answer(b'save1' if line.startswith(b'save1,') and self.kinds_in_use() else line, cells)
+
+
+class KindsBarSave(Oracle):
+    """`save` is refused too while kinds are in use."""
+
+    def refusal(self, command, cells):
+        return super().refusal(('save1', []) if command == ('save', []) else command, cells)
+
+
+class Save1TakesFields(Oracle):
+    """`save1` may have fields."""
+
+    def answer(self, line, cells=CELLS):
+        return super().answer(b'save1' if line.startswith(b'save1,') else line, cells)
+
+
+class Save1AsField(Oracle):
+    """`save,1` is `save1`."""
+
+    def answer(self, line, cells=CELLS):
+        return super().answer(b'save1' if line == b'save,1' else line, cells)
+
+
+class Save1Unknown(Oracle):
+    """`save1` is no command, as it was before request Eight."""
+
+    def answer(self, line, cells=CELLS):
+        return super().answer(b'' if line == b'save1' else line, cells)
+
+
+class Save1OfNoLoads(Oracle):
+    """`save1` with no loads is refused as a plan is."""
+
+    def refusal(self, command, cells):
+        return 4 if command == ('save1', []) and not self.loads else super().refusal(command, cells)
+
+
+class Save1Wipes(WordWipes):
+    """`save1` wipes the outcome."""
+    word = 'save1'
+
+
+class KindsWipe(NumberWipes):
+    """`save1` that is refused wipes the outcome."""
+    number = 14
+
+
+def without_kind(one):
+    """A load rule or a load with kind 0."""
+    return *one[:3], 0
+
+
+class Save1ForgetsKinds(Oracle):
+    """`save1` that is refused leaves every kind 0."""
+
+    def refusal(self, command, cells):
+        number = super().refusal(command, cells)
+        if number == 14:
+            self.rules, self.loads = [without_kind(rule) for rule in self.rules], [without_kind(load) for load in self.loads]
+        return number
+
+
+# ---- kinds: changes
+
+
+class DropForgetsKinds(Oracle):
+    """A drop leaves every load kind 0."""
+
+    def drop(self, k):
+        super().drop(k)
+        self.loads = [without_kind(load) for load in self.loads]
+
+
+class DropForgetsLater(Oracle):
+    """A drop leaves the loads behind the one that leaves kind 0."""
+
+    def drop(self, k):
+        super().drop(k)
+        self.loads = self.loads[:k - 1] + [without_kind(load) for load in self.loads[k - 1:]]
+
+
+class KindsStay(Oracle):
+    """A drop leaves the kinds at their places, whatever loads move there."""
+
+    def drop(self, k):
+        kinds = [load[3] for load in self.loads]
+        super().drop(k)
+        self.loads = [(*load[:3], kind) for load, kind in zip(self.loads, kinds)]
+
+
+def forgetting(word):
+    """The oracle in which a change by a word leaves the load that it names kind 0."""
+    def act(self, found, f):
+        Oracle.act(self, found, f)
+        if found == word:
+            self.loads[f[0] - 1] = without_kind(self.loads[f[0] - 1])
+    return type(word.title() + 'ForgetsKind', (Oracle,), {'act': act})
+
+
+class BookForgetsKinds(Oracle):
+    """A new book leaves every load kind 0."""
+
+    def act(self, word, f):
+        super().act(word, f)
+        if word == 'book':
+            self.loads = [without_kind(load) for load in self.loads]
+
+
+# Those that are wrong in a drop that has its form, those that are wrong in `last`, those that are wrong in kinds, and all of them. FewCellsWipe is
+# not among them: with the line program's cells a plan that was stored is never refused with 8 (librarycheck.py).
 WRONG_DROPS = [
     ParentsStay, OwnNumberFalls, NextNumberFalls, LowerNumberFalls, LastIntoGap, ParentDropped, RootDropped, RefusedDropTaken, ChildrenFirst,
-    OutOfRangeWithChildren, NoDropOfNoLoads, PlaceLost, PlaceNotCleared,
+    OutOfRangeWithChildren, NoDropOfNoLoads, PlaceLost, PlaceNotCleared, DropForgetsKinds, DropForgetsLater, KindsStay,
 ]
 WRONG_LASTS = [
     LongLineWipes, BrokenLineWipes, OutOfRangeWipes, FullWipes, SameRuleWipes, NoneFitsNotStored, NotAllowedWipes, ParentWipes, AllowedWipes,
@@ -624,9 +1079,18 @@ WRONG_LASTS = [
     RefusedCheckStores, FewCellsStored, NoPlanIsNine, NoPlanIsFive, LastNeedsLoads, LastIsPlan, LastPlansIfNone, FirstLineAlone, LastIsYes,
     LastTakesFields, LastUnknown,
 ]
+WRONG_KINDS = [
+    KindsIgnored, PlanBlind, CheckBlind, NoneServesAll, NoneServedByAll, HigherServed, LowerServed, OthersServed, RootOfAnyKind, NoneServed,
+    KindOfParent, KindMore, KindFewer, KindNotTested, KindInAByte, KindNotStored, KindBarred, KindWanted, RulesAloneHaveKinds, EmptyKindTaken,
+    FieldAfterKind, RowKindTaken, KindOfWrongForm, KindAfterFull, SameWithoutKind, SameOfAKindTaken, WrittenKindDiffers, RulesOfEachKind,
+    SaveWithoutKinds, SaveWithoutKindNone, SaveKindsOfRules, SaveKindsOfLoads, SaveKindsIfAny, SaveRowKinds, Save1WithKinds, KindsDropped,
+    KindsOfLoadsAlone, KindsOfRulesAlone, KindsOfBoth, KindsOfFirst, KindsAreFive, KindsAreThree, KindsBeforeForm, KindsBarSave,
+    Save1TakesFields, Save1AsField, Save1Unknown, Save1OfNoLoads, Save1Wipes, KindsWipe, Save1ForgetsKinds, *map(forgetting, ('power', 'worth')),
+    BookForgetsKinds,
+]
 WRONG = [
     StageRestarts, LeafAlwaysEnds, HighestFirst, PowerKept, FirstBudget, StoresNothing, ZerosBarred, ZerosNotCounted,
     EndsFirst, RowsFirst, MarksDescend, BookOfNone, NoBudgetOfNone, PaddedSave, NoSaveOfNoLoads, SaveTakesFields, DropTakesMore, *WRONG_DROPS,
     WorthAlone, PowerAtRootAlone, BranchesByWorth, RowsByWorth, WarmerOfEquals, PowerBeforeWorth, FewerLoads, OffDraws, WholeBudgetIsNone,
-    PowerIntoWorth, *WRONG_LASTS,
+    PowerIntoWorth, *WRONG_LASTS, *WRONG_KINDS,
 ]

@@ -4,7 +4,7 @@ from itertools import permutations
 
 from limits import NO_SET, NOTHING, PAGE_BYTES, PAGE_ROWS, ROW_BYTES
 from pages import Pages, cut
-from script import tables_keep
+from script import TableLimits
 
 # ---- rows
 
@@ -125,7 +125,7 @@ class FiguresOfAll(Pages):
     """Row one has the worth and the power of every load."""
 
     def worth_and_power(self, p):
-        return sum(worth for _, _, worth in p.loads), sum(power for _, power, _ in p.loads)
+        return sum(load[2] for load in p.loads), sum(load[1] for load in p.loads)
 
 
 class FiguresOfPage(Pages):
@@ -137,7 +137,7 @@ class FiguresOfPage(Pages):
 
     def worth_and_power(self, p):
         shown = [p.loads[k - 1] for k in self.loads_shown(p, self.first) if k <= p.load_count and self.is_on(p, k)]
-        return sum(worth for _, _, worth in shown), sum(power for _, power, _ in shown)
+        return sum(load[2] for load in shown), sum(load[1] for load in shown)
 
 
 class PowerBeforeWorth(Pages):
@@ -215,7 +215,7 @@ class MissingLoadsOff(Pages):
     """A load that is missing is shown as off."""
 
     def row_of(self, p, k):
-        return self.digits(k, 3) + ' off 000W' if k > p.load_count and p.kind != NO_SET else super().row_of(p, k)
+        return self.digits(k, 3) + ' off 000W' if k > p.load_count and p.status != NO_SET else super().row_of(p, k)
 
 
 class LoadsOnAlone(Pages):
@@ -246,28 +246,28 @@ class NineIsBlank(Pages):
     """Refusal 9 is shown as a blank page."""
 
     def first_row(self, p):
-        return '' if p.kind == NO_SET else super().first_row(p)
+        return '' if p.status == NO_SET else super().first_row(p)
 
 
 class NineRefused(Pages):
     """After refusal 9 nothing is drawn, and that is the number."""
 
     def causes(self, asked):
-        return *super().causes(asked), (9, asked.p.kind == NO_SET)
+        return *super().causes(asked), (9, asked.p.status == NO_SET)
 
 
 class NineNotCurrent(Pages):
     """After refusal 9 no plan is current."""
 
     def causes(self, asked):
-        return *super().causes(asked), (12, asked.p.kind == NO_SET)
+        return *super().causes(asked), (12, asked.p.status == NO_SET)
 
 
 class NineOfAnyLoad(Pages):
     """After refusal 9 the load need not exist."""
 
     def causes(self, asked):
-        return [(number, applies and not (number == 5 and asked.p.kind == NO_SET)) for number, applies in super().causes(asked)]
+        return [(number, applies and not (number == 5 and asked.p.status == NO_SET)) for number, applies in super().causes(asked)]
 
 
 # ---- refusals
@@ -337,7 +337,7 @@ class OutcomeNotTested(Passed):
     """A planner whose outcome is out of range is drawn."""
 
     def passes(self, number, asked):
-        return number == 1 and tables_keep(asked.p)
+        return number == 1 and TableLimits().keep(asked.p)
 
 
 class NumberNotTested(Passed):
@@ -372,7 +372,7 @@ class NothingIsNone(Passed):
 
     def drawn(self, asked):
         number, page = super().drawn(asked)
-        return (0, b'no plan'.ljust(PAGE_BYTES)) if not number and asked.p.kind == NOTHING else (number, page)
+        return (0, b'no plan'.ljust(PAGE_BYTES)) if not number and asked.p.status == NOTHING else (number, page)
 
 
 class OldPlanShown(Pages):
@@ -417,7 +417,7 @@ class TwelveOfNoLoads(Pages):
 
     def number(self, asked):
         number = super().number(asked)
-        return 12 if number == 5 and asked.p.load_count == 0 and asked.p.kind == NOTHING else number
+        return 12 if number == 5 and asked.p.load_count == 0 and asked.p.status == NOTHING else number
 
 
 # ---- a page before and after
@@ -434,7 +434,7 @@ class FirstRowDrawn(Pages):
     """Row one is drawn before the load is looked for."""
 
     def untouched(self, asked):
-        row = self.filled(self.first_row(asked.p)) if self.number(asked) == 5 and asked.p.kind != NOTHING else b''
+        row = self.filled(self.first_row(asked.p)) if self.number(asked) == 5 and asked.p.status != NOTHING else b''
         return row + asked.page[len(row):]
 
 
@@ -701,9 +701,9 @@ class OtherLengthWhole(Pages):
         return super().rows_of(glass, drawn) if self.are_pages(glass, drawn) else (0, PAGE_ROWS)
 
 
-def below(kind):
+def below(model):
     """The classes below one that have none below them."""
-    return [last for one in kind.__subclasses__() for last in below(one) or [one]]
+    return [last for one in model.__subclasses__() for last in below(one) or [one]]
 
 
 # LengthNotTested has classes below it, and is wrong by itself too.

@@ -34,7 +34,7 @@ unfolding row
 row-bytes s (line.Change x) = refl
 row-bytes s line.Plan = refl
 row-bytes s (line.Check σ n) = refl
-row-bytes s line.Save = refl
+row-bytes s (line.Save f) = refl
 row-bytes s line.Last = refl
 row-bytes s line.Broken = refl
 row-bytes s line.TooLong = refl
@@ -45,7 +45,7 @@ unfolding row
 row-shows s (line.Change x) = refl
 row-shows s line.Plan = refl
 row-shows s (line.Check σ n) = refl
-row-shows s line.Save = refl
+row-shows s (line.Save f) = refl
 row-shows s line.Last = refl
 row-shows s line.Broken = refl
 row-shows s line.TooLong = refl

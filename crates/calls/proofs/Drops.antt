@@ -9,6 +9,7 @@ use native.Mathlib.Omega.{arith}
 use lib.ListN.{length, getD, take, drop}
 use Rattle.lists.specs.Each as each
 use Rattle.lists.specs.Each.{Each}
+use Rattle.lines.specs.declared.SaveForm.the-variants.{Kinds}
 use Rattle.lines.specs.declared.Change.{Change}
 use Rattle.lines.specs.declared.Change.the-variants as to
 use Rattle.lines.specs.declared.Command.the-variants as line
@@ -46,19 +47,19 @@ use Rattle.calls.proofs.Saves.{ends}
 
 -- ---- lines that enter no load
 abbrev other : Change → Bool
-other c = ifLoad (λ p w v. false) true c
+other c = ifLoad (λ p w v t. false) true c
 
 abbrev Others : List Change → Type 0
 Others cs = Each (λ c. other c ≡ true) cs
 
-gives-other : {A : Type 0} (f : ℕ → ℕ → ℕ → A) (a : A) (c : Change) → other c ≡ true → ifLoad f a c ≡ a
+gives-other : {A : Type 0} (f : ℕ → ℕ → ℕ → ℕ → A) (a : A) (c : Change) → other c ≡ true → ifLoad f a c ≡ a
 gives-other f a to.Clear h = refl
 gives-other f a (to.Book s g) h = refl
 gives-other f a (to.Start q) h = refl
 gives-other f a (to.End g) h = refl
-gives-other f a (to.Rule q m g) h = refl
+gives-other f a (to.Rule q m g t) h = refl
 gives-other f a (to.Row g q m) h = refl
-gives-other f a (to.Load p w v) h = absurd (let z : _≡_ {A = ℕ} 0 1 = cc in omega arith)
+gives-other f a (to.Load p w v t) h = absurd (let z : _≡_ {A = ℕ} 0 1 = cc in omega arith)
 gives-other f a (to.Power k w) h = refl
 gives-other f a (to.Worth k v) h = refl
 gives-other f a (to.Budget w) h = refl
@@ -73,7 +74,7 @@ without-others (suc n) (each.more {x = c} h hs) ds = ap (λ (l : List Change). c
 
 same-others : (k : ℕ) {cs : List Change} → Others cs → map (withParent k) cs ≡ cs
 same-others k each.none = refl
-same-others k (each.more {x = c} {xs = cs} h hs) = λ i. gives-other (λ p w v. to.Load (fallen k p) w v) c c h i ∷ same-others k hs i
+same-others k (each.more {x = c} {xs = cs} h hs) = λ i. gives-other (λ p w v t. to.Load (fallen k p) w v t) c c h i ∷ same-others k hs i
 
 -- ---- a book is entered by such lines
 other-mark : (k : Sort) (q : ℕ) → other (markChange k q) ≡ true
@@ -135,7 +136,7 @@ drops {n} p h c k d = record {
   kept = record { tables = (u, keeps, held, full); outcome = (nothing, in-range, wiped) };
   fewer = fewer;
   emptied = λ e. no-more (u .loads) (omega (arith, fewer));
-  filled = λ a b v e. record { accepted = load-accepted (t .places) (u .loads) (load a b v) (rw fewer e) (omega (arith, fewer, lawful t (w .tables) .loads)); after = refl };
+  filled = λ a b v m e. record { accepted = load-accepted (t .places) (u .loads) (load a b v m) (rw fewer e) (omega (arith, fewer, lawful t (w .tables) .loads)); after = refl };
   rebuilt = λ v e. subst (λ (cs : List Change). Takes v cs u) lines-left (rebuilds u keeps v e);
   saves = ap saved (ap tablesOf held ∙ tables-stored u keeps) ∙ lines-left;
   entered = enters;
@@ -185,9 +186,9 @@ drops {n} p h c k d = record {
     lines-left = saves-without t k (leave .0 .0) (leave .0 .1)
 
     enters : (r : StoredState) → Kept n r → (xs : List Exchange) → History r xs
-        → linesOf xs ≡ lines (changesText (enteredWithout k (saved t))) → AllFree xs → SameAnswers (called p c .state) r xs
+        → linesOf xs ≡ lines (changesText Kinds (enteredWithout k (saved t))) → AllFree xs → SameAnswers (called p c .state) r xs
     enters r hr xs y l f =
-        let e = ends u keeps full r hr xs y (l ∙ ap (λ (cs : List Change). lines (changesText cs)) (sym lines-left)) f in
+        let e = ends Kinds u keeps refl full r hr xs y (l ∙ ap (λ (cs : List Change). lines (changesText Kinds cs)) (sym lines-left)) f in
         let same : last r xs .tables ≡ called p c .state .tables = ap (λ (x : StoredState). x .tables) (e .last) ∙ ap stored (e .tables) ∙ sym held in
         let gone : last r xs .outcome ≡ called p c .state .outcome = ap (λ (x : StoredState). x .outcome) (e .last) ∙ ap storedOutcome (e .outcome) ∙ sym wiped in
         record { accepted = e .accepted; tables = same; answers = λ x. λ i. called (record { tables = same i; outcome = gone i }) x }

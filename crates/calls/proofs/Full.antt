@@ -30,10 +30,10 @@ use Rattle.calls.proofs.Demand3.{demand3}
 -- the number of such a line on tables with k loads, and the tables after one that is accepted
 module _ (n k : ℕ) (s : State) (places : s .tables .places ≡ n) (loads : length (s .tables .loads) ≡ k) (c : Call) (l : LoadCall (suc k) c) where
   abbrev r : Row
-  r = row s (line.Change (to.Load (l .parent) (l .power) (l .worth)))
+  r = row s (line.Change (to.Load (l .parent) (l .power) (l .worth) (l .kind)))
 
   load-row : rowFor s c ≡ r
-  load-row = row-is s c (line.Change (to.Load (l .parent) (l .power) (l .worth))) (l .line) (numbers-short (c .line) (line.Change (to.Load (l .parent) (l .power) (l .worth))) (l .line) refl)
+  load-row = row-is s c (line.Change (to.Load (l .parent) (l .power) (l .worth) (l .kind))) (l .line) (numbers-short (c .line) (line.Change (to.Load (l .parent) (l .power) (l .worth) (l .kind))) (l .line) refl)
 
   load-number : numberFor s c ≡ pick (leb n k) no.full 0
   unfolding row changing lowest
@@ -45,7 +45,7 @@ module _ (n k : ℕ) (s : State) (places : s .tables .places ≡ n) (loads : len
       go true = refl
       go false = refl
 
-  load-after : k < n → after s c .tables ≡ addLoad (s .tables) (load (l .parent) (l .power) (l .worth))
+  load-after : k < n → after s c .tables ≡ addLoad (s .tables) (load (l .parent) (l .power) (l .worth) (l .kind))
   unfolding row changing
   load-after h = ap (λ (x : State). x .tables) (after-number s c) ∙ rw (load-number, lt-leb n k h, load-row)
 
@@ -59,7 +59,7 @@ numbers n k s p q (x ∷ xs) r ls zero most h =
 numbers n k s p q (x ∷ xs) r ls (suc j) most h =
     let e : k + suc j ≡ suc k + j = omega arith in
     let a = load-after n k s p q (x .call) (ls .0) (omega arith) in
-    let more : length (after s (x .call) .tables .loads) ≡ suc k = ap (λ (u : Tables). length (u .loads)) a ∙ omega (arith, length-snoc (s .tables .loads) (load (ls .0 .parent) (ls .0 .power) (ls .0 .worth))) in
+    let more : length (after s (x .call) .tables .loads) ≡ suc k = ap (λ (u : Tables). length (u .loads)) a ∙ omega (arith, length-snoc (s .tables .loads) (load (ls .0 .parent) (ls .0 .power) (ls .0 .worth) (ls .0 .kind))) in
     numbers n (suc k) (after s (x .call)) (ap (λ (u : Tables). u .places) a ∙ p) more xs (r .2) (ls .1) j (omega arith) (omega (arith, h))
     ∙ rw e
 

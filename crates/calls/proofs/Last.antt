@@ -8,6 +8,7 @@ use borrow.Author.Tests.{eqb-true, eqb-false, ne-eqb}
 use lib.Dec.{eqb, ltb, lit<}
 use lib.ListN.{length}
 use Rattle.lists.specs.Tests.{pick}
+use Rattle.lines.specs.declared.SaveForm.{SaveForm}
 use Rattle.lines.specs.declared.Command.{Command}
 use Rattle.lines.specs.declared.Command.the-variants as line
 use Rattle.lines.specs.Text.{same}
@@ -47,9 +48,9 @@ not-ok zero r = refl
 not-ok (suc n) r = refl
 
 -- a save begins with `clear`
-save-not : (t : Tables) → same (changesText (saved t)) ok ≡ false
+save-not : (f : SaveForm) (t : Tables) → same (changesText f (saved t)) ok ≡ false
 unfolding saved changesText lineOf parted same
-save-not t = refl
+save-not f t = refl
 
 -- a row prints it exactly if it is a change and its number is 0
 prints-ok : (s : State) (m : ℕ) (c : Command) (n : ℕ) → (n ≡ 0 → lowest (causesOf m (row s c)) ≡ 0) → same (text n (row s c)) ok ≡ isChange (row s c) && eqb n 0
@@ -60,8 +61,8 @@ prints-ok s m line.Plan zero e = refl
 prints-ok s m line.Plan (suc n) e = not-ok n (row s line.Plan)
 prints-ok s m (line.Check σ k) zero e = refl
 prints-ok s m (line.Check σ k) (suc n) e = not-ok n (row s (line.Check σ k))
-prints-ok s m line.Save zero e = save-not (s .tables)
-prints-ok s m line.Save (suc n) e = not-ok n (row s line.Save)
+prints-ok s m (line.Save f) zero e = save-not f (s .tables)
+prints-ok s m (line.Save f) (suc n) e = not-ok n (row s (line.Save f))
 prints-ok s m line.Last zero e = refl
 prints-ok s m line.Last (suc n) e = not-ok n (row s line.Last)
 prints-ok s m line.Broken zero e = absurd (omega (arith, e refl))
@@ -127,7 +128,7 @@ module _ (b : Bool) (s : State) (h : Current b s) (m : ℕ) where
   row-left (line.Change c) (suc n) e f = rw (ne-eqb (suc n) 0 (λ z. absurd (omega arith))) h
   row-left line.Plan n e f = plan-left n e f
   row-left (line.Check σ k) n e f = shown-left n (row s (line.Check σ k)) refl
-  row-left line.Save n e f = shown-left n (row s line.Save) refl
+  row-left (line.Save x) n e f = shown-left n (row s (line.Save x)) refl
   row-left line.Last n e f = shown-left n (row s line.Last) refl
   row-left line.Broken n e f = shown-left n (row s line.Broken) refl
   row-left line.TooLong n e f = shown-left n (row s line.TooLong) refl

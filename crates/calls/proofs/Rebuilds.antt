@@ -26,10 +26,10 @@ use Rattle.tables.specs.Tables.{Book, Tables, sizeFor, emptyBook, fresh}
 use Rattle.tables.specs.Limits.{between, maxStates, bookSize, sizeIn, marksIn, ruleIn, rangeFor, sameRule, maxRules, rulesIn, loadIn, budgetIn, Limits}
 use Rattle.tables.specs.Changes.{withBook, withLoads, withMarks, withRules, newBook}
 use Rattle.tables.specs.Lawful.{Lawful}
-use Rattle.tables.proofs.Lawful.{lawful, size-inside}
+use Rattle.tables.proofs.Lawful.{lawful, size-inside, rule-inside}
 use Rattle.tables.proofs.Parts.{Parts, limits-parts}
 use Rattle.tables.proofs.Keeps.{same-swap}
-use Rattle.calls.specs.Rows.{_if_, ruleCauses, changing}
+use Rattle.calls.specs.Rows.{_if_, rule, ruleCauses, changing}
 use Rattle.calls.specs.Causes.{lowest}
 use Rattle.calls.specs.Saves.{Step, Takes, none, Rebuilt}
 use Rattle.calls.proofs.Steps.{one, takes-append, for-each, marks, for-marks}
@@ -48,6 +48,15 @@ rule-passes m rs r ss h =
       lt-leb maxRules (length rs) (omega (arith, p .few, length-append rs (r ∷ ss))),
       distinct-mid sameRule same-swap rs r ss (p .once),
     )
+
+-- a row rule has kind 0
+no-kind : (m : RuleRange) (rs : List Transition) (r : Transition) (ss : List Transition) → rulesIn m (rs ++ (r ∷ ss)) ≡ true → m .kind ≡ 0
+    → rule (r .from) (r .label) (r .to) 0 ≡ r
+no-kind m rs r ss h e =
+    let p = limited-parts (ruleIn m) sameRule maxRules (rs ++ (r ∷ ss)) h in
+    let f = rule-inside m r (every-mid (ruleIn m) rs r ss (p .inside)) in
+    let k : 0 ≡ r .kind = omega (arith, f .kind, e) in
+    λ i. rule (r .from) (r .label) (r .to) (k i)
 
 pub load-accepted : (n : ℕ) (ls : List Load) (l : Load) → loadIn (suc (length ls)) l ≡ true → length ls < n
     → lowest ((no.outOfRange if not (loadIn (suc (length ls)) l)) ∷ (no.full if leb n (length ls)) ∷ []) ≡ 0
@@ -72,7 +81,9 @@ module _ (t : Tables) where
       → Step (withBook t (withRules k (t .book) rs)) (ruleChange k r) (withBook t (withRules k (t .book) (rs ++ (r ∷ []))))
   unfolding changing
   rule-step sort.Load rs r ss h = record { accepted = rule-passes (rangeFor (t .book) sort.Load) rs r ss h; after = refl }
-  rule-step sort.Row rs r ss h = record { accepted = rule-passes (rangeFor (t .book) sort.Row) rs r ss h; after = refl }
+  rule-step sort.Row rs r ss h =
+      subst (λ (x : Transition). Step (withBook t (withRules sort.Row (t .book) rs)) (ruleChange sort.Row r) (withBook t (withRules sort.Row (t .book) (rs ++ (x ∷ []))))) (no-kind (rangeFor (t .book) sort.Row) rs r ss h refl)
+      (record { accepted = rw (no-kind (rangeFor (t .book) sort.Row) rs r ss h refl) (rule-passes (rangeFor (t .book) sort.Row) rs r ss h); after = refl })
 
   -- all marks, and all rules, of a sort
   marks-taken : (k : Sort) (m : Marks) → sizeFor (t .book) k ≤ maxStates → marksIn (sizeFor (t .book) k) m ≡ true

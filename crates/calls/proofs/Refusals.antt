@@ -64,7 +64,7 @@ unfolding row
 acts-plain s room place (line.Change c) = refl
 acts-plain s room place line.Plan = refl
 acts-plain s room place (line.Check σ n) = refl
-acts-plain s room place line.Save = refl
+acts-plain s room place (line.Save f) = refl
 acts-plain s room place line.Last =
     let t = s .tables in
     let p = row (plain t) line.Last in

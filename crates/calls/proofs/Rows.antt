@@ -88,13 +88,13 @@ sound t to.Clear = is-sound (lit≤ tt) refl (λ h e. fresh-limits (t .places) (
 sound t (to.Book s g) = is-sound (lit≤ tt, lit≤ tt) refl (λ h e. new-book-keeps t h s g (passed-not no.outOfRange (bookSize s g) [] (lit< tt) e .0))
 sound t (to.Start q) = mark-sound t sort.Load q
 sound t (to.End g) = mark-sound t sort.Row g
-sound t (to.Rule q m g) = add-sound t sort.Load (rule q m g)
-sound t (to.Row g q h) = add-sound t sort.Row (rule g q h)
-sound t (to.Load p w v) =
+sound t (to.Rule q m g k) = add-sound t sort.Load (rule q m g k)
+sound t (to.Row g q h) = add-sound t sort.Row (rule g q h 0)
+sound t (to.Load p w v k) =
     is-sound (lit≤ tt, (lit≤ tt, lit≤ tt)) refl (λ h e.
-    let a = passed-not no.outOfRange (loadIn (suc (length (t .loads))) (load p w v)) _ (lit< tt) e in
+    let a = passed-not no.outOfRange (loadIn (suc (length (t .loads))) (load p w v k)) _ (lit< tt) e in
     let b = passed no.full (leb (t .places) (length (t .loads))) [] (lit< tt) (a .1) in
-    add-load-keeps t h (load p w v) (a .0) (leb-false (t .places) (length (t .loads)) (b .0)))
+    add-load-keeps t h (load p w v k) (a .0) (leb-false (t .places) (length (t .loads)) (b .0)))
 sound t (to.Power k w) = set-sound t figure.Power k w
 sound t (to.Worth k v) = set-sound t figure.Worth k v
 sound t (to.Budget w) = is-sound (lit≤ tt, lit≤ tt) refl (λ h e. set-budget-keeps t h w (passed-not no.outOfRange (budgetIn w) [] (lit< tt) e .0))
@@ -211,14 +211,14 @@ right s n (line.Check σ k) =
           record { fits = checked-fits t (h .tables) (markIn σ); lists = run-lines _ (record { loads = p .loads; ranged = check-ranged t (h .tables) (markIn σ) }) (λ cs. refl) };
       finds = λ h e. tt;
     }
-right s n line.Save = record {
-  ordered = lit≤ tt;
+right s n (line.Save f) = record {
+  ordered = (lit≤ tt, lit≤ tt);
   room = lit≤ tt;
   most = lit≤ tt;
   accepts = refl;
   keeps = λ h e. h .tables;
   places = refl;
-  shown = λ h e. record { fits = save-fits (s .tables) (h .tables); lists = record { entries = inl (λ es cs. refl); changes = inr refl } };
+  shown = λ h e. record { fits = save-fits f (s .tables) (h .tables); lists = record { entries = inl (λ es cs. refl); changes = inr refl } };
   finds = λ h e. tt;
 }
 right s n line.Last = record {
@@ -244,7 +244,7 @@ unfolding row
 works-plan s (line.Change c) = inr refl
 works-plan s line.Plan = inl refl
 works-plan s (line.Check σ n) = inr refl
-works-plan s line.Save = inr refl
+works-plan s (line.Save f) = inr refl
 works-plan s line.Last = inr refl
 works-plan s line.Broken = inr refl
 works-plan s line.TooLong = inr refl

@@ -10,11 +10,13 @@ use lib.Seq.{length-sets}
 use Rattle.lists.specs.Tests.{pick, every}
 use Rattle.lists.specs.Each as each
 use Rattle.lists.specs.Each.{Each}
+use Rattle.lines.specs.declared.SaveForm.{SaveForm}
+use Rattle.lines.specs.declared.SaveForm.the-variants as form
 use Rattle.lines.specs.declared.Command.the-variants as line
-use Rattle.lines.specs.Text.{bytes, lineFeed, same}
+use Rattle.lines.specs.Text.{lineFeed, same}
 use Rattle.lines.specs.Grammar.{fields, parse, findForm}
 use Rattle.lines.specs.Written.{written}
-use Rattle.lines.specs.Saved.{saved, saveText, saveBytes}
+use Rattle.lines.specs.Saved.{saved, saveText, losesKinds, saveBytes}
 use Rattle.lines.specs.Answers.{ok}
 use Rattle.lines.specs.Input.{onLine, lines}
 use Rattle.lines.proofs.Fields.{Cons, cons}
@@ -29,12 +31,12 @@ use Rattle.calls.specs.Calls.{Call, writtenBy, rowFor, numberFor, answer
 use Rattle.calls.specs.Demand1.{bytesNeeded}
 use Rattle.calls.specs.Demand3.{Exchange, History, last, paperFrom, Right}
 use Rattle.calls.specs.Program.{Left, leftBy, callOn, doneOn, exchanges, leftAfter, atStart, printedBy, sessionWith}
-use Rattle.calls.specs.Saves.{SaveCall, linesOf, AllFree, Accepted, Whole, empty, ended, FedBack}
+use Rattle.calls.specs.Saves.{SaveCall, linesOf, AllFree, Accepted, Whole, empty, ended, saveWord, saveLine, FedBack}
 use Rattle.calls.proofs.State.{fresh-within}
 use Rattle.calls.proofs.ByCommand.{needed-range}
 use Rattle.calls.proofs.Demand3.{history-right, history-places}
 use Rattle.calls.proofs.Rebuilds.{rebuilds}
-use Rattle.calls.proofs.Saves.{Fed, save-writes, fed}
+use Rattle.calls.proofs.Saves.{Fed, save-writes, fed, readable}
 use Rattle.calls.proofs.Program.{exchanges-history, left-append, left-last}
 
 -- ---- lines after whole lines
@@ -110,19 +112,25 @@ exchanges-free x (l ∷ ls) h =
     each.more free (exchanges-free (leftBy (doneOn x l)) ls (omega (arith, output-length (x .state) (callOn x l))))
 
 -- ---- the last line of all
-save-parses : parse (bytes "save") ≡ line.Save
+save-parses : (f : SaveForm) → parse (saveWord f) ≡ line.Save f
 unfolding parse fields findForm same every
-save-parses = refl
+save-parses form.Kinds = refl
+save-parses form.Plain = refl
 
-one-save : (x : Left) → printedBy (exchanges x (lines (bytes "save\n"))) ≡ writtenBy (callOn x (bytes "save")) (doneOn x (bytes "save") .reply)
-unfolding exchanges printedBy lines
-one-save x = append-nil (writtenBy (callOn x (bytes "save")) (doneOn x (bytes "save") .reply))
+save-cut : (f : SaveForm) → lines (saveLine f) ≡ saveWord f ∷ []
+unfolding lines
+save-cut form.Kinds = refl
+save-cut form.Plain = refl
+
+one-save : (f : SaveForm) (x : Left) → printedBy (exchanges x (lines (saveLine f))) ≡ writtenBy (callOn x (saveWord f)) (doneOn x (saveWord f) .reply)
+unfolding exchanges printedBy
+one-save f x = ap (λ (ls : List (List ℕ)). printedBy (exchanges x ls)) (save-cut f) ∙ append-nil (writtenBy (callOn x (saveWord f)) (doneOn x (saveWord f) .reply))
 
 -- ---- the lines of a save, given to what the calls before left
-module _ (t : Tables) (h : Limits t) (x : Left) (room : saveBytes ≤ length (x .output)) (s : State) (within : Within s) (holds : x .state ≡ storedState s)
+module _ (f : SaveForm) (t : Tables) (h : Limits t) (no-loss : losesKinds f t ≡ false) (x : Left) (room : saveBytes ≤ length (x .output)) (s : State) (within : Within s) (holds : x .state ≡ storedState s)
     (as-many : s .tables .places ≡ t .places) where
   abbrev back : List (List ℕ)
-  back = lines (saveText t)
+  back = lines (saveText f t)
 
   abbrev fedBack : List Exchange
   fedBack = exchanges x back
@@ -131,7 +139,7 @@ module _ (t : Tables) (h : Limits t) (x : Left) (room : saveBytes ≤ length (x 
   past = history-right s within fedBack (subst (λ (p : StoredState). History p fedBack) holds (exchanges-history x back))
 
   taken : Fed s fedBack t (saved t)
-  taken = fed (rebuilds t h (s .tables) as-many) (save-lines t h .back) s refl fedBack (past .2) (exchanges-lines x back ∙ save-lines t h .cut) (exchanges-free x back room)
+  taken = fed f (rebuilds t h (s .tables) as-many) (readable f t h no-loss) s refl fedBack (past .2) (exchanges-lines x back ∙ save-lines f t h .cut) (exchanges-free x back room)
 
   abbrev reached : State
   reached = paperFrom s fedBack
@@ -146,17 +154,17 @@ module _ (t : Tables) (h : Limits t) (x : Left) (room : saveBytes ≤ length (x 
   back-printed = accepted-printed (taken .accepted) ∙ ap (λ (n : ℕ). flatten (replicate n ok)) count
     where
       count : length fedBack ≡ length (saved t)
-      count = sym (length-map fedBack (λ (x : Exchange). x .call .line)) ∙ ap length (exchanges-lines x back ∙ save-lines t h .cut) ∙ length-map (saved t) written
+      count = sym (length-map fedBack (λ (x : Exchange). x .call .line)) ∙ ap length (exchanges-lines x back ∙ save-lines f t h .cut) ∙ length-map (saved t) (written f)
 
-  again : let y = leftAfter x back in writtenBy (callOn y (bytes "save")) (doneOn y (bytes "save") .reply) ≡ saveText t
+  again : let y = leftAfter x back in writtenBy (callOn y (saveWord f)) (doneOn y (saveWord f) .reply) ≡ saveText f t
   again =
       let y = leftAfter x back in
-      let c = callOn y (bytes "save") in
-      let k : SaveCall c = record { line = save-parses; free = omega (arith, room, left-length x back) } in
-      ap (λ (p : StoredState). writtenBy c (called p c .reply)) ends ∙ save-writes reached c k (past .1) ∙ ap (λ (u : Tables). saveText u) (taken .tables)
+      let c = callOn y (saveWord f) in
+      let k : SaveCall f c = record { line = save-parses f; free = omega (arith, room, left-length x back) } in
+      ap (λ (p : StoredState). writtenBy c (called p c .reply)) ends ∙ save-writes f reached c k (past .1) (ap (losesKinds f) (taken .tables) ∙ no-loss) ∙ ap (saveText f) (taken .tables)
 
 -- ---- after any input of whole lines
-module _ (cells : ℕ) {s : List ℕ} (whole : Whole s) (t : Tables) (h : Limits t) (as-many : t .places ≡ maxLoads) where
+module _ (f : SaveForm) (cells : ℕ) {s : List ℕ} (whole : Whole s) (t : Tables) (h : Limits t) (no-loss : losesKinds f t ≡ false) (as-many : t .places ≡ maxLoads) where
   abbrev begun : List Exchange
   begun = exchanges (atStart cells) (lines s)
 
@@ -176,33 +184,33 @@ module _ (cells : ℕ) {s : List ℕ} (whole : Whole s) (t : Tables) (h : Limits
   unfolding on-paper.fresh
   places = history-places (fresh maxLoads) begun ∙ sym as-many
 
-  tables : last (storedState (fresh maxLoads)) (sessionWith cells (s ++ saveText t)) .tables ≡ stored t
+  tables : last (storedState (fresh maxLoads)) (sessionWith cells (s ++ saveText f t)) .tables ≡ stored t
   unfolding sessionWith
   tables =
-      ap (λ (ls : List (List ℕ)). last (storedState (fresh maxLoads)) (exchanges (atStart cells) ls) .tables) (lines-whole whole (saveText t))
-      ∙ ap (λ (p : StoredState). p .tables) (sym (left-last (atStart cells) (lines s ++ lines (saveText t))) ∙ ap (λ (y : Left). y .state) (left-append (atStart cells) (lines s) (lines (saveText t))))
-      ∙ left-tables t h x room (paperFrom (fresh maxLoads) begun) (before .1) held places
+      ap (λ (ls : List (List ℕ)). last (storedState (fresh maxLoads)) (exchanges (atStart cells) ls) .tables) (lines-whole whole (saveText f t))
+      ∙ ap (λ (p : StoredState). p .tables) (sym (left-last (atStart cells) (lines s ++ lines (saveText f t))) ∙ ap (λ (y : Left). y .state) (left-append (atStart cells) (lines s) (lines (saveText f t))))
+      ∙ left-tables f t h no-loss x room (paperFrom (fresh maxLoads) begun) (before .1) held places
 
-  cut : lines (s ++ saveText t ++ bytes "save\n") ≡ lines s ++ (lines (saveText t) ++ lines (bytes "save\n"))
+  cut : lines (s ++ saveText f t ++ saveLine f) ≡ lines s ++ (lines (saveText f t) ++ lines (saveLine f))
   cut =
-      ap lines (append-assoc s (saveText t) (bytes "save\n")) ∙ lines-whole whole (saveText t ++ bytes "save\n")
-      ∙ ap (λ (ls : List (List ℕ)). lines s ++ ls) (lines-before (saved t) (bytes "save\n") ∙ ap (λ (ls : List (List ℕ)). ls ++ lines (bytes "save\n")) (sym (save-lines t h .cut)))
+      ap lines (append-assoc s (saveText f t) (saveLine f)) ∙ lines-whole whole (saveText f t ++ saveLine f)
+      ∙ ap (λ (ls : List (List ℕ)). lines s ++ ls) (lines-before f (saved t) (saveLine f) ∙ ap (λ (ls : List (List ℕ)). ls ++ lines (saveLine f)) (sym (save-lines f t h .cut)))
 
-  after-save : printedBy (exchanges x (lines (saveText t) ++ lines (bytes "save\n"))) ≡ flatten (replicate (length (saved t)) ok) ++ saveText t
+  after-save : printedBy (exchanges x (lines (saveText f t) ++ lines (saveLine f))) ≡ flatten (replicate (length (saved t)) ok) ++ saveText f t
   after-save =
-      let y = leftAfter x (lines (saveText t)) in
+      let y = leftAfter x (lines (saveText f t)) in
       let s = paperFrom (fresh maxLoads) begun in
-      ap printedBy (exchanges-append x (lines (saveText t)) (lines (bytes "save\n")))
-      ∙ printed-append (exchanges x (lines (saveText t))) (exchanges y (lines (bytes "save\n")))
-      ∙ ap₂ _++_ (back-printed t h x room s (before .1) held places) (one-save y ∙ again t h x room s (before .1) held places)
+      ap printedBy (exchanges-append x (lines (saveText f t)) (lines (saveLine f)))
+      ∙ printed-append (exchanges x (lines (saveText f t))) (exchanges y (lines (saveLine f)))
+      ∙ ap₂ _++_ (back-printed f t h no-loss x room s (before .1) held places) (one-save f y ∙ again f t h no-loss x room s (before .1) held places)
 
-  printed : printedBy (sessionWith cells (s ++ saveText t ++ bytes "save\n")) ≡ printedBy (sessionWith cells s) ++ flatten (replicate (length (saved t)) ok) ++ saveText t
+  printed : printedBy (sessionWith cells (s ++ saveText f t ++ saveLine f)) ≡ printedBy (sessionWith cells s) ++ flatten (replicate (length (saved t)) ok) ++ saveText f t
   unfolding sessionWith
   printed =
-      let rest = lines (saveText t) ++ lines (bytes "save\n") in
+      let rest = lines (saveText f t) ++ lines (saveLine f) in
       ap (λ (ls : List (List ℕ)). printedBy (exchanges (atStart cells) ls)) cut
       ∙ ap printedBy (exchanges-append (atStart cells) (lines s) rest) ∙ printed-append begun (exchanges x rest)
-      ∙ ap (λ (r : List ℕ). printedBy begun ++ r) after-save ∙ sym (append-assoc (printedBy begun) (flatten (replicate (length (saved t)) ok)) (saveText t))
+      ∙ ap (λ (r : List ℕ). printedBy begun ++ r) after-save ∙ sym (append-assoc (printedBy begun) (flatten (replicate (length (saved t)) ok)) (saveText f t))
 
-  pub fed-back : FedBack cells s t
+  pub fed-back : FedBack f cells s t
   fed-back = record { tables = tables; printed = printed }

@@ -1,30 +1,36 @@
 -- What a save gives, and what its lines give back to any planner that keeps the limits. Assumes nothing.
-use Prim.Native.Nat.{ℕ, _+_, _≤_}
+use Prim.Native.Nat.{ℕ, zero, suc, _+_, _≤_}
 use mathlib.Core.Path.{_≡_, refl, sym, ap, ap₂, subst, _∙_}
+use mathlib.Core.Bool.{Bool, true, false}
 use mathlib.Core.List.{List, [], _∷_, map}
+use mathlib.Core.Logic.{_↔_}
 use native.Mathlib.Omega.{arith}
 use borrow.Author.Tests.{le-ltb}
 use lib.ListN.{length}
 use Rattle.lists.specs.Each as each
 use Rattle.lists.specs.Each.{Each}
+use Rattle.lists.specs.Argmax.{guard}
+use Rattle.lists.proofs.Each.{each-both}
+use Rattle.lines.specs.declared.SaveForm.{SaveForm}
 use Rattle.lines.specs.declared.Change.{Change}
 use Rattle.lines.specs.declared.Command.the-variants as line
 use Rattle.lines.specs.Length.{mostBytes, tooLong}
-use Rattle.lines.specs.Grammar.{parse, lineCommand}
+use Rattle.lines.specs.Grammar.{parse, lineCommand, told}
 use Rattle.lines.specs.Written.{written}
-use Rattle.lines.specs.Saved.{saved, saveText}
-use Rattle.lines.specs.Answers.{freeBytes, ok}
+use Rattle.lines.specs.Saved.{saved, saveText, losesKinds}
+use Rattle.lines.specs.Answers.{freeBytes, ok, refused}
 use Rattle.lines.specs.Input.{lines}
 use Rattle.lines.specs.ReadBack.{ReadBack}
 use Rattle.lines.proofs.Sizes.{numbers-short}
 use Rattle.lines.proofs.SaveText.{save-fits}
 use Rattle.lines.proofs.SaveLines.{save-lines}
+use Rattle.tables.specs.Refusals as no
 use Rattle.tables.specs.Tables.{Tables}
 use Rattle.tables.specs.Limits.{Limits}
 use Rattle.tables.specs.Stored.{stored}
 use Rattle.runs.specs.Outcome.{Outcome, nothing}
 use Rattle.calls.specs.State.{State, StoredState, storedState, stateOf, Within, Kept}
-use Rattle.calls.specs.Rows.{Row, changes, changing, row}
+use Rattle.calls.specs.Rows.{_if_, changes, changing, row}
 use Rattle.calls.specs.Causes.{lowest, refusal}
 use Rattle.calls.specs.Effects.{stateBy}
 use Rattle.calls.specs.Printing.{text, zeroed, workAfter}
@@ -41,50 +47,80 @@ use Rattle.calls.proofs.Demand3.{history-right}
 use Rattle.calls.proofs.Rebuilds.{rebuilds}
 
 -- ---- a save
-module _ (s : State) (c : Call) (k : SaveCall c) where
-  save-row : rowFor s c ≡ row s line.Save
-  save-row = row-is s c line.Save (k .line) (numbers-short (c .line) line.Save (k .line) refl)
+module _ (f : SaveForm) (s : State) (c : Call) (k : SaveCall f c) where
+  save-row : rowFor s c ≡ row s (line.Save f)
+  save-row = row-is s c (line.Save f) (k .line) (numbers-short (c .line) (line.Save f) (k .line) refl)
 
-  save-number : numberFor s c ≡ 0
+  -- its one cause
+  save-number : (b : Bool) → losesKinds f (s .tables) ≡ b → numberFor s c ≡ guard b no.kindsInUse
   unfolding row lowest
-  save-number =
-      ap (refusal (length (c .work)) (length (c .output)) (c .place)) save-row ∙ roomy (length (c .work)) (length (c .output)) (c .place) (row s line.Save) (k .free)
+  save-number b e =
+      ap (refusal (length (c .work)) (length (c .output)) (c .place)) save-row
+      ∙ roomy (length (c .work)) (length (c .output)) (c .place) (row s (line.Save f)) (k .free) ∙ go b e
+    where
+      go : (b : Bool) → losesKinds f (s .tables) ≡ b → lowest ((no.kindsInUse if losesKinds f (s .tables)) ∷ []) ≡ guard b no.kindsInUse
+      go true e = rw e
+      go false e = rw e
 
   save-after : after s c ≡ s
   unfolding row
-  save-after = after-number s c ∙ ap₂ (λ (n : ℕ) (r : Row). stateBy s n r) save-number save-row
+  save-after = after-number s c ∙ ap (stateBy s (numberFor s c)) save-row ∙ shown-state (numberFor s c)
+    where
+      shown-state : (n : ℕ) → stateBy s n (row s (line.Save f)) ≡ s
+      shown-state zero = refl
+      shown-state (suc n) = refl
 
-  save-answer : answer s c ≡ reply c 0 (saveText (s .tables)) (c .work)
+  save-answer : losesKinds f (s .tables) ≡ false → answer s c ≡ reply c 0 (saveText f (s .tables)) (c .work)
   unfolding row text workAfter zeroed
-  save-answer = answer-at s c 0 (row s line.Save) save-number save-row
+  save-answer e = answer-at s c 0 (row s (line.Save f)) (save-number false e) save-row
+
+  save-refused : losesKinds f (s .tables) ≡ true → answer s c ≡ reply c no.kindsInUse (refused no.kindsInUse) (c .work)
+  unfolding row text workAfter zeroed
+  save-refused e = answer-at s c no.kindsInUse (row s (line.Save f)) (save-number true e) save-row
 
   module _ (h : Within s) where
-    save-called : called (storedState s) c ≡ record { state = storedState s; reply = reply c 0 (saveText (s .tables)) (c .work) }
-    save-called = called-stored s h c ∙ (λ i. record { state = storedState (save-after i); reply = save-answer i })
+    save-called : {r : Reply} → answer s c ≡ r → called (storedState s) c ≡ record { state = storedState s; reply = r }
+    save-called e = called-stored s h c ∙ (λ i. record { state = storedState (save-after i); reply = e i })
 
     -- the bytes that it wrote
-    pub save-writes : writtenBy c (called (storedState s) c .reply) ≡ saveText (s .tables)
-    save-writes =
-        ap (λ (d : Done). writtenBy c (d .reply)) save-called
-        ∙ written-is (c .output) (saveText (s .tables)) (c .place) (omega (arith, k .free, save-fits (s .tables) (h .tables)))
+    pub save-writes : losesKinds f (s .tables) ≡ false → writtenBy c (called (storedState s) c .reply) ≡ saveText f (s .tables)
+    save-writes e =
+        ap (λ (d : Done). writtenBy c (d .reply)) (save-called (save-answer e))
+        ∙ written-is (c .output) (saveText f (s .tables)) (c .place) (omega (arith, k .free, save-fits f (s .tables) (h .tables)))
 
-    save-stored : SaveRight (storedState s) c (called (storedState s) c)
+    -- 14 exactly where a kind would be lost
+    fourteen : (b : Bool) → losesKinds f (s .tables) ≡ b → (called (storedState s) c .reply .number ≡ no.kindsInUse) ↔ (losesKinds f (s .tables) ≡ true)
+    fourteen true e = (λ n. e, λ l. ap (λ (d : Done). d .reply .number) (save-called (save-refused e)))
+    fourteen false e = (
+      λ n. absurd (omega (arith, n, ap (λ (d : Done). d .reply .number) (save-called (save-answer e)))),
+      λ l. absurd (let z : _≡_ {A = ℕ} 0 1 = cc in omega arith),
+    )
+
+    save-stored : SaveRight f (storedState s) c (called (storedState s) c)
     save-stored =
-        subst (λ (x : State). called (storedState s) c ≡ record { state = storedState s; reply = reply c 0 (saveText (x .tables)) (c .work) })
-        (sym (state-stored s h)) save-called
+        let same : stateOf (storedState s) .tables ≡ s .tables = ap (λ (x : State). x .tables) (state-stored s h) in
+        record {
+          saved = λ e. save-called (save-answer (rw same at e) ∙ ap (λ (t : Tables). reply c 0 (saveText f t) (c .work)) (sym same));
+          refused = λ e. save-called (save-refused (rw same at e));
+          fourteen = rw same (fourteen (losesKinds f (s .tables)) refl);
+        }
 
 -- on every planner that keeps the limits
-pub save-right : {n : ℕ} (p : StoredState) → Kept n p → (c : Call) → SaveCall c → SaveRight p c (called p c)
-save-right p h c k = subst (λ (x : StoredState). SaveRight x c (called x c)) (sym (kept-stored p h)) (save-stored (stateOf p) c k (kept-within p h))
+pub save-right : {n : ℕ} (f : SaveForm) (p : StoredState) → Kept n p → (c : Call) → SaveCall f c → SaveRight f p c (called p c)
+save-right f p h c k = subst (λ (x : StoredState). SaveRight f x c (called x c)) (sym (kept-stored p h)) (save-stored f (stateOf p) c k (kept-within p h))
 
 -- ---- a call on the line of an accepted change, with the free bytes that it needs
-module _ (s : State) (x : Call) (c : Change) (on : x .line ≡ written c) (b : ReadBack c) (free : x .place + bytesNeeded (x .line) ≤ length (x .output))
+-- the line is read back as the change itself
+abbrev pub Readable : SaveForm → Change → Type 0
+Readable f c = ReadBack f c × (told f c ≡ c)
+
+module _ {f : SaveForm} (s : State) (x : Call) (c : Change) (on : x .line ≡ written f c) (b : Readable f c) (free : x .place + bytesNeeded (x .line) ≤ length (x .output))
     (passes : lowest (changing (s .tables) c .causes) ≡ 0) where
   room : x .place + freeBytes ≤ length (x .output)
   room = omega (arith, needed-range (x .line))
 
   command : lineCommand (x .line) ≡ line.Change c
-  command = command-is (x .line) (line.Change c) (ap parse on ∙ b .read) (ap tooLong on ∙ le-ltb mostBytes (length (written c)) (b .short))
+  command = command-is (x .line) (line.Change c) (ap parse on ∙ b .0 .read ∙ ap line.Change (b .1)) (ap tooLong on ∙ le-ltb mostBytes (length (written f c)) (b .0 .short))
 
   line-number : numberFor s x ≡ 0
   line-number =
@@ -128,28 +164,28 @@ pub record Fed (s : State) (xs : List Exchange) (u : Tables) (cs : List Change) 
   pub tables : paperFrom s xs .tables ≡ u
   pub outcome : paperFrom s xs .outcome ≡ wiped cs (s .outcome)
 
-module _ (v : Tables) (cs : List Change) {t u : Tables} {c : Change} (step : Step t c u) (b : ReadBack c) (s : State) (holds : s .tables ≡ t) (x : Exchange) (xs : List Exchange) where
-  fed-more : Right s (x ∷ xs) → linesOf (x ∷ xs) ≡ map written (c ∷ cs) → x .call .place + bytesNeeded (x .call .line) ≤ length (x .call .output)
-      → ((s : State) → s .tables ≡ u → Right s xs → linesOf xs ≡ map written cs → Fed s xs v cs)
+module _ (f : SaveForm) (v : Tables) (cs : List Change) {t u : Tables} {c : Change} (step : Step t c u) (b : Readable f c) (s : State) (holds : s .tables ≡ t) (x : Exchange) (xs : List Exchange) where
+  fed-more : Right s (x ∷ xs) → linesOf (x ∷ xs) ≡ map (written f) (c ∷ cs) → x .call .place + bytesNeeded (x .call .line) ≤ length (x .call .output)
+      → ((s : State) → s .tables ≡ u → Right s xs → linesOf xs ≡ map (written f) cs → Fed s xs v cs)
       → Fed s (x ∷ xs) v (c ∷ cs)
-  fed-more y l f ih =
+  fed-more y l free ih =
       let k = x .call in
-      let on : k .line ≡ written c = cc in
+      let on : k .line ≡ written f c = cc in
       let passes : lowest (changing (s .tables) c .causes) ≡ 0 = rw holds (step .accepted) in
-      let held : after s k .tables ≡ u = line-after s k c on b f passes ∙ ap (λ (t : Tables). changing t c .after) holds ∙ step .after in
+      let held : after s k .tables ≡ u = line-after s k c on b free passes ∙ ap (λ (t : Tables). changing t c .after) holds ∙ step .after in
       let r = ih (after s k) held (y .2) (cc) in
       record {
-        accepted = each.more (line-accepted s k c on b f passes (x .done) (y .0)) (r .accepted);
+        accepted = each.more (line-accepted s k c on b free passes (x .done) (y .0)) (r .accepted);
         tables = r .tables;
-        outcome = r .outcome ∙ ap (wiped cs) (line-outcome s k c on b f passes) ∙ wiped-none cs;
+        outcome = r .outcome ∙ ap (wiped cs) (line-outcome s k c on b free passes) ∙ wiped-none cs;
       }
 
-pub fed : {t u : Tables} {cs : List Change} → Takes t cs u → Each ReadBack cs → (s : State) → s .tables ≡ t
-    → (xs : List Exchange) → Right s xs → linesOf xs ≡ map written cs → AllFree xs → Fed s xs u cs
-fed none b s e [] y l f = record { accepted = each.none; tables = e; outcome = refl }
-fed none b s e (x ∷ xs) y l f = unlike l
-fed (next p q) b s e [] y l f = unlike (sym l)
-fed (next {v = v} {cs = cs} p q) (each.more b bs) s e (x ∷ xs) y l (each.more f fs) = fed-more v cs p b s e x xs y l f (λ s e y l. fed q bs s e xs y l fs)
+pub fed : (f : SaveForm) {t u : Tables} {cs : List Change} → Takes t cs u → Each (Readable f) cs → (s : State) → s .tables ≡ t
+    → (xs : List Exchange) → Right s xs → linesOf xs ≡ map (written f) cs → AllFree xs → Fed s xs u cs
+fed g none b s e [] y l f = record { accepted = each.none; tables = e; outcome = refl }
+fed g none b s e (x ∷ xs) y l f = unlike l
+fed g (next p q) b s e [] y l f = unlike (sym l)
+fed g (next {v = v} {cs = cs} p q) (each.more b bs) s e (x ∷ xs) y l (each.more f fs) = fed-more g v cs p b s e x xs y l f (λ s e y l. fed g q bs s e xs y l fs)
 
 -- a save has a line, and so it leaves no outcome
 save-wipes : (t : Tables) (o : Outcome) → wiped (saved t) o ≡ nothing
@@ -165,34 +201,37 @@ pub record Ends (p : StoredState) (xs : List Exchange) (t : Tables) : Type 0 whe
   pub outcome : state .outcome ≡ nothing
   pub last : last p xs ≡ storedState state
 
-pub ends : {n : ℕ} (t : Tables) → Limits t → t .places ≡ n → (p : StoredState) → Kept n p → (xs : List Exchange) → History p xs
-    → linesOf xs ≡ lines (saveText t) → AllFree xs → Ends p xs t
-ends t h m p hp xs y l f =
+-- the lines of a save that loses no kind
+pub readable : (f : SaveForm) (t : Tables) → Limits t → losesKinds f t ≡ false → Each (Readable f) (saved t)
+readable f t h e = let l = save-lines f t h in each-both (l .back) (l .same e)
+
+pub ends : {n : ℕ} (g : SaveForm) (t : Tables) → Limits t → losesKinds g t ≡ false → t .places ≡ n → (p : StoredState) → Kept n p → (xs : List Exchange) → History p xs
+    → linesOf xs ≡ lines (saveText g t) → AllFree xs → Ends p xs t
+ends g t h e m p hp xs y l f =
     let s = stateOf p in
-    let saves = save-lines t h in
     let r = history-right s (kept-within p hp) xs (subst (λ (x : StoredState). History x xs) (kept-stored p hp) y) in
-    let g = fed (rebuilds t h (s .tables) (places (p .tables) (hp .tables) ∙ sym m)) (saves .back) s refl xs (r .2) (l ∙ saves .cut) f in
+    let d = fed g (rebuilds t h (s .tables) (places (p .tables) (hp .tables) ∙ sym m)) (readable g t h e) s refl xs (r .2) (l ∙ save-lines g t h .cut) f in
     record {
-      accepted = g .accepted;
+      accepted = d .accepted;
       state = paperFrom s xs;
       within = r .1;
-      tables = g .tables;
-      outcome = g .outcome ∙ save-wipes t (s .outcome);
+      tables = d .tables;
+      outcome = d .outcome ∙ save-wipes t (s .outcome);
       last = ap (λ (x : StoredState). last x xs) (kept-stored p hp) ∙ r .0;
     }
 
 -- ---- "Fed to a planner in any lawful state, with the free bytes they need, the lines give equal tables, and a further save gives equal bytes."
-pub restores : {n : ℕ} (q p : StoredState) → Kept n q → Kept n p → (c : Call) → SaveCall c → (xs : List Exchange) → History p xs
-    → linesOf xs ≡ lines (writtenBy c (called q c .reply)) → AllFree xs → Restored q p xs (writtenBy c (called q c .reply))
-restores q p hq hp c k xs y l f =
+pub restores : {n : ℕ} (g : SaveForm) (q p : StoredState) → Kept n q → Kept n p → losesKinds g (stateOf q .tables) ≡ false → (c : Call) → SaveCall g c
+    → (xs : List Exchange) → History p xs → linesOf xs ≡ lines (writtenBy c (called q c .reply)) → AllFree xs → Restored g q p xs (writtenBy c (called q c .reply))
+restores g q p hq hp no-loss c k xs y l f =
     let t = stateOf q .tables in
-    let wrote : writtenBy c (called q c .reply) ≡ saveText t =
-    ap (λ (x : StoredState). writtenBy c (called x c .reply)) (kept-stored q hq) ∙ save-writes (stateOf q) c k (kept-within q hq) in
-    let e = ends t (kept-within q hq .tables) (places (q .tables) (hq .tables)) p hp xs y (l ∙ ap lines wrote) f in
+    let wrote : writtenBy c (called q c .reply) ≡ saveText g t =
+    ap (λ (x : StoredState). writtenBy c (called x c .reply)) (kept-stored q hq) ∙ save-writes g (stateOf q) c k (kept-within q hq) no-loss in
+    let e = ends g t (kept-within q hq .tables) no-loss (places (q .tables) (hq .tables)) p hp xs y (l ∙ ap lines wrote) f in
     record {
       accepted = e .accepted;
       tables = ap (λ (x : StoredState). x .tables) (e .last) ∙ ap stored (e .tables) ∙ sym (is-stored (q .tables) (hq .tables));
       again = λ d k.
           ap (λ (x : StoredState). writtenBy d (called x d .reply)) (e .last)
-          ∙ save-writes (e .state) d k (e .within) ∙ ap (λ (u : Tables). saveText u) (e .tables) ∙ sym wrote;
+          ∙ save-writes g (e .state) d k (e .within) (ap (losesKinds g) (e .tables) ∙ no-loss) ∙ ap (saveText g) (e .tables) ∙ sym wrote;
     }

@@ -16,6 +16,7 @@ use Rattle.lines.specs.Input.{lines}
 use Rattle.tables.specs.Tables.{fresh}
 use Rattle.tables.specs.Limits.{ruleIn, sameRule, sortIn, bookIn, loadIn, loadsIn, limits}
 use Rattle.tables.specs.Stored.{storedBook, stored, bookOf, tablesOf, zeroRule, zeroLoad, keepsLimits}
+use Rattle.tables.specs.Kinds.{ruleKinded, loadKinded, hasKinds}
 use Rattle.tables.specs.Changes.{hasChildren, remaining}
 use Rattle.meaning.specs.Forest.{row, tree, sum}
 use Rattle.meaning.specs.Cell.{cell, _⊕_}
@@ -33,5 +34,5 @@ use Rattle.calls.specs.Program.{exchanges, printedBy, sessionWith}
 use Rattle.calls.specs.Session.{sessionRight}
 
 pub session-right : sessionRight ≡ true
-unfolding some every everyFrom distinct laid limited argmax hasMark withMark joined hasLoad same decimalTo decimal field fields isNumber valueFrom isBits joinedFrom parse findForm lineCommand lineOf parted markChanges sizeChange bookChanges saved changesText refused planLine entryLine entryLines lines fresh ruleIn sameRule sortIn bookIn loadIn loadsIn limits storedBook stored bookOf tablesOf zeroRule zeroLoad keepsLimits hasChildren remaining row tree sum cell _⊕_ best bestTree bestPlan bestCheck choose chooseTree plan check find inOrder planEntries checkEntries markAll runOf entriesTo figuresIn entryIn outcomeIn runFree keepsOutcome lowest cellsOf noneFits notAllowed changing rowOf lineRow allCauses refusal changed text zeroed workAfter answer called exchanges printedBy sessionWith sessionRight
+unfolding some every everyFrom distinct laid limited argmax hasMark withMark joined hasLoad same decimalTo decimal field fields isNumber valueFrom isBits joinedFrom parse findForm lineCommand lineOf parted markChanges sizeChange bookChanges saved changesText refused planLine entryLine entryLines lines fresh ruleIn sameRule sortIn bookIn loadIn loadsIn limits storedBook stored bookOf tablesOf zeroRule zeroLoad keepsLimits ruleKinded loadKinded hasKinds hasChildren remaining row tree sum cell _⊕_ best bestTree bestPlan bestCheck choose chooseTree plan check find inOrder planEntries checkEntries markAll runOf entriesTo figuresIn entryIn outcomeIn runFree keepsOutcome lowest cellsOf noneFits notAllowed changing rowOf lineRow allCauses refusal changed text zeroed workAfter answer called exchanges printedBy sessionWith sessionRight
 session-right = refl

@@ -57,7 +57,7 @@ bytesFor (line.Change c) = freeBytes
 bytesFor line.Plan = freeBytes
 bytesFor (line.Check σ n) = freeBytes
 -- "It needs 3,000 free bytes, which the line program now lends, and fewer is refusal 1."
-bytesFor line.Save = saveBytes
+bytesFor (line.Save f) = saveBytes
 bytesFor line.Last = freeBytes
 -- "A line that breaks its form or is too long needs 1,024, its command word notwithstanding."
 bytesFor line.Broken = freeBytes
@@ -71,7 +71,7 @@ abbrev pub onlyShows : Command → Bool
 onlyShows (line.Change c) = false
 onlyShows line.Plan = false
 onlyShows (line.Check σ n) = true
-onlyShows line.Save = true
+onlyShows (line.Save f) = true
 onlyShows line.Last = true
 onlyShows line.Broken = true
 onlyShows line.TooLong = true

@@ -7,6 +7,7 @@ use mathlib.Core.Bool.{true}
 use mathlib.Core.List.{List, [], _∷_, map}
 use lib.ListN.{length}
 use Rattle.lists.specs.Each.{Each}
+use Rattle.lines.specs.declared.SaveForm.the-variants.{Kinds}
 use Rattle.lines.specs.declared.Change.{Change}
 use Rattle.lines.specs.declared.Change.the-variants as to
 use Rattle.lines.specs.declared.Command.the-variants as line
@@ -26,14 +27,14 @@ use Rattle.calls.specs.Saves.{Step, Takes, linesOf, AllFree, Accepted}
 
 -- ---- the commands of a tree entered without load k
 -- what the line of a load gives, and every other line
-abbrev pub ifLoad : {A : Type 0} → (ℕ → ℕ → ℕ → A) → A → Change → A
+abbrev pub ifLoad : {A : Type 0} → (ℕ → ℕ → ℕ → ℕ → A) → A → Change → A
 ifLoad f a to.Clear = a
 ifLoad f a (to.Book s g) = a
 ifLoad f a (to.Start q) = a
 ifLoad f a (to.End g) = a
-ifLoad f a (to.Rule q m g) = a
+ifLoad f a (to.Rule q m g t) = a
 ifLoad f a (to.Row g q h) = a
-ifLoad f a (to.Load p w v) = f p w v
+ifLoad f a (to.Load p w v t) = f p w v t
 ifLoad f a (to.Power k w) = a
 ifLoad f a (to.Worth k v) = a
 ifLoad f a (to.Budget b) = a
@@ -42,13 +43,13 @@ ifLoad f a (to.Drop k) = a
 -- without the line of the load that comes after so many others
 unfoldable pub withoutLine : (others : ℕ) → List Change → List Change
 withoutLine zero [] = []
-withoutLine zero (c ∷ cs) = ifLoad (λ p w v. cs) (c ∷ withoutLine zero cs) c
+withoutLine zero (c ∷ cs) = ifLoad (λ p w v t. cs) (c ∷ withoutLine zero cs) c
 withoutLine (suc n) [] = []
-withoutLine (suc n) (c ∷ cs) = c ∷ ifLoad (λ p w v. withoutLine n cs) (withoutLine (suc n) cs) c
+withoutLine (suc n) (c ∷ cs) = c ∷ ifLoad (λ p w v t. withoutLine n cs) (withoutLine (suc n) cs) c
 
 -- "higher numbers fall by one, in parents too"
 abbrev pub withParent : (k : ℕ) → Change → Change
-withParent k c = ifLoad (λ p w v. to.Load (fallen k p) w v) c c
+withParent k c = ifLoad (λ p w v t. to.Load (fallen k p) w v t) c c
 
 abbrev pub enteredWithout : (k : ℕ) → List Change → List Change
 enteredWithout k cs = map (withParent k) (withoutLine (k - 1) cs)
@@ -74,12 +75,12 @@ pub record Dropped (n : ℕ) (t : Tables) (k : ℕ) (q : StoredState) : Type 0 w
   -- "Dropping the only load leaves an empty tree."
   pub emptied : length (t .loads) ≡ 1 → dropLoad t k .loads ≡ []
   -- "The place freed can be filled again": a load whose figures are in range is taken
-  pub filled : (p w v : ℕ) → loadIn (length (t .loads)) (load p w v) ≡ true → Step (dropLoad t k) (to.Load p w v) (addLoad (dropLoad t k) (load p w v))
+  pub filled : (p w v m : ℕ) → loadIn (length (t .loads)) (load p w v m) ≡ true → Step (dropLoad t k) (to.Load p w v m) (addLoad (dropLoad t k) (load p w v m))
   -- its save is the save before, without that load; every tables take these lines, and end as those after the drop; and a planner into which they
   -- were entered, from any lawful state, answers as it does
   pub saves : saved (stateOf q .tables) ≡ enteredWithout k (saved t)
   pub rebuilt : (u : Tables) → u .places ≡ t .places → Takes u (enteredWithout k (saved t)) (dropLoad t k)
   pub entered : (p : StoredState) → Kept n p → (xs : List Exchange) → History p xs
-      → linesOf xs ≡ lines (changesText (enteredWithout k (saved t))) → AllFree xs → SameAnswers q p xs
+      → linesOf xs ≡ lines (changesText Kinds (enteredWithout k (saved t))) → AllFree xs → SameAnswers q p xs
   -- and its tree is the tree before, without that leaf
   pub left : Left t k

@@ -20,9 +20,10 @@ pub record LoadCall (number : ℕ) (c : Call) : Type 0 where
   pub parent : ℕ
   pub power : ℕ
   pub worth : ℕ
-  pub line : parse (c .line) ≡ line.Change (to.Load parent power worth)
+  pub kind : ℕ
+  pub line : parse (c .line) ≡ line.Change (to.Load parent power worth kind)
   pub free : c .place + freeBytes ≤ length (c .output)
-  pub fits : loadIn number (load parent power worth) ≡ true
+  pub fits : loadIn number (load parent power worth kind) ≡ true
 
 -- such calls, for the loads from this number on
 abbrev pub LoadCalls : (number : ℕ) → List Exchange → Type 0

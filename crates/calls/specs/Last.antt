@@ -34,7 +34,7 @@ abbrev pub asksPlan : Command → Bool
 asksPlan (line.Change c) = false
 asksPlan line.Plan = true
 asksPlan (line.Check σ n) = false
-asksPlan line.Save = false
+asksPlan (line.Save f) = false
 asksPlan line.Last = false
 asksPlan line.Broken = false
 asksPlan line.TooLong = false

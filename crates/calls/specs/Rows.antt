@@ -1,7 +1,7 @@
 -- What each line of the table asks for: a row a line, with the bytes that it needs, its causes in the order of their numbers, and what it does
 -- where none applies. What a call returns and leaves is read off its row.
--- It stands for the table of "Lines" and rows 2 to 10 of "Causes and numbers" of paper 01, and for the commands `save`, `drop` and `last` of
--- requests Two, Three and Five of paper 02.
+-- It stands for the table of "Lines" and rows 2 to 10 of "Causes and numbers" of paper 01, and for the commands `save`, `drop`, `last` and `save1` of
+-- requests Two, Three, Five and Eight of paper 02.
 -- Assumes nothing.
 use Prim.Native.Nat.{ℕ, suc}
 use mathlib.Core.Bool.{Bool, true, false, _&&_, not}
@@ -10,6 +10,7 @@ use lib.Dec.{eqb, leb, ltb}
 use lib.ListN.{length}
 use Rattle.lists.specs.Tests.{some}
 use Rattle.marks.specs.Sets.{markIn}
+use Rattle.lines.specs.declared.SaveForm.{SaveForm}
 use Rattle.lines.specs.declared.Change.{Change}
 use Rattle.lines.specs.declared.Change.the-variants as to
 use Rattle.lines.specs.declared.Command.{Command}
@@ -17,7 +18,7 @@ use Rattle.lines.specs.declared.Command.the-variants as line
 use Rattle.lines.specs.declared.answer.Answer.{Answer}
 use Rattle.lines.specs.declared.answer.Answer.the-variants.{Accepted, Planned, Allowed, Saved}
 use Rattle.lines.specs.Grammar.{lineCommand}
-use Rattle.lines.specs.Saved.{saved, saveBytes}
+use Rattle.lines.specs.Saved.{saved, losesKinds, saveBytes}
 use Rattle.lines.specs.Answers.{freeBytes, textOf}
 use Rattle.tables.specs.declared.rule.Transition.{Transition}
 use Rattle.tables.specs.declared.rule.Sort.{Sort}
@@ -76,9 +77,9 @@ showingPlan t es = record { answer = Planned (worth t (shownSet es)) (power t (s
 abbrev pub showingCheck : List Entry → Shown
 showingCheck es = record { answer = Allowed; entries = es; changes = [] }
 
--- "The command `save` writes lines that rebuild the state" of request Two
-abbrev pub showingSave : Tables → Shown
-showingSave t = record { answer = Saved; entries = []; changes = saved t }
+-- "The command `save` writes lines that rebuild the state" of request Two, in a form
+abbrev pub showingSave : SaveForm → Tables → Shown
+showingSave f t = record { answer = Saved f; entries = []; changes = saved t }
 
 abbrev pub shownText : Shown → List ℕ
 shownText x = textOf (x .answer) (x .entries) (x .changes)
@@ -91,11 +92,11 @@ checkText es = shownText (showingCheck es)
 
 -- ---- the table
 -- the rule or the load that a line names
-abbrev pub rule : ℕ → ℕ → ℕ → Transition
-rule x l y = record { from = x; label = l; to = y }
+abbrev pub rule : ℕ → ℕ → ℕ → (kind : ℕ) → Transition
+rule x l y k = record { from = x; label = l; to = y; kind = k }
 
-abbrev pub load : ℕ → ℕ → ℕ → Load
-load p w v = record { parent = p; power = w; worth = v }
+abbrev pub load : ℕ → ℕ → ℕ → (kind : ℕ) → Load
+load p w v k = record { parent = p; kind = k; power = w; worth = v }
 
 -- is k the number of a load?
 abbrev pub isLoad : Tables → ℕ → Bool
@@ -134,12 +135,12 @@ changing t (to.Book s g) = unless ((no.outOfRange if not (bookSize s g)) ∷ [])
 -- "start,q / end,g: marks a state / a stage; a second time changes nothing"
 changing t (to.Start q) = marking t sort.Load q
 changing t (to.End g) = marking t sort.Row g
--- "rule,q,m,g / row,g,q,h: adds a load rule / a row rule"
-changing t (to.Rule q m g) = adding t sort.Load (rule q m g)
-changing t (to.Row g q h) = adding t sort.Row (rule g q h)
--- "load,p,w,v: adds the next load: parent, power, worth"
-changing t (to.Load p w v) =
-    unless ((no.outOfRange if not (loadIn (suc (length (t .loads))) (load p w v))) ∷ (no.full if leb (t .places) (length (t .loads))) ∷ []) (addLoad t (load p w v))
+-- "rule,q,m,g / row,g,q,h: adds a load rule / a row rule"; a load rule with its kind, and a row rule, which has none, with 0
+changing t (to.Rule q m g k) = adding t sort.Load (rule q m g k)
+changing t (to.Row g q h) = adding t sort.Row (rule g q h 0)
+-- "load,p,w,v: adds the next load: parent, power, worth", and its kind
+changing t (to.Load p w v k) =
+    unless ((no.outOfRange if not (loadIn (suc (length (t .loads))) (load p w v k))) ∷ (no.full if leb (t .places) (length (t .loads))) ∷ []) (addLoad t (load p w v k))
 -- "power,k,w / worth,k,v: sets one figure of load k"
 changing t (to.Power k w) = setting t figure.Power k w
 changing t (to.Worth k v) = setting t figure.Worth k v
@@ -164,8 +165,9 @@ row s (line.Check σ n) =
     shows freeBytes
     ((no.noLoads if eqb (length (t .loads)) 0) ∷ (no.outOfRange if not (eqb n (length (t .loads)))) ∷ (no.notAllowed if notAllowed t (markIn σ)) ∷ [])
     (showingCheck (checkEntries t (markIn σ)))
--- "The command `save` writes lines that rebuild the state"; "It needs 3,000 free bytes .. and fewer is refusal 1."
-row s line.Save = shows saveBytes [] (showingSave (s .tables))
+-- "The command `save` writes lines that rebuild the state"; "It needs 3,000 free bytes .. and fewer is refusal 1." `save1` "needs the same free bytes";
+-- "14, `save1` while some load or load rule has a kind other than 0, tested after 5"
+row s (line.Save f) = let t = s .tables in shows saveBytes ((no.kindsInUse if losesKinds f t) ∷ []) (showingSave f t)
 -- "`last` shows the latest outcome of `plan`, refusal 9 included (returned as 9)"; "12, no current plan, tested after 5"
 row s line.Last =
     let o = s .outcome in

@@ -25,22 +25,22 @@ use Rattle.cells.specs.declared.problem.StoredItem.{StoredItem}
 use Rattle.cells.specs.declared.outline.Joint.{Joint}
 use Rattle.cells.specs.declared.outline.Rules.{Rules}
 use Rattle.cells.specs.Problem.{loadsFor, itemsFor, itemOf, shapeOf, LoadsIn, Lawful}
-use Rattle.cells.specs.Outline.{loadPlace, childIn, siblingIn, itemIn, loadRulesAt, rowRulesAt, countsAt, outlineSize, ruleIn, ofRow, rulesIn, jointIn, JointFits, RuleFits, RulesFit, OutlineFits, withLoad, withRule, LoadsPut, RulesPut, Outlines}
+use Rattle.cells.specs.Outline.{loadNumbers, loadPlace, childIn, siblingIn, itemIn, ruleNumbers, loadRulesAt, rowRulesAt, countsAt, outlineSize, ruleIn, ofRow, rulesIn, jointIn, JointFits, RuleFits, RulesFit, OutlineFits, withLoad, withRule, LoadsPut, RulesPut, Outlines}
 use Rattle.cells.proofs.Tables.{loads-length}
 
 -- the zeros at the start
 pub zeros-long : (o : List ℕ) → o ≡ replicate outlineSize 0 → length o ≡ outlineSize
 zeros-long o e = ap (λ (x : List ℕ). length x) e ∙ length-replicate {A = ℕ} outlineSize 0
 
--- an item and a rule of three numbers
-abbrev item : (power worth mark : ℕ) → StoredItem
-item a b c = record { power = a; worth = b; mark = c }
+-- an item and a rule of four numbers
+abbrev item : (power worth mark kind : ℕ) → StoredItem
+item a b c d = record { power = a; worth = b; mark = c; kind = d }
 
-abbrev rule : (from label to : ℕ) → Transition
-rule a b c = record { from = a; label = b; to = c }
+abbrev rule : (from label to kind : ℕ) → Transition
+rule a b c d = record { from = a; label = b; to = c; kind = d }
 
-three-same : {A : Type 0} (f : ℕ → ℕ → ℕ → A) {a b c x y z : ℕ} → a ≡ x → b ≡ y → c ≡ z → f a b c ≡ f x y z
-three-same f p q r = cc
+four-same : {A : Type 0} (f : ℕ → ℕ → ℕ → ℕ → A) {a b c d x y z w : ℕ} → a ≡ x → b ≡ y → c ≡ z → d ≡ w → f a b c d ≡ f x y z w
+four-same f p q r s = cc
 
 -- the figures of an item are in range
 abbrev Small : StoredItem → Type 0
@@ -61,47 +61,56 @@ module _ (o : List ℕ) (k q : ℕ) (i : StoredItem) where
   abbrev four : List ℕ
   four = set three (loadPlace k + 4) (i .mark)
 
+  abbrev five : List ℕ
+  five = set four (loadPlace k + 5) (i .kind)
+
   -- a place that is left as it is
-  load-other : (m : ℕ) → (loadPlace k < m → m ≤ loadPlace k + 4 → ⊥) → (m ≡ loadPlace q → ⊥) → getD (withLoad o k q i) m 0 ≡ getD o m 0
+  load-other : (m : ℕ) → (loadPlace k < m → m < loadPlace k + loadNumbers → ⊥) → (m ≡ loadPlace q → ⊥) → getD (withLoad o k q i) m 0 ≡ getD o m 0
   load-other m h n =
-      getD-set-other four (loadPlace q) m k 0 n
+      getD-set-other five (loadPlace q) m k 0 n
+      ∙ getD-set-other four (loadPlace k + 5) m (i .kind) 0 (λ e. h (omega arith) (omega arith))
       ∙ getD-set-other three (loadPlace k + 4) m (i .mark) 0 (λ e. h (omega arith) (omega arith))
       ∙ getD-set-other two (loadPlace k + 3) m (i .worth) 0 (λ e. h (omega arith) (omega arith))
       ∙ getD-set-other one (loadPlace k + 2) m (i .power) 0 (λ e. h (omega arith) (omega arith))
       ∙ getD-set-other o (loadPlace k + 1) m (childIn o q) 0 (λ e. h (omega arith) (omega arith))
 
+  -- a number of the load is kept by the later writes
+  kept-five : (a : ℕ) → 0 < a → a < 6 → getD (withLoad o k q i) (loadPlace k + a) 0 ≡ getD five (loadPlace k + a) 0
+  kept-five a h l = getD-set-other five (loadPlace q) (loadPlace k + a) k 0 (λ e. absurd (omega arith))
+
+  kept-four : (a : ℕ) → 0 < a → a < 5 → getD (withLoad o k q i) (loadPlace k + a) 0 ≡ getD four (loadPlace k + a) 0
+  kept-four a h l = kept-five a h (omega arith) ∙ getD-set-other four (loadPlace k + 5) (loadPlace k + a) (i .kind) 0 (λ e. absurd (omega arith))
+
+  kept-three : (a : ℕ) → 0 < a → a < 4 → getD (withLoad o k q i) (loadPlace k + a) 0 ≡ getD three (loadPlace k + a) 0
+  kept-three a h l = kept-four a h (omega arith) ∙ getD-set-other three (loadPlace k + 4) (loadPlace k + a) (i .mark) 0 (λ e. absurd (omega arith))
+
+  kept-two : (a : ℕ) → 0 < a → a < 3 → getD (withLoad o k q i) (loadPlace k + a) 0 ≡ getD two (loadPlace k + a) 0
+  kept-two a h l = kept-three a h (omega arith) ∙ getD-set-other two (loadPlace k + 3) (loadPlace k + a) (i .worth) 0 (λ e. absurd (omega arith))
+
+  kept-one : (a : ℕ) → 0 < a → a < 2 → getD (withLoad o k q i) (loadPlace k + a) 0 ≡ getD one (loadPlace k + a) 0
+  kept-one a h l = kept-two a h (omega arith) ∙ getD-set-other one (loadPlace k + 2) (loadPlace k + a) (i .power) 0 (λ e. absurd (omega arith))
+
   module _ (long : length o ≡ outlineSize) (h : k ≤ maxLoads) (n : q ≤ maxLoads) where
     load-child : childIn (withLoad o k q i) q ≡ k
-    load-child = getD-set-same four (loadPlace q) k 0 (simp length-set (omega arith))
+    load-child = getD-set-same five (loadPlace q) k 0 (simp length-set (omega arith))
+
+    load-kind : getD (withLoad o k q i) (loadPlace k + 5) 0 ≡ i .kind
+    load-kind = kept-five 5 (omega arith) (omega arith) ∙ getD-set-same four (loadPlace k + 5) (i .kind) 0 (simp length-set (omega arith))
 
     load-mark : getD (withLoad o k q i) (loadPlace k + 4) 0 ≡ i .mark
-    load-mark =
-        getD-set-other four (loadPlace q) (loadPlace k + 4) k 0 (λ e. absurd (omega arith))
-        ∙ getD-set-same three (loadPlace k + 4) (i .mark) 0 (simp length-set (omega arith))
+    load-mark = kept-four 4 (omega arith) (omega arith) ∙ getD-set-same three (loadPlace k + 4) (i .mark) 0 (simp length-set (omega arith))
 
     load-worth : getD (withLoad o k q i) (loadPlace k + 3) 0 ≡ i .worth
-    load-worth =
-        getD-set-other four (loadPlace q) (loadPlace k + 3) k 0 (λ e. absurd (omega arith))
-        ∙ getD-set-other three (loadPlace k + 4) (loadPlace k + 3) (i .mark) 0 (λ e. absurd (omega arith))
-        ∙ getD-set-same two (loadPlace k + 3) (i .worth) 0 (simp length-set (omega arith))
+    load-worth = kept-three 3 (omega arith) (omega arith) ∙ getD-set-same two (loadPlace k + 3) (i .worth) 0 (simp length-set (omega arith))
 
     load-power : getD (withLoad o k q i) (loadPlace k + 2) 0 ≡ i .power
-    load-power =
-        getD-set-other four (loadPlace q) (loadPlace k + 2) k 0 (λ e. absurd (omega arith))
-        ∙ getD-set-other three (loadPlace k + 4) (loadPlace k + 2) (i .mark) 0 (λ e. absurd (omega arith))
-        ∙ getD-set-other two (loadPlace k + 3) (loadPlace k + 2) (i .worth) 0 (λ e. absurd (omega arith))
-        ∙ getD-set-same one (loadPlace k + 2) (i .power) 0 (simp length-set (omega arith))
+    load-power = kept-two 2 (omega arith) (omega arith) ∙ getD-set-same one (loadPlace k + 2) (i .power) 0 (simp length-set (omega arith))
 
     load-sibling : siblingIn (withLoad o k q i) k ≡ childIn o q
-    load-sibling =
-        getD-set-other four (loadPlace q) (loadPlace k + 1) k 0 (λ e. absurd (omega arith))
-        ∙ getD-set-other three (loadPlace k + 4) (loadPlace k + 1) (i .mark) 0 (λ e. absurd (omega arith))
-        ∙ getD-set-other two (loadPlace k + 3) (loadPlace k + 1) (i .worth) 0 (λ e. absurd (omega arith))
-        ∙ getD-set-other one (loadPlace k + 2) (loadPlace k + 1) (i .power) 0 (λ e. absurd (omega arith))
-        ∙ getD-set-same o (loadPlace k + 1) (childIn o q) 0 (omega arith)
+    load-sibling = kept-one 1 (omega arith) (omega arith) ∙ getD-set-same o (loadPlace k + 1) (childIn o q) 0 (omega arith)
 
     load-item : itemIn (withLoad o k q i) k ≡ i
-    load-item = three-same item load-power load-worth load-mark
+    load-item = four-same item load-power load-worth load-mark load-kind
 
 -- ---- a rule is written
 module _ (o : List ℕ) (at : ℕ) (r : Transition) where
@@ -112,29 +121,43 @@ module _ (o : List ℕ) (at : ℕ) (r : Transition) where
   abbrev second : List ℕ
   second = set first (at + 1) (r .label)
 
-  rule-other : (m : ℕ) → (at ≤ m → m < at + 3 → ⊥) → getD (withRule o at r) m 0 ≡ getD o m 0
+  abbrev third : List ℕ
+  third = set second (at + 2) (r .to)
+
+  rule-other : (m : ℕ) → (at ≤ m → m < at + ruleNumbers → ⊥) → getD (withRule o at r) m 0 ≡ getD o m 0
   rule-other m h =
-      getD-set-other second (at + 2) m (r .to) 0 (λ e. h (omega arith) (omega arith))
+      getD-set-other third (at + 3) m (r .kind) 0 (λ e. h (omega arith) (omega arith))
+      ∙ getD-set-other second (at + 2) m (r .to) 0 (λ e. h (omega arith) (omega arith))
       ∙ getD-set-other first (at + 1) m (r .label) 0 (λ e. h (omega arith) (omega arith))
       ∙ getD-set-other o at m (r .from) 0 (λ e. h (omega arith) (omega arith))
 
-  module _ (room : at + 3 ≤ length o) where
+  -- a number of the rule is kept by the later writes
+  kept-third : (m : ℕ) → m < at + 3 → getD (withRule o at r) m 0 ≡ getD third m 0
+  kept-third m h = getD-set-other third (at + 3) m (r .kind) 0 (λ e. absurd (omega arith))
+
+  kept-second : (m : ℕ) → m < at + 2 → getD (withRule o at r) m 0 ≡ getD second m 0
+  kept-second m h = kept-third m (omega arith) ∙ getD-set-other second (at + 2) m (r .to) 0 (λ e. absurd (omega arith))
+
+  kept-first : (m : ℕ) → m < at + 1 → getD (withRule o at r) m 0 ≡ getD first m 0
+  kept-first m h = kept-second m (omega arith) ∙ getD-set-other first (at + 1) m (r .label) 0 (λ e. absurd (omega arith))
+
+  module _ (room : at + ruleNumbers ≤ length o) where
+    rule-kind : getD (withRule o at r) (at + 3) 0 ≡ r .kind
+    rule-kind = getD-set-same third (at + 3) (r .kind) 0 (simp length-set (omega arith))
+
     rule-to : getD (withRule o at r) (at + 2) 0 ≡ r .to
-    rule-to = getD-set-same second (at + 2) (r .to) 0 (simp length-set (omega arith))
+    rule-to = kept-third (at + 2) (omega arith) ∙ getD-set-same second (at + 2) (r .to) 0 (simp length-set (omega arith))
 
     rule-label : getD (withRule o at r) (at + 1) 0 ≡ r .label
-    rule-label =
-        getD-set-other second (at + 2) (at + 1) (r .to) 0 (λ e. absurd (omega arith))
-        ∙ getD-set-same first (at + 1) (r .label) 0 (simp length-set (omega arith))
+    rule-label = kept-second (at + 1) (omega arith) ∙ getD-set-same first (at + 1) (r .label) 0 (simp length-set (omega arith))
 
     rule-from : getD (withRule o at r) at 0 ≡ r .from
-    rule-from =
-        getD-set-other second (at + 2) at (r .to) 0 (λ e. absurd (omega arith))
-        ∙ getD-set-other first (at + 1) at (r .label) 0 (λ e. absurd (omega arith))
-        ∙ getD-set-same o at (r .from) 0 (omega arith)
+    rule-from = kept-first at (omega arith) ∙ getD-set-same o at (r .from) 0 (omega arith)
 
-rule-here : (o : List ℕ) (at j : ℕ) (r : Transition) → at + 3 * j + 3 ≤ length o → ruleIn (withRule o (at + 3 * j) r) at j ≡ r
-rule-here o at j r h = three-same rule (rule-from o (at + 3 * j) r h) (rule-label o (at + 3 * j) r h) (rule-to o (at + 3 * j) r h)
+rule-here : (o : List ℕ) (at j : ℕ) (r : Transition) → at + ruleNumbers * j + ruleNumbers ≤ length o → ruleIn (withRule o (at + ruleNumbers * j) r) at j ≡ r
+rule-here o at j r h =
+    let i = at + ruleNumbers * j in
+    four-same rule (rule-from o i r h) (rule-label o i r h) (rule-to o i r h) (rule-kind o i r h)
 
 -- ---- the loads are written, from last to first
 module _ (p : Problem) (ok : LoadsIn (p .tables .loads)) (few : p .tables .loads .count ≤ maxLoads) where
@@ -189,9 +212,10 @@ module _ (p : Problem) (ok : LoadsIn (p .tables .loads)) (few : p .tables .loads
 
     item-other : (k : ℕ) → suc j < k → itemIn next k ≡ itemIn o k
     item-other k l =
-        three-same item (load-other o (suc j) parent i (loadPlace k + 2) (λ u v. absurd (omega arith)) (λ u. absurd (omega arith)))
-        (load-other o (suc j) parent i (loadPlace k + 3) (λ u v. absurd (omega arith)) (λ u. absurd (omega arith)))
-        (load-other o (suc j) parent i (loadPlace k + 4) (λ u v. absurd (omega arith)) (λ u. absurd (omega arith)))
+        four-same item (kept 2 (omega arith) (omega arith)) (kept 3 (omega arith) (omega arith)) (kept 4 (omega arith) (omega arith)) (kept 5 (omega arith) (omega arith))
+      where
+        kept : (a : ℕ) → 0 < a → a < loadNumbers → getD next (loadPlace k + a) 0 ≡ getD o (loadPlace k + a) 0
+        kept a h n = load-other o (suc j) parent i (loadPlace k + a) (λ u v. absurd (omega arith)) (λ u. absurd (omega arith))
 
     item-of : (k : ℕ) → k ≤ p .tables .loads .count → (suc j ≡ k) ⊎ (suc j < k) → itemOf (itemIn next k) ≡ itemsFor p k (loadAt (loadsFor p) k)
     item-of k l (inl s) = subst (λ x. itemOf (itemIn next x) ≡ itemsFor p x (loadAt (loadsFor p) x)) s (ap itemOf item-here ∙ e)
@@ -214,23 +238,28 @@ module _ (p : Problem) (ok : LoadsIn (p .tables .loads)) (few : p .tables .loads
 pub rules-none : (l : TransitionList) (o : List ℕ) (at : ℕ) → RulesPut l o at 0 o
 rules-none l o at = record { rule = λ j h. absurd (omega arith); below = λ m h. refl; above = λ m h. refl }
 
-module _ (l : TransitionList) {o v : List ℕ} {at j : ℕ} (put : RulesPut l o at j v) (room : at + 3 * j + 3 ≤ length v) where
+module _ (l : TransitionList) {o v : List ℕ} {at j : ℕ} (put : RulesPut l o at j v) (room : at + ruleNumbers * j + ruleNumbers ≤ length v) where
   abbrev r : Transition
   r = getD (l .items) j noRule
 
-  rule-of : (i : ℕ) → (i ≡ j) ⊎ (i < j) → ruleIn (withRule v (at + 3 * j) r) at i ≡ getD (l .items) i noRule
+  abbrev written : List ℕ
+  written = withRule v (at + ruleNumbers * j) r
+
+  rule-of : (i : ℕ) → (i ≡ j) ⊎ (i < j) → ruleIn written at i ≡ getD (l .items) i noRule
   rule-of i (inl e) = rw e (rule-here v at j r room)
   rule-of i (inr h) =
-      three-same rule (rule-other v (at + 3 * j) r (at + 3 * i) (λ u w. absurd (omega arith)))
-      (rule-other v (at + 3 * j) r (at + 3 * i + 1) (λ u w. absurd (omega arith)))
-      (rule-other v (at + 3 * j) r (at + 3 * i + 2) (λ u w. absurd (omega arith)))
+      four-same rule (kept (at + ruleNumbers * i) (omega arith)) (kept (at + ruleNumbers * i + 1) (omega arith)) (kept (at + ruleNumbers * i + 2) (omega arith))
+      (kept (at + ruleNumbers * i + 3) (omega arith))
       ∙ put .rule i h
+    where
+      kept : (m : ℕ) → m < at + ruleNumbers * j → getD written m 0 ≡ getD v m 0
+      kept m b = rule-other v (at + ruleNumbers * j) r m (λ u w. absurd (omega arith))
 
-  pub rules-more : RulesPut l o at (j + 1) (withRule v (at + 3 * j) r)
+  pub rules-more : RulesPut l o at (j + 1) written
   rules-more = record {
     rule = λ i h. rule-of i (eq-or-lt-of-le (omega arith));
-    below = λ m h. rule-other v (at + 3 * j) r m (λ u w. absurd (omega arith)) ∙ put .below m h;
-    above = λ m h. rule-other v (at + 3 * j) r m (λ u w. absurd (omega arith)) ∙ put .above m (omega arith);
+    below = λ m h. rule-other v (at + ruleNumbers * j) r m (λ u w. absurd (omega arith)) ∙ put .below m h;
+    above = λ m h. rule-other v (at + ruleNumbers * j) r m (λ u w. absurd (omega arith)) ∙ put .above m (omega arith);
   }
 
 -- ---- all is written
@@ -266,24 +295,30 @@ module _ (p : Problem) (ok : Lawful p) {z o v w : List ℕ} (put : LoadsPut p z 
   abbrev whole : List ℕ
   whole = counted w (p .tables .book .«load_rules» .count) (p .tables .book .«row_rules» .count)
 
-  -- a number of a load, and one of a load rule
+  -- a number of a load, one of a load rule, and one of a row rule
   of-load : (m : ℕ) → m < loadRulesAt → getD whole m 0 ≡ getD o m 0
   of-load m h = counted-other w _ _ m (omega arith) ∙ rows .below m (omega arith) ∙ rules .below m h
 
   of-rule : (m : ℕ) → m < rowRulesAt → getD whole m 0 ≡ getD v m 0
   of-rule m h = counted-other w _ _ m (omega arith) ∙ rows .below m h
 
+  of-row : (m : ℕ) → m < countsAt → getD whole m 0 ≡ getD w m 0
+  of-row m h = counted-other w _ _ m h
+
   item-kept : (k : ℕ) → k ≤ maxLoads → itemIn whole k ≡ itemIn o k
-  item-kept k h = three-same item (of-load (loadPlace k + 2) (omega arith)) (of-load (loadPlace k + 3) (omega arith)) (of-load (loadPlace k + 4) (omega arith))
+  item-kept k h =
+      four-same item (of-load (loadPlace k + 2) (omega arith)) (of-load (loadPlace k + 3) (omega arith)) (of-load (loadPlace k + 4) (omega arith))
+      (of-load (loadPlace k + 5) (omega arith))
 
   rule-kept : (j : ℕ) → j < maxRules → ruleIn whole loadRulesAt j ≡ ruleIn v loadRulesAt j
   rule-kept j h =
-      three-same rule (of-rule (loadRulesAt + 3 * j) (omega arith)) (of-rule (loadRulesAt + 3 * j + 1) (omega arith)) (of-rule (loadRulesAt + 3 * j + 2) (omega arith))
+      let i = loadRulesAt + ruleNumbers * j in
+      four-same rule (of-rule i (omega arith)) (of-rule (i + 1) (omega arith)) (of-rule (i + 2) (omega arith)) (of-rule (i + 3) (omega arith))
 
   row-kept : (j : ℕ) → j < maxRules → ruleIn whole rowRulesAt j ≡ ruleIn w rowRulesAt j
   row-kept j h =
-      three-same rule (counted-other w _ _ (rowRulesAt + 3 * j) (omega arith)) (counted-other w _ _ (rowRulesAt + 3 * j + 1) (omega arith))
-      (counted-other w _ _ (rowRulesAt + 3 * j + 2) (omega arith))
+      let i = rowRulesAt + ruleNumbers * j in
+      four-same rule (of-row i (omega arith)) (of-row (i + 1) (omega arith)) (of-row (i + 2) (omega arith)) (of-row (i + 3) (omega arith))
 
   pub outline-whole : Outlines p (shapeOf p) whole
   outline-whole = record {

@@ -19,13 +19,14 @@ use Rattle.meaning.specs.Cells.{loadAt, firstChild, nextSibling}
 use Rattle.cells.specs.declared.problem.Problem.{Problem}
 use Rattle.cells.specs.declared.problem.Shape.{Shape}
 use Rattle.cells.specs.declared.problem.StoredItem.{StoredItem}
+use Rattle.cells.specs.declared.outline.Lead.{Lead}
 use Rattle.cells.specs.declared.outline.Joint.{Joint}
 use Rattle.cells.specs.declared.outline.Rules.{Rules}
 use Rattle.cells.specs.Problem.{loadsFor, itemsFor, itemOf, shapeOf, Lawful}
 
--- ---- the numbers of a load: its first child, its next sibling, its power, its worth and its mark; load 0 is the parent of the root
+-- ---- the numbers of a load: its first child, its next sibling, its power, its worth, its mark and its kind; load 0 is the parent of the root
 abbrev pub loadNumbers : ℕ
-loadNumbers = 5
+loadNumbers = 6
 
 abbrev pub loadPlace : ℕ → ℕ
 loadPlace k = loadNumbers * k
@@ -37,24 +38,32 @@ abbrev pub siblingIn : List ℕ → ℕ → ℕ
 siblingIn o k = getD o (loadPlace k + 1) 0
 
 abbrev pub itemIn : List ℕ → ℕ → StoredItem
-itemIn o k = record { power = getD o (loadPlace k + 2) 0; worth = getD o (loadPlace k + 3) 0; mark = getD o (loadPlace k + 4) 0 }
+itemIn o k = record { power = getD o (loadPlace k + 2) 0; worth = getD o (loadPlace k + 3) 0; mark = getD o (loadPlace k + 4) 0; kind = getD o (loadPlace k + 5) 0 }
 
--- ---- the load rules, the row rules, three numbers each, and how many there are of either
+-- ---- the load rules, the row rules, four numbers each, and how many there are of either
+abbrev pub ruleNumbers : ℕ
+ruleNumbers = 4
+
 abbrev pub loadRulesAt : ℕ
 loadRulesAt = loadNumbers * (maxLoads + 1)
 
 abbrev pub rowRulesAt : ℕ
-rowRulesAt = loadRulesAt + 3 * maxRules
+rowRulesAt = loadRulesAt + ruleNumbers * maxRules
 
 abbrev pub countsAt : ℕ
-countsAt = rowRulesAt + 3 * maxRules
+countsAt = rowRulesAt + ruleNumbers * maxRules
 
 abbrev pub outlineSize : ℕ
 outlineSize = countsAt + 2
 
 -- rule j of those that stand from a place on
 abbrev pub ruleIn : List ℕ → (at j : ℕ) → Transition
-ruleIn o at j = record { from = getD o (at + 3 * j) 0; label = getD o (at + 3 * j + 1) 0; to = getD o (at + 3 * j + 2) 0 }
+ruleIn o at j =
+    let i = at + ruleNumbers * j in record { from = getD o i 0; label = getD o (i + 1) 0; to = getD o (i + 2) 0; kind = getD o (i + 3) 0 }
+
+-- what it leads to
+abbrev pub leadIn : List ℕ → (at j : ℕ) → Lead
+leadIn o at j = let r = ruleIn o at j in record { label = r .label; stage = r .to; kind = r .kind }
 
 -- ---- what is looked up for load k and state or stage x, states first
 abbrev pub ofRow : Shape → ℕ → Bool
@@ -96,7 +105,7 @@ pub record RuleFits (sh : Shape) (ofRow : Bool) (r : Transition) : Type 0 where
 
 pub record RulesFit (sh : Shape) (o : List ℕ) (ofRow : Bool) (r : Rules) : Type 0 where
   pub few : r .count ≤ maxRules
-  pub room : r .at + 3 * maxRules ≤ length o
+  pub room : r .at + ruleNumbers * maxRules ≤ length o
   pub each : (j : ℕ) → j < r .count → RuleFits sh ofRow (ruleIn o (r .at) j)
 
 pub record OutlineFits (sh : Shape) (o : List ℕ) : Type 0 where
@@ -107,10 +116,11 @@ pub record OutlineFits (sh : Shape) (o : List ℕ) : Type 0 where
 -- ---- how it is written
 -- load k, below load q, with what counts of it: the child of q till now comes after it
 abbrev pub withLoad : List ℕ → (k q : ℕ) → StoredItem → List ℕ
-withLoad o k q i = set (set (set (set (set o (loadPlace k + 1) (childIn o q)) (loadPlace k + 2) (i .power)) (loadPlace k + 3) (i .worth)) (loadPlace k + 4) (i .mark)) (loadPlace q) k
+withLoad o k q i =
+    set (set (set (set (set (set o (loadPlace k + 1) (childIn o q)) (loadPlace k + 2) (i .power)) (loadPlace k + 3) (i .worth)) (loadPlace k + 4) (i .mark)) (loadPlace k + 5) (i .kind)) (loadPlace q) k
 
 abbrev pub withRule : List ℕ → (at : ℕ) → Transition → List ℕ
-withRule o at r = set (set (set o at (r .from)) (at + 1) (r .label)) (at + 2) (r .to)
+withRule o at r = set (set (set (set o at (r .from)) (at + 1) (r .label)) (at + 2) (r .to)) (at + 3) (r .kind)
 
 -- the loads after load i are written, into the zeros z, by what counts of each
 pub record LoadsPut (p : Problem) (z : List ℕ) (i : ℕ) (o : List ℕ) : Type 0 where
@@ -124,7 +134,7 @@ pub record LoadsPut (p : Problem) (z : List ℕ) (i : ℕ) (o : List ℕ) : Type
 pub record RulesPut (l : TransitionList) (o : List ℕ) (at n : ℕ) (o′ : List ℕ) : Type 0 where
   pub rule : (j : ℕ) → j < n → ruleIn o′ at j ≡ getD (l .items) j noRule
   pub below : (m : ℕ) → m < at → getD o′ m 0 ≡ getD o m 0
-  pub above : (m : ℕ) → at + 3 * n ≤ m → getD o′ m 0 ≡ getD o m 0
+  pub above : (m : ℕ) → at + ruleNumbers * n ≤ m → getD o′ m 0 ≡ getD o m 0
 
 -- ---- the outline of a problem
 -- n rules stand from a place on, those of a list

@@ -3,7 +3,7 @@
 -- takes the lowest .. that can be completed to that set" of paper 01. Assumes nothing.
 use Prim.Native.Nat.{ℕ, _≤_, _<_}
 use mathlib.Core.Path.{_≡_}
-use mathlib.Core.Bool.{Bool, true, false, _||_}
+use mathlib.Core.Bool.{Bool, true, false, _&&_, _||_}
 use mathlib.Core.List.{List}
 use lib.Dec.{eqb}
 use lib.ListN.{length, getD}
@@ -45,15 +45,15 @@ itemsIf true σ = checked (markIn σ)
 abbrev pub itemsFor : Problem → ℕ → Load → Item
 itemsFor p = itemsIf (p .fixed) (p .set)
 
--- what counts of a load, as the code holds it: any load rule serves, or those with the load's mark
+-- what counts of a load, as the code holds it: any load rule of its kind serves, or those with the load's mark
 abbrev pub anyMark : ℕ
 anyMark = 2
 
-abbrev pub servesIf : (mark label : ℕ) → Bool
-servesIf m l = eqb m anyMark || eqb l m
+abbrev pub servesIf : (ownKind ownMark kind mark : ℕ) → Bool
+servesIf t m k l = eqb k t && (eqb m anyMark || eqb l m)
 
 abbrev pub itemOf : StoredItem → Item
-itemOf i = record { power = i .power; worth = i .worth; serves = λ t. servesIf (i .mark) (t .label) }
+itemOf i = record { power = i .power; worth = i .worth; kind = i .kind; serves = λ t. servesIf (i .kind) (i .mark) (t .kind) (t .label) }
 
 abbrev pub shapeOf : Problem → Shape
 shapeOf p = record {

@@ -10,15 +10,16 @@ use Rattle.tables.specs.declared.rule.Transition.{Transition}
 use Rattle.meaning.specs.Best.{loadReach, rowReach}
 use Rattle.cells.specs.declared.problem.Problem.{Problem}
 use Rattle.cells.specs.declared.problem.Shape.{Shape}
+use Rattle.cells.specs.declared.outline.Lead.{Lead}
 use Rattle.cells.specs.declared.outline.Joint.{Joint}
 use Rattle.cells.specs.Problem.{itemOf}
 use Rattle.cells.specs.Outline.{ofRow, jointIn, rulesIn, bestIn, Outlines}
 use Rattle.cells.specs.Work.{placeOf, heldBranch, heldRow, Filled}
 use Rattle.cells.specs.Strip.{Rising}
 
--- a rule with this label that leads to this stage, wherever it begins
-abbrev pub leading : (label to : ℕ) → Transition
-leading l g = record { from = 0; label = l; to = g }
+-- a rule that leads there, wherever it begins
+abbrev pub leading : Lead → Transition
+leading x = record { from = 0; label = x .label; to = x .stage; kind = x .kind }
 
 -- what a rule reaches within an allowance: a load rule joins the load with the row below it, a row rule its branch with the later children
 abbrev pub reachIf : Bool → Shape → List ℕ → Joint → ℕ → Transition → ℕ

@@ -15,17 +15,20 @@ ghost use lib.ListN.{length, getD, replicate};
 ghost use Rattle.tables.specs.Limits.{maxLoads, maxRules, maxWorth};
 ghost use Rattle.meaning.specs.Cell.{powerLimit};
 ghost use Rattle.cells.specs.Problem.{itemsIf, itemOf, shapeOf, Lawful};
-ghost use Rattle.cells.specs.Outline.{outlineSize, ruleIn, rulesIn, jointIn, withLoad, withRule, LoadsPut, RulesPut, Outlines, NextRule};
+ghost use Rattle.cells.specs.Outline.{outlineSize, ruleNumbers, leadIn, rulesIn, jointIn, withLoad, withRule, LoadsPut, RulesPut, Outlines, NextRule};
 
-// The numbers of a load: its first child, its next sibling, its power, its worth and its mark. Load 0 is the parent of the root.
-const LOAD_NUMBERS: usize = 5;
+// The numbers of a load: its first child, its next sibling, its power, its worth, its mark and its kind. Load 0 is the parent of the root.
+const LOAD_NUMBERS: usize = 6;
 
-// Where the load rules stand, where the row rules, three numbers each, and how many there are of either.
+// The numbers of a rule.
+const RULE_NUMBERS: usize = 4;
+
+// Where the load rules stand, where the row rules, and how many there are of either.
 const LOAD_RULES: usize = LOAD_NUMBERS * (MAX_LOADS + 1);
 
-const ROW_RULES: usize = LOAD_RULES + 3 * MAX_RULES;
+const ROW_RULES: usize = LOAD_RULES + RULE_NUMBERS * MAX_RULES;
 
-const COUNTS: usize = ROW_RULES + 3 * MAX_RULES;
+const COUNTS: usize = ROW_RULES + RULE_NUMBERS * MAX_RULES;
 
 // The numbers of an outline.
 pub const OUTLINE: usize = COUNTS + 2;
@@ -37,6 +40,13 @@ pub struct Rules {
     pub from: u16,
 }
 
+// What a rule leads to, wherever it begins: its label, its stage and its kind.
+pub struct Lead {
+    pub label: usize,
+    pub stage: usize,
+    pub kind: usize,
+}
+
 // What a rule joins with the row from load `rest` onward, 0 for none: a row rule the branch of a load, a load rule the load alone.
 pub struct Joint {
     pub branch: bool,
@@ -45,7 +55,7 @@ pub struct Joint {
     pub rest: usize,
 }
 
-// What counts of load k. Where `fixed`, only the mark that it has in the set does.
+// What counts of load k. Where `fixed`, only its kind and the mark that it has in the set do.
 fn item_of(fixed: bool, set: LoadSet, k: usize, l: Load) -> StoredItem
     requires { ⌜ (l .power < powerLimit) × (l .worth ≤ maxWorth) ⌝ }
     ensures { λ r. ⌜ (itemOf r ≡ itemsIf fixed set k l) × (r .power < powerLimit) × (r .worth ≤ maxWorth) ⌝ }
@@ -59,12 +69,14 @@ fn item_of(fixed: bool, set: LoadSet, k: usize, l: Load) -> StoredItem
             power: 0,
             worth: 0,
             mark: mark,
+            kind: l.kind as u16,
         };
     }
     StoredItem {
         power: l.power as usize,
         worth: l.worth as u32,
         mark: ANY_MARK,
+        kind: l.kind as u16,
     }
 }
 
@@ -78,6 +90,7 @@ fn put_load(o: &mut [u16], k: usize, q: usize, i: StoredItem)
     o[at + 2] = i.power as u16;
     o[at + 3] = i.worth as u16;
     o[at + 4] = i.mark;
+    o[at + 5] = i.kind;
     o[LOAD_NUMBERS * q] = k as u16;
 }
 
@@ -101,23 +114,24 @@ fn put_loads(o: &mut [u16], p: Problem)
 }
 
 fn put_rule(o: &mut [u16], at: usize, t: Transition)
-    requires { ⌜ at + 3 ≤ length (now o) ⌝ }
+    requires { ⌜ at + ruleNumbers ≤ length (now o) ⌝ }
     ensures { λ _. ⌜ now (o .exit) ≡ withRule (now (o .entry)) at t ⌝ }
 {
     o[at] = t.from as u16;
     o[at + 1] = t.label as u16;
     o[at + 2] = t.to as u16;
+    o[at + 3] = t.kind as u16;
 }
 
 // Rules of one sort are written from a place on.
 fn put_rules(o: &mut [u16], rules: TransitionList, at: usize)
-    requires { ⌜ (rules .count ≤ maxRules) × (length (rules .items) ≡ maxRules) × (at + 3 * maxRules ≤ length (now o)) ⌝ }
+    requires { ⌜ (rules .count ≤ maxRules) × (length (rules .items) ≡ maxRules) × (at + ruleNumbers * maxRules ≤ length (now o)) ⌝ }
     ensures { λ _. ⌜ RulesPut rules (now (o .entry)) at (rules .count) (now (o .exit)) ⌝ }
 {
     let n = rules.count;
     for j in 0..n {
         let t = rules.items[j];
-        put_rule(&mut *o, at + 3 * j, t);
+        put_rule(&mut *o, at + RULE_NUMBERS * j, t);
     }
 }
 
@@ -167,6 +181,7 @@ pub fn joint_at(sh: Shape, o: &[u16], k: usize, x: usize) -> Joint
         power: o[at + 2] as usize,
         worth: o[at + 3] as u32,
         mark: o[at + 4],
+        kind: o[at + 5],
     };
     if sh.states <= x {
         return Joint {
@@ -186,12 +201,12 @@ pub fn joint_at(sh: Shape, o: &[u16], k: usize, x: usize) -> Joint
 
 // The next of these rules from rule j on, their number if there is none. The rules of a book are reached through this function alone.
 pub fn next_rule(o: &[u16], r: Rules, j: usize) -> usize
-    requires { ⌜ (r .count ≤ maxRules) × (r .at + 3 * maxRules ≤ length (now o)) × (j ≤ r .count) ⌝ }
+    requires { ⌜ (r .count ≤ maxRules) × (r .at + ruleNumbers * maxRules ≤ length (now o)) × (j ≤ r .count) ⌝ }
     ensures { λ i. ⌜ NextRule (now (o .entry)) r j i ⌝ }
 {
     let mut i = j;
     while i < r.count {
-        if o[r.at + 3 * i] == r.from {
+        if o[r.at + RULE_NUMBERS * i] == r.from {
             return i;
         }
         i += 1;
@@ -207,18 +222,15 @@ fn number_at(o: &[u16], i: usize) -> usize
     o[i] as usize
 }
 
-// The label of one of these rules.
-pub fn label_of(o: &[u16], r: Rules, j: usize) -> usize
-    requires { ⌜ (j < maxRules) × (r .at + 3 * maxRules ≤ length (now o)) ⌝ }
-    ensures { λ i. ⌜ i ≡ ruleIn (now (o .entry)) (r .at) j .label ⌝ }
+// What one of these rules leads to.
+pub fn lead_of(o: &[u16], r: Rules, j: usize) -> Lead
+    requires { ⌜ (j < maxRules) × (r .at + ruleNumbers * maxRules ≤ length (now o)) ⌝ }
+    ensures { λ x. ⌜ x ≡ leadIn (now (o .entry)) (r .at) j ⌝ }
 {
-    number_at(o, r.at + 3 * j + 1)
-}
-
-// The stage that it leads to.
-pub fn stage_of(o: &[u16], r: Rules, j: usize) -> usize
-    requires { ⌜ (j < maxRules) × (r .at + 3 * maxRules ≤ length (now o)) ⌝ }
-    ensures { λ i. ⌜ i ≡ ruleIn (now (o .entry)) (r .at) j .to ⌝ }
-{
-    number_at(o, r.at + 3 * j + 2)
+    let at = r.at + RULE_NUMBERS * j;
+    Lead {
+        label: number_at(o, at + 1),
+        stage: number_at(o, at + 2),
+        kind: number_at(o, at + 3),
+    }
 }

@@ -12,7 +12,7 @@ ghost use Rattle.meaning.specs.Cell.{powerLimit, draw, score};
 ghost use Rattle.cells.specs.Problem.{planProblem, checkProblem, itemOf, servesIf, shapeOf, Lawful};
 ghost use Rattle.cells.specs.Work.{cellLimit};
 
-// The tables of a search. Where `fixed`, only the load rules with the marks of `set` serve, and no figure counts.
+// The tables of a search. Where `fixed`, only the load rules with the marks of `set` serve, and no power or worth counts.
 pub struct Problem {
     pub tables: StoredTables,
     pub fixed: bool,
@@ -29,14 +29,15 @@ pub struct Shape {
     pub ends: Marks,
 }
 
-// The mark of a load that every load rule serves.
+// The mark of a load that every load rule of its kind serves.
 pub const ANY_MARK: u16 = 2;
 
-// What counts of a load. Only the load rules with its mark serve it.
+// What counts of a load. Only the load rules of its kind with its mark serve it.
 pub struct StoredItem {
     pub power: usize,
     pub worth: u32,
     pub mark: u16,
+    pub kind: u16,
 }
 
 // The problem of a plan.
@@ -83,11 +84,11 @@ pub fn shape_of(p: Problem) -> Shape
     }
 }
 
-// Does a load rule with this mark serve the load?
-pub fn serves(i: StoredItem, mark: usize) -> bool
-    ensures { λ r. ⌜ r ≡ servesIf (i .mark) mark ⌝ }
+// Does a load rule of this kind with this mark serve the load?
+pub fn serves(i: StoredItem, kind: usize, mark: usize) -> bool
+    ensures { λ r. ⌜ r ≡ servesIf (i .kind) (i .mark) kind mark ⌝ }
 {
-    (i.mark == ANY_MARK) | (mark == i.mark as usize)
+    (kind == i.kind as usize) & ((i.mark == ANY_MARK) | (mark == i.mark as usize))
 }
 
 // The power of a load with this mark.

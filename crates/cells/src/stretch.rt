@@ -1,12 +1,12 @@
 // A stretch: the cells of one load and one state or stage, made in a strip of their own, rule by rule, and stored.
 use crate::cell::EMPTY;
 use crate::outline::Joint;
+use crate::outline::Lead;
 use crate::outline::Rules;
 use crate::outline::joint_at;
-use crate::outline::label_of;
+use crate::outline::lead_of;
 use crate::outline::next_rule;
 use crate::outline::rules_at;
-use crate::outline::stage_of;
 use crate::problem::Shape;
 use crate::problem::draw_of;
 use crate::problem::own_of;
@@ -75,29 +75,22 @@ fn raise_split(sh: Shape, work: &[u32], strip: &mut [u32], k: usize, q: usize, r
     share(strip, work, x, y, s.from, s.to);
 }
 
-// The strip raised to what a rule with this label reaches, if the joint's row goes on at this stage.
-fn by_rule(
-    sh: Shape,
-    t: Joint,
-    label: usize,
-    stage: usize,
-    work: &[u32],
-    strip: &mut [u32],
-    s: Span,
-)
-    requires { ⌜ Ready sh (now work) × JointFits sh t × RuleFits sh (t .branch) (leading label stage) ⌝ }
+// The strip raised to what a rule reaches that leads there.
+fn by_rule(sh: Shape, t: Joint, lead: Lead, work: &[u32], strip: &mut [u32], s: Span)
+    requires { ⌜ Ready sh (now work) × JointFits sh t × RuleFits sh (t .branch) (leading lead) ⌝ }
     requires { ⌜ (s .to ≤ sh .budget + 1) × (s .to ≤ length (now strip)) ⌝ }
-    ensures { λ _. ⌜ (Sound sh (now (work .entry)) t (s .to) → Raised (now (strip .entry)) (now (strip .exit)) (s .from) (s .to) (λ a. reachOf sh (now (work .entry)) t a (leading label stage))) ⌝ }
+    ensures { λ _. ⌜ (Sound sh (now (work .entry)) t (s .to) → Raised (now (strip .entry)) (now (strip .exit)) (s .from) (s .to) (λ a. reachOf sh (now (work .entry)) t a (leading lead))) ⌝ }
 {
     let row = Spot {
         load: t.rest,
-        stage: stage,
+        stage: lead.stage,
     };
+    let label = lead.label;
     if t.branch {
         raise_split(sh, work, strip, t.load, label, row, s);
         return;
     }
-    if serves(t.item, label) {
+    if serves(t.item, lead.kind, label) {
         let shift = draw_of(t.item, label);
         let own = own_of(t.item, label);
         lift_row(sh, work, strip, row, shift, own, s);
@@ -112,9 +105,8 @@ fn raise(sh: Shape, o: &[u16], t: Joint, r: Rules, work: &[u32], strip: &mut [u3
 {
     let mut j = next_rule(o, r, 0);
     while j < r.count {
-        let label = label_of(o, r, j);
-        let stage = stage_of(o, r, j);
-        by_rule(sh, t, label, stage, work, &mut *strip, s);
+        let lead = lead_of(o, r, j);
+        by_rule(sh, t, lead, work, &mut *strip, s);
         j = next_rule(o, r, j + 1);
     }
 }

@@ -3,12 +3,12 @@ use crate::best::branch_at;
 use crate::best::row_at;
 use cells::cell;
 use cells::outline::Joint;
+use cells::outline::Lead;
 use cells::outline::Rules;
 use cells::outline::joint_at;
-use cells::outline::label_of;
+use cells::outline::lead_of;
 use cells::outline::next_rule;
 use cells::outline::rules_at;
-use cells::outline::stage_of;
 use cells::problem::Shape;
 use cells::problem::draw_of;
 use cells::problem::own_of;
@@ -43,17 +43,18 @@ impl Choice {
     };
 }
 
-// The smallest part of the allowance c for the joint's branch in state q that reaches the goal, beside its row at stage h; c + 1 if none does.
-fn first_share(sh: Shape, t: Joint, q: usize, h: usize, work: &[u32], c: usize, goal: u32) -> usize
+// The smallest part of the allowance c for the joint's branch in the state of a lead that reaches the goal, beside its row at the lead's stage;
+// c + 1 if none does.
+fn first_share(sh: Shape, t: Joint, lead: Lead, work: &[u32], c: usize, goal: u32) -> usize
     requires { ⌜ Ready sh (now work) × JointFits sh t ⌝ }
-    requires { ⌜ (0 < q) × (q ≤ sh .states) × (0 < h) × (h ≤ sh .stages) × (c ≤ sh .budget) ⌝ }
-    ensures { λ r. ⌜ FirstAt (splitAt sh (now (work .entry)) t c (leading q h)) goal (c + 1) r ⌝ }
+    requires { ⌜ (0 < lead .label) × (lead .label ≤ sh .states) × (0 < lead .stage) × (lead .stage ≤ sh .stages) × (c ≤ sh .budget) ⌝ }
+    ensures { λ r. ⌜ FirstAt (splitAt sh (now (work .entry)) t c (leading lead)) goal (c + 1) r ⌝ }
 {
     let mut a: usize = 0;
     while a <= c {
         // The row comes first: where it ends it is the same for every allowance.
-        let row = row_at(sh, work, t.rest, h, c - a);
-        let branch = branch_at(sh, work, t.load, q, a);
+        let row = row_at(sh, work, t.rest, lead.stage, c - a);
+        let branch = branch_at(sh, work, t.load, lead.label, a);
         if cell::join(row, branch) == goal {
             return a;
         }
@@ -63,31 +64,23 @@ fn first_share(sh: Shape, t: Joint, q: usize, h: usize, work: &[u32], c: usize, 
 }
 
 // The smallest allowance of what a rule joins with which it reaches the goal; c + 1 if it does not.
-fn share_for(
-    sh: Shape,
-    t: Joint,
-    label: usize,
-    stage: usize,
-    work: &[u32],
-    c: usize,
-    goal: u32,
-) -> usize
-    requires { ⌜ Ready sh (now work) × JointFits sh t × RuleFits sh (t .branch) (leading label stage) ⌝ }
+fn share_for(sh: Shape, t: Joint, lead: Lead, work: &[u32], c: usize, goal: u32) -> usize
+    requires { ⌜ Ready sh (now work) × JointFits sh t × RuleFits sh (t .branch) (leading lead) ⌝ }
     requires { ⌜ c ≤ sh .budget ⌝ }
-    ensures { λ r. ⌜ (0 < goal → reachOf sh (now (work .entry)) t c (leading label stage) ≤ goal → Reaches (reachOf sh (now (work .entry)) t c (leading label stage)) (shareOf sh (now (work .entry)) t c (leading label stage)) goal c r) ⌝ }
+    ensures { λ r. ⌜ (0 < goal → reachOf sh (now (work .entry)) t c (leading lead) ≤ goal → Reaches (reachOf sh (now (work .entry)) t c (leading lead)) (shareOf sh (now (work .entry)) t c (leading lead)) goal c r) ⌝ }
 {
     if t.branch {
-        return first_share(sh, t, label, stage, work, c, goal);
+        return first_share(sh, t, lead, work, c, goal);
     }
-    if !serves(t.item, label) {
+    if !serves(t.item, lead.kind, lead.label) {
         return c + 1;
     }
-    let d = draw_of(t.item, label);
+    let d = draw_of(t.item, lead.label);
     if c < d {
         return c + 1;
     }
-    let own = own_of(t.item, label);
-    let row = row_at(sh, work, t.rest, stage, c - d);
+    let own = own_of(t.item, lead.label);
+    let row = row_at(sh, work, t.rest, lead.stage, c - d);
     if cell::join(own, row) == goal {
         return d;
     }
@@ -102,16 +95,15 @@ fn chosen(sh: Shape, o: &[u16], t: Joint, r: Rules, work: &[u32], c: usize, goal
 {
     let mut j = next_rule(o, r, 0);
     while j < r.count {
-        let label = label_of(o, r, j);
-        let stage = stage_of(o, r, j);
-        let share = share_for(sh, t, label, stage, work, c, goal);
+        let lead = lead_of(o, r, j);
+        let share = share_for(sh, t, lead, work, c, goal);
         if share <= c {
             return Choice {
                 rule: (j + 1) as u8,
-                label: label as u8,
+                label: lead.label as u8,
                 share: share,
                 rest: t.rest,
-                stage: stage as u8,
+                stage: lead.stage as u8,
                 left: c - share,
             };
         }

@@ -106,5 +106,8 @@ pub(crate) fn trace(sh: Shape, o: &[u16], work: &[u32]) -> StoredOutcome
         s = pass_next(sh, o, work, s, i);
     }
     let run = s.run;
-    StoredOutcome { status: PLANNED, run }
+    StoredOutcome {
+        status: PLANNED,
+        run,
+    }
 }

@@ -73,22 +73,28 @@ module _ (m : RuleRange) (ts : List Transition) (fit : (j : ℕ) → j < length 
   leads (suc j) h = fit j h .leads .0
 
   module _ (n q : ℕ) (x : Bool) where
-    -- the load rule begins with the state, or gives no stage
-    pub load-none : guard (eqb (rule ts n .from) q) (rule ts n .to) ≡ 0 → begins ts n q && x ≡ false
-    load-none e = go (begins ts n q) refl
-      where
-        go : (b : Bool) → begins ts n q ≡ b → b && x ≡ false
-        go false h = refl
-        go true h =
-            let p = named-begins ts n q h in
-            absurd (omega (arith, leads n (p .0), rw (eq-eqb (rule ts n .from) q (p .1)) at e))
+    module _ (k : ℕ) where
+      -- the load rule begins with the state and is of the load's kind, or gives no stage
+      pub load-none : guard (eqb (rule ts n .from) q && eqb (rule ts n .kind) k) (rule ts n .to) ≡ 0
+          → begins ts n q && (eqb (rule ts n .kind) k && x) ≡ false
+      load-none e = go (begins ts n q) (eqb (rule ts n .kind) k) refl refl
+        where
+          go : (b d : Bool) → begins ts n q ≡ b → eqb (rule ts n .kind) k ≡ d → b && (d && x) ≡ false
+          go false d h f = refl
+          go true false h f = refl
+          go true true h f =
+              let p = named-begins ts n q h in
+              absurd (omega (arith, leads n (p .0), rw (eq-eqb (rule ts n .from) q (p .1), f) at e))
 
-    pub load-some : 0 < guard (eqb (rule ts n .from) q) (rule ts n .to)
-        → (begins ts n q && x ≡ x) × (guard (eqb (rule ts n .from) q) (rule ts n .to) ≡ rule ts n .to)
-    load-some h =
-        let p = guard-pass (eqb (rule ts n .from) q) (rule ts n .to) h in
-        let named = named-by (λ r. r .to) refl ts n (omega (arith, p .1)) in
-        (rw (begins-named ts n q named (eqb-true (rule ts n .from) q (p .0))), p .1)
+      pub load-some : 0 < guard (eqb (rule ts n .from) q && eqb (rule ts n .kind) k) (rule ts n .to)
+          → (begins ts n q && (eqb (rule ts n .kind) k && x) ≡ x)
+          × (guard (eqb (rule ts n .from) q && eqb (rule ts n .kind) k) (rule ts n .to) ≡ rule ts n .to)
+      load-some h =
+          let p = guard-pass (eqb (rule ts n .from) q && eqb (rule ts n .kind) k) (rule ts n .to) h in
+          let begin = and-left (eqb (rule ts n .from) q) (eqb (rule ts n .kind) k) (p .0) in
+          let serve = and-right (eqb (rule ts n .from) q) (eqb (rule ts n .kind) k) (p .0) in
+          let named = named-by (λ r. r .to) refl ts n (omega (arith, p .1)) in
+          (rw (begins-named ts n q named (eqb-true (rule ts n .from) q begin), serve), p .1)
 
     module _ (g : ℕ) where
       -- the row rule begins at the stage and gives the state, or its own stage is another

@@ -12,7 +12,7 @@ use Rattle.tables.specs.declared.rule.Sort.the-variants as sort
 use Rattle.tables.specs.Tables.{Tables, noLoad}
 use Rattle.tables.specs.Lawful.{Lawful}
 use Rattle.meaning.specs.Forest.{planned}
-use Rattle.meaning.specs.Cells.{firstChild, nextSibling}
+use Rattle.meaning.specs.Cells.{loadAt, firstChild, nextSibling}
 use Rattle.meaning.specs.Runs.{Assigned, rule}
 use Rattle.meaning.specs.Judge.{begins, judge}
 use Rattle.meaning.proofs.Tree.{row-after}
@@ -37,14 +37,14 @@ module _ (t : Tables) (ρ : ℕ → Assigned) where
     -- the branch of load k
     branch-none : (k : ℕ) → stepAt t ρ k .begin ≡ 0 → false ≡ branchRuns t ρ k
     unfolding branchRuns stepOf
-    branch-none k e = sym (load-none _ (t .book .loadRules) (lawful .rule sort.Load) (ρ k .loadRule) (ρ k .state) _ e)
+    branch-none k e = sym (load-none _ (t .book .loadRules) (lawful .rule sort.Load) (ρ k .loadRule) (ρ k .state) _ (loadAt (t .loads) k .kind) e)
 
     branch-some : (k : ℕ) → 0 < stepAt t ρ k .begin → rowRuns t ρ (firstChild (t .loads) k) (stepAt t ρ k .begin) ≡ branchRuns t ρ k
     unfolding branchRuns stepOf
     branch-some k h =
         let row = rowRuns t ρ (firstChild (t .loads) k) in
         let p = load-some _ (t .book .loadRules) (lawful .rule sort.Load) (ρ k .loadRule) (ρ k .state)
-        (row (rule (t .book .loadRules) (ρ k .loadRule) .to)) h in
+        (row (rule (t .book .loadRules) (ρ k .loadRule) .to)) (loadAt (t .loads) k .kind) h in
         ap row (p .1) ∙ sym (p .0)
 
     -- the row from load k onward, at stage g

@@ -17,7 +17,7 @@ use tables::rule::TransitionList;
 use tables::tables::StoredTables;
 
 // Of one load: the stage at which the row of its children begins, the stage at which its row rule begins, and the stage at which its row
-// goes on. A stage is 0 where the rule names nothing or does not fit the load's state.
+// goes on. A stage is 0 where the rule names nothing or does not fit the load's state, or its kind.
 pub struct Step {
     pub begin: u8,
     pub stage: u8,
@@ -54,21 +54,22 @@ fn only(test: bool, x: u8) -> u8
     if test { x } else { 0 }
 }
 
-// The step of a load with these three numbers.
+// The step of a load of this kind with these three numbers.
 fn step_of(
     load_rules: TransitionList,
     row_rules: TransitionList,
+    kind: u8,
     state: u32,
     load_rule: u32,
     row_rule: u32,
 ) -> Step
     requires { ⌜ («load_rules» .count ≤ maxRules) × («row_rules» .count ≤ maxRules) ⌝ }
-    ensures { λ r. ⌜ r ≡ stepOf (rulesOf «load_rules») (rulesOf «row_rules») (record { state = state; loadRule = «load_rule»; rowRule = «row_rule» }) ⌝ }
+    ensures { λ r. ⌜ r ≡ stepOf (rulesOf «load_rules») (rulesOf «row_rules») kind (record { state = state; loadRule = «load_rule»; rowRule = «row_rule» }) ⌝ }
 {
     let l = rule_at(load_rules, load_rule);
     let r = rule_at(row_rules, row_rule);
     Step {
-        begin: only(l.from as u32 == state, l.to),
+        begin: only((l.from as u32 == state) & (l.kind == kind), l.to),
         stage: only(r.label as u32 == state, r.from),
         next: r.to,
     }
@@ -88,8 +89,16 @@ pub(crate) fn look_up(t: StoredTables, run: &[u32]) -> Figures
     let mut nexts = [0u8; MAX_LOADS];
     for i in 0..loads.count {
         let at = 3 * i;
-        let s = step_of(load_rules, row_rules, run[at], run[at + 1], run[at + 2]);
-        parents[i] = loads.items[i].parent;
+        let l = loads.items[i];
+        let s = step_of(
+            load_rules,
+            row_rules,
+            l.kind,
+            run[at],
+            run[at + 1],
+            run[at + 2],
+        );
+        parents[i] = l.parent;
         begins[i] = s.begin;
         stages[i] = s.stage;
         nexts[i] = s.next;

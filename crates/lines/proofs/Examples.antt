@@ -11,6 +11,7 @@ use Rattle.lists.specs.Tests.{every, some}
 use Rattle.lists.specs.Pairs.{none, both}
 use Rattle.marks.specs.Bits.{withMark}
 use Rattle.marks.specs.Sets.{joined}
+use Rattle.lines.specs.declared.SaveForm.the-variants.{Kinds, Plain}
 use Rattle.lines.specs.declared.Command.{Command}
 use Rattle.lines.specs.declared.Command.the-variants.{Change, Plan, Check, Save, Broken}
 use Rattle.lines.specs.declared.Change.the-variants.{Clear, Book, Start, End, Rule, Row, Load, Power, Worth, Budget, Drop}
@@ -26,18 +27,24 @@ abbrev reads : String → Command
 reads s = parse (bytes s)
 
 session : map reads ("book,2,2" ∷ "start,1" ∷ "end,2" ∷ "rule,1,0,2" ∷ "row,2,2,2" ∷ "load,0,10,0" ∷ "budget,30" ∷ "plan" ∷ "check,0100" ∷ "budget,501" ∷ [])
-    ≡ Change (Book 2 2) ∷ Change (Start 1) ∷ Change (End 2) ∷ Change (Rule 1 0 2) ∷ Change (Row 2 2 2) ∷ Change (Load 0 10 0) ∷ Change (Budget 30) ∷ Plan ∷ Check (record { 0 = 2 }) 4 ∷ Change (Budget 501) ∷ []
+    ≡ Change (Book 2 2) ∷ Change (Start 1) ∷ Change (End 2) ∷ Change (Rule 1 0 2 0) ∷ Change (Row 2 2 2) ∷ Change (Load 0 10 0 0) ∷ Change (Budget 30) ∷ Plan ∷ Check (record { 0 = 2 }) 4 ∷ Change (Budget 501) ∷ []
 unfolding same fields isNumber valueFrom isBits joinedFrom findForm parse every withMark joined
 session = refl
 
-others : map reads ("clear" ∷ "power,64,99999" ∷ "worth,0,1000" ∷ "check,1" ∷ "save" ∷ "drop,3" ∷ "drop,00000" ∷ [])
-    ≡ Change Clear ∷ Change (Power 64 99999) ∷ Change (Worth 0 1000) ∷ Check (record { 0 = 1 }) 1 ∷ Save ∷ Change (Drop 3) ∷ Change (Drop 0) ∷ []
+others : map reads ("clear" ∷ "power,64,99999" ∷ "worth,0,1000" ∷ "check,1" ∷ "save" ∷ "save1" ∷ "drop,3" ∷ "drop,00000" ∷ [])
+    ≡ Change Clear ∷ Change (Power 64 99999) ∷ Change (Worth 0 1000) ∷ Check (record { 0 = 1 }) 1 ∷ Save Kinds ∷ Save Plain ∷ Change (Drop 3) ∷ Change (Drop 0) ∷ []
 unfolding same fields isNumber valueFrom isBits joinedFrom findForm parse every withMark joined
 others = refl
 
+-- "as last field of their lines"; "Lines without it mean kind 0."
+kinds : map reads ("rule,1,0,2,3" ∷ "rule,1,0,2,0" ∷ "rule,1,0,2" ∷ "rule,1,0,2,00004" ∷ "load,0,10,0,1" ∷ "load,0,10,0,0" ∷ "load,0,10,0" ∷ [])
+    ≡ Change (Rule 1 0 2 3) ∷ Change (Rule 1 0 2 0) ∷ Change (Rule 1 0 2 0) ∷ Change (Rule 1 0 2 4) ∷ Change (Load 0 10 0 1) ∷ Change (Load 0 10 0 0) ∷ Change (Load 0 10 0 0) ∷ []
+unfolding same fields isNumber valueFrom isBits joinedFrom findForm parse every withMark joined
+kinds = refl
+
 -- "The new handheld keypad sends `load,001,015,040`": zeros in front, still within five digits; the bits of a check are no number
 keypad : map reads ("load,001,015,040" ∷ "start,00001" ∷ "budget,00000" ∷ "budget,00501" ∷ "power,00001,00000" ∷ "check,0001" ∷ [])
-    ≡ Change (Load 1 15 40) ∷ Change (Start 1) ∷ Change (Budget 0) ∷ Change (Budget 501) ∷ Change (Power 1 0) ∷ Check (record { 0 = 8 }) 4 ∷ []
+    ≡ Change (Load 1 15 40 0) ∷ Change (Start 1) ∷ Change (Budget 0) ∷ Change (Budget 501) ∷ Change (Power 1 0) ∷ Check (record { 0 = 8 }) 4 ∷ []
 unfolding same fields isNumber valueFrom isBits joinedFrom findForm parse every withMark joined
 keypad = refl
 
@@ -55,7 +62,8 @@ unsound : List String
 unsound =
     "" ∷ "," ∷ "Plan" ∷ "plans" ∷ "pla" ∷ "plan," ∷ "clear," ∷ " plan" ∷ "plan " ∷ "plan\n" ∷ "plan\r" ∷ ",plan" ∷ "clear,1" ∷ "Save" ∷ "saves" ∷ "sav" ∷ "save," ∷ "save,1" ∷ "budgets,1"
     ∷ "budget" ∷ "budget," ∷ "budget,100000" ∷ "budget,000000" ∷ "budget,000001" ∷ "budget,-1" ∷ "budget,+1" ∷ "budget,1.0" ∷ "budget,1a" ∷ "budget, 1"
-    ∷ "budget,1 " ∷ "budget,501," ∷ "budget,1,2" ∷ "book,1" ∷ "book,1,2,3" ∷ "book,,2" ∷ "load,0,501,x" ∷ "load,0,1" ∷ "load,0,1,1,0"
+    ∷ "budget,1 " ∷ "budget,501," ∷ "budget,1,2" ∷ "book,1" ∷ "book,1,2,3" ∷ "book,,2" ∷ "load,0,501,x" ∷ "load,0,1" ∷ "load,0,1,1," ∷ "load,0,1,1,0,0" ∷ "load,0,1,1,000000"
+    ∷ "rule,1,0" ∷ "rule,1,0,1," ∷ "rule,1,0,1,," ∷ "rule,1,0,1,0,0" ∷ "row,1,1,1,0" ∷ "row,1,1,1," ∷ "save1," ∷ "save1,0" ∷ "save2" ∷ "save01" ∷ "save 1"
     ∷ "drop" ∷ "drop," ∷ "drop,1,2" ∷ "drop,-1" ∷ "drop,100000" ∷ "Drop,1" ∷ "drops,1" ∷ "dro,1" ∷ "check" ∷ "check," ∷ "check,012" ∷ "check,0,1" ∷ "check,01," ∷ "check,,01" ∷ []
 
 all-broken : map reads unsound ≡ replicate (length unsound) Broken

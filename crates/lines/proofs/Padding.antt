@@ -1,8 +1,10 @@
--- Lines that differ only in leading zeros ask for the same; and numbers with the same value differ only in them. Assumes nothing.
+-- Lines that differ only in leading zeros, or in a kind 0 written out, ask for the same; and numbers with the same value differ only in such zeros.
+-- Assumes nothing.
 use Prim.Native.Nat.{ℕ, zero, suc, _+_, _-_, _*_, _≤_}
 use mathlib.Core.Path.{_≡_, refl, sym, ap, ap₂, _∙_}
 use mathlib.Core.Bool.{Bool, true, false, _&&_}
 use mathlib.Core.List.{List, [], _∷_, _++_, map}
+use mathlib.Core.Logic.{_⊎_, inl, inr}
 use native.Mathlib.Omega.{arith}
 use borrow.Author.Tests.{le-leb, leb-true, le-ltb, eqb-true, eqb-false}
 use lib.Dec.{eqb, leb}
@@ -10,10 +12,13 @@ use lib.ListN.{length, getD, drop}
 use Rattle.lists.specs.Tests.{pick, every}
 use Rattle.lists.specs.Pairs.{Pairwise, none, both}
 use Rattle.lists.proofs.Bools.{and-left, and-right}
-use Rattle.lines.specs.Text.{nought, same, decimal}
+use Rattle.lines.specs.declared.Command.{Command}
+use Rattle.lines.specs.declared.Command.the-variants.{Change, Broken}
+use Rattle.lines.specs.declared.Change.the-variants.{Rule, Load}
+use Rattle.lines.specs.Text.{bytes, nought, same, decimal}
 use Rattle.lines.specs.Length.{mostBytes, tooLong}
 use Rattle.lines.specs.Grammar.{fields, mostDigits, isDigit, isNumber, valueFrom, value, Form, numbers, bits, table, findForm, command, parse}
-use Rattle.lines.specs.Padding.{unpadded, SameField, equal, padded, firstWord, laterFields, OnlyZeros, SameLine, identical, zeros}
+use Rattle.lines.specs.Padding.{unpadded, SameField, equal, padded, firstWord, laterFields, OnlyZeros, KindWritten, SameLine, identical, zeros, kindWritten, kindLeftOut}
 use Rattle.lines.proofs.Fields.{Cons, cons, fields-cons}
 use Rattle.lines.proofs.Codes.{not-same}
 use Rattle.lines.proofs.Rows.{check, Kept, kept}
@@ -89,15 +94,66 @@ zeros-parse s t z = go (fields s) (fields-cons s) (fields t) (fields-cons t) (z 
         → command ls ≡ command ms
     go ls (cons v fs) ms (cons w gs) e o h = same-found v (not-same check v (λ q. o (sym q))) h table kept ∙ ap (λ (x : List ℕ). findForm table x gs) e
 
+-- ---- and so does a line with a kind 0 written out
+abbrev kindless : (isNumbers : Bool) → Command → Command
+kindless b c = pick b c Broken
+
+module _ (a b c z : List ℕ) (is : isNumber z ≡ true) (zero-kind : value z ≡ 0) where
+  abbrev three : Bool
+  three = isNumber a && (isNumber b && (isNumber c && true))
+
+  abbrev four : Bool
+  four = isNumber a && (isNumber b && (isNumber c && (isNumber z && true)))
+
+  same-numbers-all : four ≡ three
+  same-numbers-all = ap (λ (x : Bool). isNumber a && (isNumber b && (isNumber c && (x && true)))) is
+
+  rule-written : findForm table (bytes "rule") (a ∷ b ∷ c ∷ []) ≡ findForm table (bytes "rule") (a ∷ b ∷ c ∷ z ∷ [])
+  unfolding findForm same every valueFrom
+  rule-written = ap₂ (λ (x : Bool) (k : ℕ). kindless x (Change (Rule (value a) (value b) (value c) k))) (sym same-numbers-all) (sym zero-kind)
+
+  load-written : findForm table (bytes "load") (a ∷ b ∷ c ∷ []) ≡ findForm table (bytes "load") (a ∷ b ∷ c ∷ z ∷ [])
+  unfolding findForm same every valueFrom
+  load-written = ap₂ (λ (x : Bool) (k : ℕ). kindless x (Change (Load (value a) (value b) (value c) k))) (sym same-numbers-all) (sym zero-kind)
+
+-- three fields, and one more
+written-found : (w : List ℕ) → (w ≡ bytes "rule") ⊎ (w ≡ bytes "load") → (fs : List (List ℕ)) → length fs ≡ 3 → (z : List ℕ) → isNumber z ≡ true → value z ≡ 0
+    → findForm table w fs ≡ findForm table w (fs ++ (z ∷ []))
+written-found w k [] n z is e = absurd (omega arith)
+written-found w k (a ∷ []) n z is e = absurd (omega arith)
+written-found w k (a ∷ b ∷ []) n z is e = absurd (omega arith)
+written-found w (inl r) (a ∷ b ∷ c ∷ []) n z is e = rw r (rule-written a b c z is e)
+written-found w (inr l) (a ∷ b ∷ c ∷ []) n z is e = rw l (load-written a b c z is e)
+written-found w k (a ∷ b ∷ c ∷ d ∷ fs) n z is e = absurd (omega arith)
+
+parse-fields : (s : List ℕ) → parse s ≡ findForm table (firstWord s) (laterFields s)
+unfolding parse
+parse-fields s = go (fields s) (fields-cons s)
+  where
+    go : (ls : List (List ℕ)) → Cons ls → command ls ≡ findForm table (getD ls 0 []) (drop 1 ls)
+    go ls (cons v fs) = refl
+
+kind-parse : (s t : List ℕ) → KindWritten s t → parse s ≡ parse t
+kind-parse s t k =
+    parse-fields s ∙ written-found (firstWord s) (k .kinded) (laterFields s) (k .three) (k .kind) (k .number) (k .nought)
+    ∙ ap₂ (findForm table) (k .word) (sym (k .last)) ∙ sym (parse-fields t)
+
+short-both : (s t : List ℕ) → length s ≤ mostBytes → length t ≤ mostBytes → tooLong s ≡ tooLong t
+short-both s t l m = le-ltb mostBytes (length s) l ∙ sym (le-ltb mostBytes (length t) m)
+
 module _ {s t : List ℕ} where
   -- and so such lines ask for the same, also by their length
   pub same-command : SameLine s t → parse s ≡ parse t
   same-command (identical e) = ap parse e
   same-command (zeros l m z) = zeros-parse s t z
+  same-command (kindWritten l m k) = kind-parse s t k
+  same-command (kindLeftOut l m k) = sym (kind-parse t s k)
 
   pub same-long : SameLine s t → tooLong s ≡ tooLong t
   same-long (identical e) = ap tooLong e
-  same-long (zeros l m z) = le-ltb mostBytes (length s) l ∙ sym (le-ltb mostBytes (length t) m)
+  same-long (zeros l m z) = short-both s t l m
+  same-long (kindWritten l m k) = short-both s t l m
+  same-long (kindLeftOut l m k) = short-both s t l m
 
 -- ---- and no others do: numbers with the same value differ only in such zeros
 one-digit : (b : ℕ) → isDigit b ≡ true → decimal (0 * 10 + (b - nought)) ≡ b ∷ []

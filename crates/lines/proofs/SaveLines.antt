@@ -9,6 +9,7 @@ use Rattle.lists.specs.Each.{Each}
 use Rattle.lists.proofs.Each.{each-imply}
 use Rattle.tables.specs.Tables.{Tables}
 use Rattle.tables.specs.Limits.{Limits}
+use Rattle.lines.specs.declared.SaveForm.{SaveForm}
 use Rattle.lines.specs.declared.Change.{Change}
 use Rattle.lines.specs.Text.{comma, lineFeed, decimal}
 use Rattle.lines.specs.Grammar.{lineOf}
@@ -21,7 +22,7 @@ use Rattle.lines.proofs.Decimal.{decimal-digits}
 use Rattle.lines.proofs.Without.{Without, none, byte, without-append, without-digits, lines-first}
 use Rattle.lines.proofs.Padding.{decimal-unpadded}
 use Rattle.lines.proofs.Written.{letters-without, line-fields, change-row, written-parses}
-use Rattle.lines.proofs.SaveText.{FewDigits, saved-few, line-length, save-fits}
+use Rattle.lines.proofs.SaveText.{FewDigits, saved-few, saved-same, line-length, weight-few, digits-short, save-fits}
 
 -- ---- no line feed in a line
 line-without : (ns : List ℕ) {w : List ℕ} → Without lineFeed w → Without lineFeed (line w ns)
@@ -29,36 +30,36 @@ unfolding parted
 line-without [] p = p
 line-without (n ∷ ns) p = without-append p (byte refl (line-without ns (without-digits lineFeed (omega arith) (decimal n) (decimal-digits n))))
 
-written-without : (c : Change) → Without lineFeed (written c)
-written-without c = line-without (lineOf c .values) (letters-without lineFeed (omega arith) (lineOf c .word) (change-row c .letters))
+written-without : (f : SaveForm) (c : Change) → Without lineFeed (written f c)
+written-without f c = line-without (lineOf f c .values) (letters-without lineFeed (omega arith) (lineOf f c .word) (change-row f c .letters))
 
 -- a text, whatever comes after it, is cut into the lines of its changes
-pub lines-before : (cs : List Change) (r : List ℕ) → lines (changesText cs ++ r) ≡ map written cs ++ lines r
+pub lines-before : (f : SaveForm) (cs : List Change) (r : List ℕ) → lines (changesText f cs ++ r) ≡ map (written f) cs ++ lines r
 unfolding changesText
-lines-before [] r = refl
-lines-before (c ∷ cs) r =
-    ap lines (append-assoc (changeLine c) (changesText cs) r ∙ append-snoc (written c) lineFeed (changesText cs ++ r))
-    ∙ lines-first (changesText cs ++ r) (written-without c) ∙ ap (λ (ls : List (List ℕ)). written c ∷ ls) (lines-before cs r)
+lines-before f [] r = refl
+lines-before f (c ∷ cs) r =
+    ap lines (append-assoc (changeLine f c) (changesText f cs) r ∙ append-snoc (written f c) lineFeed (changesText f cs ++ r))
+    ∙ lines-first (changesText f cs ++ r) (written-without f c) ∙ ap (λ (ls : List (List ℕ)). written f c ∷ ls) (lines-before f cs r)
 
-text-lines : (cs : List Change) → lines (changesText cs) ≡ map written cs
+text-lines : (f : SaveForm) (cs : List Change) → lines (changesText f cs) ≡ map (written f) cs
 unfolding lines
-text-lines cs = ap lines (sym (append-nil (changesText cs))) ∙ lines-before cs [] ∙ append-nil (map written cs)
+text-lines f cs = ap lines (sym (append-nil (changesText f cs))) ∙ lines-before f cs [] ∙ append-nil (map (written f) cs)
 
 -- ---- each line is read back
 all-unpadded : (ns : List ℕ) → Each (λ f. unpadded f ≡ f) (map decimal ns)
 all-unpadded [] = each.none
 all-unpadded (n ∷ ns) = each.more (decimal-unpadded n) (all-unpadded ns)
 
-read-back : (c : Change) → FewDigits c → ReadBack c
+read-back : (f : SaveForm) (c : Change) → FewDigits f c → ReadBack f c
 unfolding FewDigits
-read-back c h =
-    let l = lineOf c in
-    let r = change-row c in
+read-back f c h =
+    let l = lineOf f c in
+    let r = change-row f c in
     record {
-      short = omega (arith, line-length (l .word) h, r .few, r .count);
-      read = written-parses c (each-imply (λ n few. omega arith) h);
+      short = omega (arith, line-length (l .word) h, weight-few h, r .few, r .count);
+      read = written-parses f c (digits-short h);
       unpadded = rw (line-fields (l .values) (letters-without comma (omega arith) (l .word) (r .letters))) (all-unpadded (l .values));
     }
 
-pub save-lines : (t : Tables) → Limits t → SaveLines t
-save-lines t h = record { fits = save-fits t h; cut = text-lines (saved t); back = each-imply read-back (saved-few t h) }
+pub save-lines : (f : SaveForm) (t : Tables) → Limits t → SaveLines f t
+save-lines f t h = record { fits = save-fits f t h; cut = text-lines f (saved t); back = each-imply (read-back f) (saved-few f t h); same = saved-same f t }

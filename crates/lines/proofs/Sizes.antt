@@ -137,7 +137,7 @@ abbrev withNumbers : Command → Bool
 withNumbers (Change x) = true
 withNumbers Plan = true
 withNumbers (Check σ n) = false
-withNumbers Save = true
+withNumbers (Save f) = true
 withNumbers Last = true
 withNumbers Broken = false
 withNumbers TooLong = false

@@ -12,11 +12,12 @@ use Rattle.lists.specs.Each as each
 use Rattle.lists.proofs.Bools.{and-left, and-right, or-left, or-right}
 use Rattle.marks.specs.declared.LoadSet.{LoadSet}
 use Rattle.marks.specs.Sets.{hasLoad}
+use Rattle.lines.specs.declared.SaveForm.{SaveForm}
 use Rattle.lines.specs.declared.Change as change
 use Rattle.lines.specs.declared.Command.{Command}
 use Rattle.lines.specs.declared.Command.the-variants.{Change, Check, Broken}
 use Rattle.lines.specs.Text.{comma, nought, same, decimal}
-use Rattle.lines.specs.Grammar.{fields, isNumber, value, isBit, isBits, loadsOf, Form, numbers, bits, table, findForm, parse, meant, lineOf}
+use Rattle.lines.specs.Grammar.{fields, isNumber, value, isBit, isBits, loadsOf, Form, numbers, bits, table, findForm, parse, meant, told, lineOf}
 use Rattle.lines.specs.Written.{parted, line, Short, written, bitsIn, writtenCheck}
 use Rattle.lines.proofs.Codes.{same-is, same-refl}
 use Rattle.lines.proofs.Decimal.{decimal-digits, decimal-form, decimal-value}
@@ -109,14 +110,14 @@ meant-row w ns (numbers v n f ∷ xs) q h = go (same v w) refl (eqb (length ns) 
     go false e u d h ih = ih h
 meant-row w ns (bits v f ∷ xs) q h = meant-row w ns xs (q .1) h
 
-pub change-row : (c : change.Change) → Row (lineOf c .word) (length (lineOf c .values))
-change-row c = let l = lineOf c in meant-row (l .word) (l .values) table kept (λ e. absurd (let z : _≡_ {A = ℕ} 0 1 = cc (l .means) in omega arith))
+pub change-row : (f : SaveForm) (c : change.Change) → Row (lineOf f c .word) (length (lineOf f c .values))
+change-row f c = let l = lineOf f c in meant-row (l .word) (l .values) table kept (λ e. absurd (let z : _≡_ {A = ℕ} 0 1 = cc (l .means) in omega arith))
 
--- it is read as that change
-pub written-parses : (c : change.Change) → Short (lineOf c .values) → parse (written c) ≡ Change c
-written-parses c s =
-    let l = lineOf c in
-    let r = change-row c in
+-- it is read as the change that it tells
+pub written-parses : (f : SaveForm) (c : change.Change) → Short (lineOf f c .values) → parse (written f c) ≡ Change (told f c)
+written-parses f c s =
+    let l = lineOf f c in
+    let r = change-row f c in
     line-meant (l .word) (l .values) (r .letters) (r .other) s ∙ l .means
 
 -- ---- the field of bits

@@ -42,7 +42,7 @@ abbrev pub numberOf : Answer → ℕ
 numberOf Accepted = 0
 numberOf (Planned v w n) = 0
 numberOf Allowed = 0
-numberOf Saved = 0
+numberOf (Saved f) = 0
 numberOf (Refused n) = n
 
 -- its text: with the lines of the run beside it, or of the changes that a save writes
@@ -50,7 +50,7 @@ abbrev pub textOf : Answer → List Entry → List Change → List ℕ
 textOf Accepted es cs = ok
 textOf (Planned v w n) es cs = planLine v w n ++ entryLines es
 textOf Allowed es cs = yes ++ entryLines es
-textOf Saved es cs = changesText cs
+textOf (Saved f) es cs = changesText f cs
 textOf (Refused n) es cs = refused n
 
 -- the answer of a change with this number

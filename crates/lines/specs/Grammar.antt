@@ -1,6 +1,6 @@
--- The commands, and how a line is read: paper 01, "Lines", with `save` and `drop` of requests Two and Three of paper 02. `parse` gives every
+-- The commands, and how a line is read: paper 01, "Lines", with `save`, `drop`, `last` and `save1` of requests Two, Three, Five and Eight of paper 02. `parse` gives every
 -- line of bytes its command, and `Broken` to each that is "no command of the table, wrong field count or form". The length of a line is judged
--- apart (`Length`), and first: `lineCommand`. `lineOf` gives every change its line. Assumes nothing.
+-- apart (`Length`), and first: `lineCommand`. `lineOf` gives every change its line, in each form of a save. Assumes nothing.
 use Prim.Native.Nat.{ℕ, suc, _+_, _-_, _*_}
 use Prim.Native.String.{String}
 use mathlib.Core.Path.{_≡_, refl}
@@ -13,6 +13,8 @@ use Rattle.marks.specs.declared.LoadSet.{LoadSet}
 use Rattle.marks.specs.Sets.{noLoads, joined}
 use Rattle.lines.specs.declared.Command.{Command}
 use Rattle.lines.specs.declared.Command.the-variants.{Change, Plan, Check, Save, Last, Broken, TooLong}
+use Rattle.lines.specs.declared.SaveForm.{SaveForm}
+use Rattle.lines.specs.declared.SaveForm.the-variants.{Kinds, Plain}
 use Rattle.lines.specs.declared.Change as change
 use Rattle.lines.specs.declared.Change.the-variants.{Clear, Book, Start, End, Rule, Row, Load, Power, Worth, Budget, Drop}
 use Rattle.lines.specs.Text.{bytes, comma, nought, same}
@@ -63,7 +65,8 @@ joinedFrom k s (b ∷ bs) = joinedFrom (suc k) (pick (eqb b (nought + 1)) (joine
 abbrev pub loadsOf : List ℕ → LoadSet
 loadsOf f = joinedFrom 1 noLoads f
 
--- ---- the table: a line has a word and some fields, each a number, or one field of bits
+-- ---- the table: a line has a word and some fields, each a number, or one field of bits. "A load and a load rule each gain a kind .. as last field
+-- of their lines"; "Lines without it mean kind 0." of request Eight of paper 02.
 pub data Form : Type 0 where
   numbers : (word : List ℕ) (count : ℕ) (command : (ℕ → ℕ) → Command) → Form
   bits : (word : List ℕ) (command : LoadSet → ℕ → Command) → Form
@@ -74,15 +77,18 @@ table =
     ∷ numbers (bytes "book") 2 (λ n. Change (Book (n 1) (n 2)))
     ∷ numbers (bytes "start") 1 (λ n. Change (Start (n 1)))
     ∷ numbers (bytes "end") 1 (λ n. Change (End (n 1)))
-    ∷ numbers (bytes "rule") 3 (λ n. Change (Rule (n 1) (n 2) (n 3)))
+    ∷ numbers (bytes "rule") 3 (λ n. Change (Rule (n 1) (n 2) (n 3) 0))
+    ∷ numbers (bytes "rule") 4 (λ n. Change (Rule (n 1) (n 2) (n 3) (n 4)))
     ∷ numbers (bytes "row") 3 (λ n. Change (Row (n 1) (n 2) (n 3)))
-    ∷ numbers (bytes "load") 3 (λ n. Change (Load (n 1) (n 2) (n 3)))
+    ∷ numbers (bytes "load") 3 (λ n. Change (Load (n 1) (n 2) (n 3) 0))
+    ∷ numbers (bytes "load") 4 (λ n. Change (Load (n 1) (n 2) (n 3) (n 4)))
     ∷ numbers (bytes "power") 2 (λ n. Change (Power (n 1) (n 2)))
     ∷ numbers (bytes "worth") 2 (λ n. Change (Worth (n 1) (n 2)))
     ∷ numbers (bytes "budget") 1 (λ n. Change (Budget (n 1)))
     ∷ numbers (bytes "plan") 0 (λ n. Plan)
     ∷ bits (bytes "check") (λ s n. Check s n)
-    ∷ numbers (bytes "save") 0 (λ n. Save)
+    ∷ numbers (bytes "save") 0 (λ n. Save Kinds)
+    ∷ numbers (bytes "save1") 0 (λ n. Save Plain)
     ∷ numbers (bytes "drop") 1 (λ n. Change (Drop (n 1)))
     ∷ numbers (bytes "last") 0 (λ n. Last)
     ∷ []
@@ -119,25 +125,63 @@ meant [] v ns = Broken
 meant (numbers w n c ∷ xs) v ns = pick (same w v && eqb (length ns) n) (c (λ k. getD ns (k - 1) 0)) (meant xs v ns)
 meant (bits w c ∷ xs) v ns = meant xs v ns
 
--- a word and numbers for which it has just this change
-pub record Line (c : change.Change) : Type 0 where
+-- the forms of a save: "`save` now writes every kind, 0 too, and `save1` writes the form of request Two", which has none. The last number of the line
+-- of a load and of a load rule, how many numbers they have, and the kind that they tell: "Lines without it mean kind 0."
+abbrev pub kindIn : SaveForm → (kind : ℕ) → List ℕ
+kindIn Kinds k = k ∷ []
+kindIn Plain k = []
+
+abbrev pub numbersIn : SaveForm → ℕ
+numbersIn Kinds = 4
+numbersIn Plain = 3
+
+abbrev pub kindTold : SaveForm → (kind : ℕ) → ℕ
+kindTold Kinds k = k
+kindTold Plain k = 0
+
+-- the change that the line of a change tells in a form
+abbrev pub told : SaveForm → change.Change → change.Change
+told f Clear = Clear
+told f (Book s g) = Book s g
+told f (Start q) = Start q
+told f (End g) = End g
+told f (Rule q m g k) = Rule q m g (kindTold f k)
+told f (Row g q h) = Row g q h
+told f (Load p w v k) = Load p w v (kindTold f k)
+told f (Power k w) = Power k w
+told f (Worth k v) = Worth k v
+told f (Budget w) = Budget w
+told f (Drop k) = Drop k
+
+-- a word and numbers for which the table has just that
+pub record Line (f : SaveForm) (c : change.Change) : Type 0 where
   pub word : List ℕ
   pub values : List ℕ
-  pub means : meant table word values ≡ Change c
+  pub means : meant table word values ≡ Change (told f c)
 
-abbrev says : {c : change.Change} (word : String) (values : List ℕ) → meant table (bytes word) values ≡ Change c → Line c
+abbrev says : {f : SaveForm} {c : change.Change} (word : String) (values : List ℕ) → meant table (bytes word) values ≡ Change (told f c) → Line f c
 says w ns e = record { word = bytes w; values = ns; means = e }
 
-unfoldable pub lineOf : (c : change.Change) → Line c
+pub rule-means : (f : SaveForm) (q m g k : ℕ) → meant table (bytes "rule") (q ∷ m ∷ g ∷ kindIn f k) ≡ Change (Rule q m g (kindTold f k))
 unfolding meant same
-lineOf Clear = says "clear" [] refl
-lineOf (Book s g) = says "book" (s ∷ g ∷ []) refl
-lineOf (Start q) = says "start" (q ∷ []) refl
-lineOf (End g) = says "end" (g ∷ []) refl
-lineOf (Rule q m g) = says "rule" (q ∷ m ∷ g ∷ []) refl
-lineOf (Row g q h) = says "row" (g ∷ q ∷ h ∷ []) refl
-lineOf (Load p w v) = says "load" (p ∷ w ∷ v ∷ []) refl
-lineOf (Power k w) = says "power" (k ∷ w ∷ []) refl
-lineOf (Worth k v) = says "worth" (k ∷ v ∷ []) refl
-lineOf (Budget w) = says "budget" (w ∷ []) refl
-lineOf (Drop k) = says "drop" (k ∷ []) refl
+rule-means Kinds q m g k = refl
+rule-means Plain q m g k = refl
+
+pub load-means : (f : SaveForm) (p w v k : ℕ) → meant table (bytes "load") (p ∷ w ∷ v ∷ kindIn f k) ≡ Change (Load p w v (kindTold f k))
+unfolding meant same
+load-means Kinds p w v k = refl
+load-means Plain p w v k = refl
+
+unfoldable pub lineOf : (f : SaveForm) (c : change.Change) → Line f c
+unfolding meant same
+lineOf f Clear = says "clear" [] refl
+lineOf f (Book s g) = says "book" (s ∷ g ∷ []) refl
+lineOf f (Start q) = says "start" (q ∷ []) refl
+lineOf f (End g) = says "end" (g ∷ []) refl
+lineOf f (Rule q m g k) = says "rule" (q ∷ m ∷ g ∷ kindIn f k) (rule-means f q m g k)
+lineOf f (Row g q h) = says "row" (g ∷ q ∷ h ∷ []) refl
+lineOf f (Load p w v k) = says "load" (p ∷ w ∷ v ∷ kindIn f k) (load-means f p w v k)
+lineOf f (Power k w) = says "power" (k ∷ w ∷ []) refl
+lineOf f (Worth k v) = says "worth" (k ∷ v ∷ []) refl
+lineOf f (Budget w) = says "budget" (w ∷ []) refl
+lineOf f (Drop k) = says "drop" (k ∷ []) refl

@@ -37,7 +37,7 @@ fieldsAfter e s = pick (ltb e (length s)) (fields (drop (e + 1) s)) []
 
 -- ---- numbers
 abbrev pub mostNumbers : ℕ
-mostNumbers = 3
+mostNumbers = 4
 
 -- may b be the next digit of a number with so many digits so far?
 abbrev pub mayFollow : (digits b : ℕ) → Bool

@@ -1,7 +1,9 @@
 -- The lines of a save: the changes that rebuild the tables, and their text.
 -- It stands for request Two of paper 02: "`clear`, then `book` if there are states, starts and ends ascending, rules, rows and loads in
--- order, `budget` last. Numbers are written without padding. It needs 3,000 free bytes". Assumes nothing.
+-- order, `budget` last. Numbers are written without padding. It needs 3,000 free bytes"; and for "`save` now writes every kind, 0 too, and `save1`
+-- writes the form of request Two and needs the same free bytes as `save`" of request Eight. Assumes nothing.
 use Prim.Native.Nat.{ℕ, zero, suc}
+use mathlib.Core.Bool.{Bool, false}
 use mathlib.Core.List.{List, [], _∷_, _++_, map}
 use lib.Dec.{eqb}
 use Rattle.lists.specs.Tests.{pick}
@@ -13,6 +15,9 @@ use Rattle.tables.specs.declared.rule.Transition.{Transition}
 use Rattle.tables.specs.declared.load.Load as load
 use Rattle.tables.specs.Tables as tables
 use Rattle.tables.specs.Tables.{Tables}
+use Rattle.tables.specs.Kinds.{hasKinds}
+use Rattle.lines.specs.declared.SaveForm.{SaveForm}
+use Rattle.lines.specs.declared.SaveForm.the-variants as form
 use Rattle.lines.specs.declared.Change.{Change}
 use Rattle.lines.specs.declared.Change.the-variants.{Clear, Book, Start, End, Rule, Row, Load, Budget}
 use Rattle.lines.specs.Written.{changeLine}
@@ -33,12 +38,12 @@ markChanges k m (suc n) = markChanges k m n ++ markIfSet k m (suc n)
 
 -- "rules, rows": a rule of either sort is added
 abbrev pub ruleChange : Sort → Transition → Change
-ruleChange sort.Load r = Rule (r .from) (r .label) (r .to)
+ruleChange sort.Load r = Rule (r .from) (r .label) (r .to) (r .kind)
 ruleChange sort.Row r = Row (r .from) (r .label) (r .to)
 
 -- "and loads"
 abbrev pub loadChange : load.Load → Change
-loadChange l = Load (l .parent) (l .power) (l .worth)
+loadChange l = Load (l .parent) (l .power) (l .worth) (l .kind)
 
 -- "`book` if there are states"
 unfoldable pub sizeChange : (states stages : ℕ) → List Change
@@ -55,14 +60,19 @@ bookChanges b =
 unfoldable pub saved : Tables → List Change
 saved t = (Clear ∷ []) ++ bookChanges (t .book) ++ map loadChange (t .loads) ++ (Budget (t .budget) ∷ [])
 
--- ---- their text: a line each
-unfoldable pub changesText : List Change → List ℕ
-changesText [] = []
-changesText (c ∷ cs) = changeLine c ++ changesText cs
+-- ---- their text in a form: a line each
+unfoldable pub changesText : SaveForm → List Change → List ℕ
+changesText f [] = []
+changesText f (c ∷ cs) = changeLine f c ++ changesText f cs
 
-abbrev pub saveText : Tables → List ℕ
-saveText t = changesText (saved t)
+abbrev pub saveText : SaveForm → Tables → List ℕ
+saveText f t = changesText f (saved t)
 
--- "It needs 3,000 free bytes"
+-- would it lose a kind? "`save1` while some load or load rule has a kind other than 0"
+abbrev pub losesKinds : SaveForm → Tables → Bool
+losesKinds form.Kinds t = false
+losesKinds form.Plain t = hasKinds t
+
+-- "It needs 3,000 free bytes", and so does `save1`
 abbrev pub saveBytes : ℕ
 saveBytes = 3000

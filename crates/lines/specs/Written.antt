@@ -5,6 +5,7 @@ use Rattle.lists.specs.Tests.{pick}
 use Rattle.lists.specs.Each.{Each}
 use Rattle.marks.specs.declared.LoadSet.{LoadSet}
 use Rattle.marks.specs.Sets.{hasLoad}
+use Rattle.lines.specs.declared.SaveForm.{SaveForm}
 use Rattle.lines.specs.declared.Change.{Change}
 use Rattle.lines.specs.Text.{bytes, comma, lineFeed, nought, decimal}
 use Rattle.lines.specs.Grammar.{mostDigits, lineOf}
@@ -22,13 +23,13 @@ line w ns = parted w (map decimal ns)
 abbrev pub Short : List ℕ → Type 0
 Short ns = Each (λ n. n < 10 ^ mostDigits) ns
 
--- the line of a change
-abbrev pub written : Change → List ℕ
-written c = line (lineOf c .word) (lineOf c .values)
+-- the line of a change, in a form
+abbrev pub written : SaveForm → Change → List ℕ
+written f c = line (lineOf f c .word) (lineOf f c .values)
 
 -- and with its line feed, as it stands in a text
-abbrev pub changeLine : Change → List ℕ
-changeLine c = written c ++ (lineFeed ∷ [])
+abbrev pub changeLine : SaveForm → Change → List ℕ
+changeLine f c = written f c ++ (lineFeed ∷ [])
 
 -- one 0 or 1 for each of n loads from number k on
 unfoldable pub bitsIn : LoadSet → (k n : ℕ) → List ℕ

@@ -1,4 +1,5 @@
 // What a line is answered.
+use crate::SaveForm;
 ghost use mathlib.Core.Path.{_≡_};
 ghost use Rattle.lines.specs.Answers.{numberOf, answerOf};
 
@@ -7,7 +8,7 @@ pub enum Answer {
     Accepted,
     Planned { worth: u32, power: u32, on: u32 },
     Allowed,
-    Saved,
+    Saved { form: SaveForm },
     Refused { number: u8 },
 }
 
@@ -34,7 +35,7 @@ impl Answer {
                 on: _,
             } => 0,
             Answer::Allowed => 0,
-            Answer::Saved => 0,
+            Answer::Saved { form: _ } => 0,
             Answer::Refused { number } => number,
         }
     }

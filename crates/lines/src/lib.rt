@@ -18,7 +18,7 @@ pub const NOUGHT: u8 = 48;
 const MOST_BYTES: usize = 80;
 
 // No line has more numbers.
-const MOST_NUMBERS: usize = 3;
+const MOST_NUMBERS: usize = 4;
 
 // What a change asks for: a line that can print `ok`. The numbers of a line stand in its order.
 pub enum Change {
@@ -29,12 +29,12 @@ pub enum Change {
     Start(u32),
     // A stage.
     End(u32),
-    // State, mark, stage.
-    Rule(u32, u32, u32),
+    // State, mark, stage, kind.
+    Rule(u32, u32, u32, u32),
     // Stage, state, next stage.
     Row(u32, u32, u32),
-    // Parent, power, worth.
-    Load(u32, u32, u32),
+    // Parent, power, worth, kind.
+    Load(u32, u32, u32, u32),
     // The number of a load, and its power.
     Power(u32, u32),
     // The number of a load, and its worth.
@@ -45,6 +45,12 @@ pub enum Change {
     Drop(u32),
 }
 
+// The form of a save: with the kind of every load and load rule, or that of request Two, which has none.
+pub enum SaveForm {
+    Kinds,
+    Plain,
+}
+
 // What a line asks for. `Broken` is a line that is no command of the table, or breaks its form; `TooLong` one with more bytes than a line may
 // have, whatever they are.
 pub enum Command {
@@ -52,7 +58,7 @@ pub enum Command {
     Plan,
     // The loads whose bit is 1, as far as a set of loads goes, and the count of all bits.
     Check { set: LoadSet, count: usize },
-    Save,
+    Save(SaveForm),
     Last,
     Broken,
     TooLong,

@@ -5,6 +5,7 @@ use crate::Command;
 use crate::MOST_BYTES;
 use crate::MOST_NUMBERS;
 use crate::NOUGHT;
+use crate::SaveForm;
 use marks::LoadSet;
 ghost use Prim.Native.Nat.{_≤_};
 ghost use mathlib.Core.Path.{_≡_};
@@ -18,19 +19,22 @@ const MOST_DIGITS: u32 = 5;
 
 // The rows of the table with numbers, each as one number: the bytes of its word in base 256 after a 1, and as one byte more the count of
 // its numbers.
-const ROWS: [u64; 14] = [
+const ROWS: [u64; 17] = [
     0x1_636c656172_00, // clear
     0x1_626f6f6b_02, // book
     0x1_7374617274_01, // start
     0x1_656e64_01, // end
     0x1_72756c65_03, // rule
+    0x1_72756c65_04, // rule, with a kind
     0x1_726f77_03, // row
     0x1_6c6f6164_03, // load
+    0x1_6c6f6164_04, // load, with a kind
     0x1_706f776572_02, // power
     0x1_776f727468_02, // worth
     0x1_627564676574_01, // budget
     0x1_706c616e_00, // plan
     0x1_73617665_00, // save
+    0x1_7361766531_00, // save1
     0x1_64726f70_01, // drop
     0x1_6c617374_00, // last
 ];
@@ -212,21 +216,25 @@ fn command_of(row: usize, v: [u32; MOST_NUMBERS]) -> Command
     let a = v[0];
     let b = v[1];
     let c = v[2];
+    let d = v[3];
     match row {
         0 => Command::Change(Change::Clear),
         1 => Command::Change(Change::Book(a, b)),
         2 => Command::Change(Change::Start(a)),
         3 => Command::Change(Change::End(a)),
-        4 => Command::Change(Change::Rule(a, b, c)),
-        5 => Command::Change(Change::Row(a, b, c)),
-        6 => Command::Change(Change::Load(a, b, c)),
-        7 => Command::Change(Change::Power(a, b)),
-        8 => Command::Change(Change::Worth(a, b)),
-        9 => Command::Change(Change::Budget(a)),
-        10 => Command::Plan,
-        11 => Command::Save,
-        12 => Command::Change(Change::Drop(a)),
-        13 => Command::Last,
+        4 => Command::Change(Change::Rule(a, b, c, 0)),
+        5 => Command::Change(Change::Rule(a, b, c, d)),
+        6 => Command::Change(Change::Row(a, b, c)),
+        7 => Command::Change(Change::Load(a, b, c, 0)),
+        8 => Command::Change(Change::Load(a, b, c, d)),
+        9 => Command::Change(Change::Power(a, b)),
+        10 => Command::Change(Change::Worth(a, b)),
+        11 => Command::Change(Change::Budget(a)),
+        12 => Command::Plan,
+        13 => Command::Save(SaveForm::Kinds),
+        14 => Command::Save(SaveForm::Plain),
+        15 => Command::Change(Change::Drop(a)),
+        16 => Command::Last,
         _ => Command::Broken,
     }
 }

@@ -27,3 +27,8 @@ module _ {A : Type 0} {P : A → Type 0} where
 pub each-imply : {A : Type 0} {P Q : A → Type 0} → ((x : A) → P x → Q x) → {xs : List A} → Each P xs → Each Q xs
 each-imply f none = none
 each-imply f (more {x = x} h p) = more (f x h) (each-imply f p)
+
+-- of two sorts of fact
+pub each-both : {A : Type 0} {P Q : A → Type 0} {xs : List A} → Each P xs → Each Q xs → Each (λ x. P x × Q x) xs
+each-both none none = none
+each-both (more h p) (more k q) = more (h, k) (each-both p q)

@@ -204,3 +204,19 @@ pub below-all : (p : ℕ → Bool) (n : ℕ) → ((i : ℕ) → i < n → p i �
 unfolding allBelow
 below-all p zero h = refl
 below-all p (suc n) h = rw (below-all p n (λ i b. h i (omega arith)), h n (omega arith))
+
+-- ---- a test that none passes
+pub none-first : {A : Type 0} (p : A → Bool) (x : A) (xs : List A) → some p (x ∷ xs) ≡ false → (p x ≡ false) × (some p xs ≡ false)
+unfolding some
+none-first p x xs h = (or-left (p x) (some p xs) h, or-right (p x) (some p xs) h)
+
+pub none-at : {A : Type 0} (p : A → Bool) (d : A) → p d ≡ false → (xs : List A) → some p xs ≡ false → (j : ℕ) → p (getD xs j d) ≡ false
+none-at p d e [] h zero = e
+none-at p d e [] h (suc j) = e
+none-at p d e (x ∷ xs) h zero = none-first p x xs h .0
+none-at p d e (x ∷ xs) h (suc j) = none-at p d e xs (none-first p x xs h .1) j
+
+pub none-drop : {A : Type 0} (p : A → Bool) (xs : List A) → some p xs ≡ false → (j : ℕ) → some p (drop j xs) ≡ false
+none-drop p xs h zero = h
+none-drop p [] h (suc j) = h
+none-drop p (x ∷ xs) h (suc j) = none-drop p xs (none-first p x xs h .1) j

@@ -8,9 +8,10 @@ use mathlib.Core.Logic.{_↔_, _⊎_, inl, inr}
 use native.Mathlib.Nat.{eq-zero-or-pos, le-trans, lt-of-lt-of-le, le-of-eq}
 use native.Mathlib.Omega.{arith}
 use borrow.Author.Tests.{eqb-true}
-use lib.Dec.{eqb, eqb→eq}
+use lib.Dec.{T, eqb, eqb→eq}
 use lib.ListN.{length}
 use Rattle.lists.specs.Argmax.{guard}
+use Rattle.tables.specs.declared.rule.Transition.{Transition}
 use Rattle.tables.specs.Tables.{Book, Tables}
 use Rattle.tables.specs.declared.load.Load.{Load}
 use Rattle.meaning.specs.Forest.{Item, Forest, nil, node, planned, fixedTo, checked, row, tree, IsTree, total}
@@ -19,7 +20,7 @@ use Rattle.meaning.specs.Sets.{treeOf, counted, Allowed, Accepted}
 use Rattle.meaning.specs.Best.{best, bestTree, bestCheck}
 use Rattle.meaning.specs.Choice.{check, marksOf, assignedBy}
 use Rattle.meaning.specs.Runs.{Assigned, rule, BranchRun, RowRun, Run, TreeRun}
-use Rattle.meaning.specs.Acceptance.{Chain, Rewrites, AcceptsRow, Accepts}
+use Rattle.meaning.specs.Acceptance.{Letter, letterOf, letterFor, Chain, Rewrites, AcceptsRow, Accepts}
 use Rattle.meaning.proofs.Cell.{cell-pos, ⊕-empty}
 use Rattle.meaning.proofs.Optimal.{and-intro, and-elim, eqb-of, Covers, branch-complete, row-complete, start-bound, complete, tree-sound}
 use Rattle.meaning.proofs.Tree.{Rooted, tree-rooted}
@@ -144,67 +145,108 @@ module _ (b : Book) (σ τ : ℕ → ℕ) (ρ : ℕ → Assigned) where
       (λ z. absurd (omega arith)) h
   fixed-tree-agree (node k i below (node k′ i′ below′ later′)) o r n h = absurd o
 
+-- ---- rules that serve loads of their kind
+-- the rules that serve an item are those of its kind
+abbrev OwnKind : Item → Type 0
+OwnKind i = (r : Transition) → i .serves r ≡ eqb (r .kind) (i .kind)
+
+abbrev OwnKinds : Forest → Type 0
+OwnKinds nil = Unit {0}
+OwnKinds (node k i below later) = OwnKind i × OwnKinds below × OwnKinds later
+
+row-kinds : (ls : List Load) (k p : ℕ) → OwnKinds (row planned ls k p)
+unfolding row
+row-kinds [] k p = tt
+row-kinds (l ∷ ls) k p = go (eqb (l .parent) p) (row-kinds ls (suc k) k) (row-kinds ls (suc k) p)
+  where
+    go : (t : Bool) → OwnKinds (row planned ls (suc k) k) → OwnKinds (row planned ls (suc k) p)
+        → OwnKinds (cond t (node k (planned k l) (row planned ls (suc k) k) (row planned ls (suc k) p)) (row planned ls (suc k) p))
+    go true below later = (λ r. refl, below, later)
+    go false below later = later
+
+tree-kinds : (ls : List Load) → OwnKinds (tree planned ls)
+unfolding tree
+tree-kinds [] = tt
+tree-kinds (l ∷ ls) = (λ r. refl, row-kinds ls 2 1, tt)
+
+-- a rule that serves is for the load's letter, and the other way round
+serves-letter : (i : Item) → OwnKind i → (r : Transition) (m : ℕ) → r .label ≡ m → T (i .serves r) → letterFor r ≡ letterOf i m
+serves-letter i own r m e s = let k = eqb→eq (r .kind) (i .kind) (rw (own r) at s) in λ x. record { kind = k x; mark = e x }
+
+letter-serves : (i : Item) → OwnKind i → (r : Transition) (m : ℕ) → letterFor r ≡ letterOf i m → T (i .serves r)
+letter-serves i own r m e = rw (own r) (eqb-of (r .kind) (i .kind) (ap (λ (x : Letter). x .kind) e))
+
 -- acceptance from a stage: some states of the roots, with a chain of row rules
 abbrev Derives : Book → (ℕ → ℕ) → Forest → ℕ → Type 0
 Derives b σ f g = (qs : List ℕ) × Chain b g qs × AcceptsRow b σ f qs
 
 module _ (b : Book) (σ : ℕ → ℕ) where
   -- what acceptance says of a branch and of a place in a row is what a run says of it
-  rewrites-branch : (k : ℕ) (i : Item) (below : Forest) (q : ℕ) (rs : List ℕ) → (w : Rewrites b i (σ k) q rs) → AcceptsRow b σ below rs
+  rewrites-branch : (k : ℕ) (i : Item) → OwnKind i → (below : Forest) (q : ℕ) (rs : List ℕ) → (w : Rewrites b (letterOf i (σ k)) q rs) → AcceptsRow b σ below rs
       → BranchRun b (σ k) (w .0) (fixedTo σ k i) (Derives b σ below) q
-  rewrites-branch k i below q rs w a =
+  rewrites-branch k i own below q rs w a =
       fix-branch b σ k (w .0) i (Derives b σ below) (Derives b σ below) (λ g d. d) q
-      (record { begins = w .1; mark = w .2; serves = w .3; runs = (rs, w .4, a) })
+      (record {
+        begins = w .1;
+        mark = ap (λ (x : Letter). x .mark) (w .2);
+        serves = letter-serves i own (rule (b .loadRules) (w .0)) (σ k) (w .2);
+        runs = (rs, w .3, a);
+      })
 
-  derives-cover : (k : ℕ) (i : Item) (below later : Forest) → Covers (best b (fixed σ below)) (Derives b σ below) (drawn σ (fixed σ below)) (scored σ (fixed σ below))
+  derives-cover : (k : ℕ) (i : Item) → OwnKind i → (below later : Forest)
+      → Covers (best b (fixed σ below)) (Derives b σ below) (drawn σ (fixed σ below)) (scored σ (fixed σ below))
       → Covers (best b (fixed σ later)) (Derives b σ later) (drawn σ (fixed σ later)) (scored σ (fixed σ later))
       → (g c : ℕ) (qs : List ℕ) → Chain b g qs → AcceptsRow b σ (node k i below later) qs → drawn σ (fixed σ (node k i below later)) ≤ c
       → scored σ (fixed σ (node k i below later)) ≤ best b (fixed σ (node k i below later)) g c
   unfolding fixed best total scored
-  derives-cover k i below later hb hl g c [] ch a h = absurd a
-  derives-cover k i below later hb hl g c (q ∷ qs) ch a h =
+  derives-cover k i own below later hb hl g c [] ch a h = absurd a
+  derives-cover k i own below later hb hl g c (q ∷ qs) ch a h =
       row-complete b _ _ _ _ _ _ _ _
       (branch-complete b (fixedTo σ k i) _ (Derives b σ below) _ _ hb (σ k) (a .0 .1 .0))
       hl (ch .0) q g c
-      (record { begins = ch .1; state = ch .2; branches = rewrites-branch k i below q (a .0 .0) (a .0 .1) (a .0 .2); goes = (qs, ch .3, a .1) })
+      (record { begins = ch .1; state = ch .2; branches = rewrites-branch k i own below q (a .0 .0) (a .0 .1) (a .0 .2); goes = (qs, ch .3, a .1) })
       h
 
-  accepts-cover : (f : Forest) → Covers (best b (fixed σ f)) (Derives b σ f) (drawn σ (fixed σ f)) (scored σ (fixed σ f))
+  accepts-cover : (f : Forest) → OwnKinds f → Covers (best b (fixed σ f)) (Derives b σ f) (drawn σ (fixed σ f)) (scored σ (fixed σ f))
   unfolding fixed best scored total
-  accepts-cover nil = λ g c d h. empty-cover g c (d .0) (d .1) (d .2)
+  accepts-cover nil own = λ g c d h. empty-cover g c (d .0) (d .1) (d .2)
     where
       empty-cover : (g c : ℕ) (qs : List ℕ) → Chain b g qs → AcceptsRow b σ nil qs → scored σ nil ≤ best b nil g c
       empty-cover g c [] ch a = complete b σ (λ k. record { state = 0; loadRule = 0; rowRule = 0 }) nil g c ch zero-le
       empty-cover g c (q ∷ qs) ch a = absurd a
-  accepts-cover (node k i below later) = λ g c d h. derives-cover k i below later (accepts-cover below) (accepts-cover later) g c (d .0) (d .1) (d .2) h
+  accepts-cover (node k i below later) own = λ g c d h.
+      derives-cover k i (own .0) below later (accepts-cover below (own .1)) (accepts-cover later (own .2)) g c (d .0) (d .1) (d .2) h
 
-  accepts-cell : (f : Forest) → Rooted f → Accepts b σ f → scored σ (fixed σ f) ≤ bestTree b (fixed σ f) 0
+  accepts-cell : (f : Forest) → OwnKinds f → Rooted f → Accepts b σ f → scored σ (fixed σ f) ≤ bestTree b (fixed σ f) 0
   unfolding fixed bestTree scored
-  accepts-cell nil o a = absurd a
-  accepts-cell (node k i below nil) o a =
+  accepts-cell nil own o a = absurd a
+  accepts-cell (node k i below nil) own o a =
       rw (⊕-empty (score (fixedTo σ k i) (σ k) ⊕ scored σ (fixed σ below)))
-      (le-trans (branch-complete b (fixedTo σ k i) (best b (fixed σ below)) (Derives b σ below) _ _ (accepts-cover below) (σ k) (a .3 .0) (a .0) 0
-      (rewrites-branch k i below (a .0) (a .2) (a .3) (a .4))
+      (le-trans (branch-complete b (fixedTo σ k i) (best b (fixed σ below)) (Derives b σ below) _ _ (accepts-cover below (own .1)) (σ k) (a .3 .0) (a .0) 0
+      (rewrites-branch k i (own .0) below (a .0) (a .2) (a .3) (a .4))
       (omega (arith, counted-zero (σ k), fixed-drawn σ σ below)))
       (start-bound b (fixedTo σ k i) (best b (fixed σ below)) 0 (a .0) (a .1)))
-  accepts-cell (node k i below (node k′ i′ below′ later′)) o a = absurd o
+  accepts-cell (node k i below (node k′ i′ below′ later′)) own o a = absurd o
 
   -- a run is accepted
-  run-derives : (ρ : ℕ → Assigned) (f : Forest) (g : ℕ) → Run b σ ρ f g → Derives b σ f g
-  run-derives ρ nil g r = ([], r, tt)
-  run-derives ρ (node k i below later) g r =
-      let d = run-derives ρ below (rule (b .loadRules) (ρ k .loadRule) .to) (r .branches .runs) in
-      let l = run-derives ρ later (rule (b .rowRules) (ρ k .rowRule) .to) (r .goes) in (
+  run-rewrites : (k : ℕ) (i : Item) → OwnKind i → (below : ℕ → Type 0) (n q : ℕ) → BranchRun b (σ k) n i below q → letterFor (rule (b .loadRules) n) ≡ letterOf i (σ k)
+  run-rewrites k i own below n q r = serves-letter i own (rule (b .loadRules) n) (σ k) (r .mark) (r .serves)
+
+  run-derives : (ρ : ℕ → Assigned) (f : Forest) → OwnKinds f → (g : ℕ) → Run b σ ρ f g → Derives b σ f g
+  run-derives ρ nil own g r = ([], r, tt)
+  run-derives ρ (node k i below later) own g r =
+      let d = run-derives ρ below (own .1) (rule (b .loadRules) (ρ k .loadRule) .to) (r .branches .runs) in
+      let l = run-derives ρ later (own .2) (rule (b .rowRules) (ρ k .rowRule) .to) (r .goes) in (
         ρ k .state ∷ l .0,
         (ρ k .rowRule, r .begins, r .state, l .1),
-        ((d .0, (ρ k .loadRule, r .branches .begins, r .branches .mark, r .branches .serves, d .1), d .2), l .2),
+        ((d .0, (ρ k .loadRule, r .branches .begins, run-rewrites k i (own .0) (Run b σ ρ below) (ρ k .loadRule) (ρ k .state) (r .branches), d .1), d .2), l .2),
       )
 
-  run-accepts : (ρ : ℕ → Assigned) (f : Forest) → TreeRun b σ ρ f → Accepts b σ f
-  run-accepts ρ nil r = r
-  run-accepts ρ (node k i below later) r =
-      let d = run-derives ρ below (rule (b .loadRules) (ρ k .loadRule) .to) (r .2 .runs) in
-      (ρ k .state, r .0, d .0, (ρ k .loadRule, r .2 .begins, r .2 .mark, r .2 .serves, d .1), d .2)
+  run-accepts : (ρ : ℕ → Assigned) (f : Forest) → OwnKinds f → TreeRun b σ ρ f → Accepts b σ f
+  run-accepts ρ nil own r = r
+  run-accepts ρ (node k i below later) own r =
+      let d = run-derives ρ below (own .1) (rule (b .loadRules) (ρ k .loadRule) .to) (r .2 .runs) in
+      (ρ k .state, r .0, d .0, (ρ k .loadRule, r .2 .begins, run-rewrites k i (own .0) (Run b σ ρ below) (ρ k .loadRule) (ρ k .state) (r .2), d .1), d .2)
 
 module _ (t : Tables) (o : IsTree (t .loads)) (σ : ℕ → ℕ) where
   -- the entries that the check finds are a run of the forest for the check
@@ -230,11 +272,11 @@ module _ (t : Tables) (o : IsTree (t .loads)) (σ : ℕ → ℕ) where
   pub check-finds : Accepted t σ → 0 < bestCheck t σ
   unfolding bestCheck
   check-finds a =
-      let some = accepts-cell (t .book) σ (treeOf t) (tree-rooted planned (t .loads)) a in
+      let some = accepts-cell (t .book) σ (treeOf t) (tree-kinds (t .loads)) (tree-rooted planned (t .loads)) a in
       rw (← (fixed-tree σ (t .loads))) (lt-of-lt-of-le (cell-pos 0 0 (omega arith)) (rw (fixed-scored σ σ (treeOf t)) at some))
 
   pub allowed-accepted : Allowed t σ ↔ Accepted t σ
-  allowed-accepted = (λ a. run-accepts (t .book) σ (a .0) (treeOf t) (a .1), λ a. (assignedBy (check t σ), check-run (check-finds a)))
+  allowed-accepted = (λ a. run-accepts (t .book) σ (a .0) (treeOf t) (tree-kinds (t .loads)) (a .1), λ a. (assignedBy (check t σ), check-run (check-finds a)))
 
   pub check-allowed : (0 < bestCheck t σ) ↔ Accepted t σ
   check-allowed = (λ h. allowed-accepted .0 (assignedBy (check t σ), check-run h), check-finds)

@@ -21,7 +21,7 @@ use Rattle.tables.proofs.Removed.{fallen-value}
 use Rattle.tables.proofs.Keeps.{drop-load-keeps}
 use Rattle.meaning.specs.Forest.{Item, Forest, nil, node, planned, checked, row, tree, Ordered, total, sum}
 use Rattle.meaning.specs.Runs.{Assigned, Starts, BranchRun, RowRun, Run, TreeRun}
-use Rattle.meaning.specs.Acceptance.{Rewrites, AcceptsRow, Accepts}
+use Rattle.meaning.specs.Acceptance.{letterOf, Rewrites, AcceptsRow, Accepts}
 use Rattle.meaning.specs.Sets.{treeOf}
 use Rattle.meaning.specs.Cell.{draw, gain}
 use Rattle.meaning.specs.Best.{branchCell, rowCell, best, startFor, bestTree, bestPlan, bestCheck}
@@ -174,13 +174,13 @@ module _ (k : ℕ) where
       renumbered-accepts-row nil (q ∷ qs) = refl
       renumbered-accepts-row (node j i below later) [] = refl
       renumbered-accepts-row (node j i below later) (q ∷ qs) = λ x.
-          ((rs : List ℕ) × Rewrites b i (σ (fallen k j)) q rs × renumbered-accepts-row below rs x) × renumbered-accepts-row later qs x
+          ((rs : List ℕ) × Rewrites b (letterOf i (σ (fallen k j))) q rs × renumbered-accepts-row below rs x) × renumbered-accepts-row later qs x
 
       renumbered-accepts : (f : Forest) → Accepts b σ (renumbered k f) ≡ Accepts b (before k σ) f
       unfolding renumbered
       renumbered-accepts nil = refl
       renumbered-accepts (node j i below later) = λ x.
-          (q : ℕ) × Starts b q × (qs : List ℕ) × Rewrites b i (σ (fallen k j)) q qs × renumbered-accepts-row below qs x
+          (q : ℕ) × Starts b q × (qs : List ℕ) × Rewrites b (letterOf i (σ (fallen k j))) q qs × renumbered-accepts-row below qs x
 
       module _ (ρ : ℕ → Assigned) where
         renumbered-run : (f : Forest) → Run b σ ρ (renumbered k f) ≡ Run b (before k σ) (before k ρ) f

@@ -1,4 +1,5 @@
--- The theorems on the definitions of specs/, from the ground up; Claims has what the demands rest on, Leaving what request Three does.
+-- The theorems on the definitions of specs/, from the ground up; Claims has what the demands rest on, Leaving what request Three does, Kindless what
+-- request Eight does.
 pub mod Cell
 pub mod Tree
 pub mod Ordered
@@ -18,4 +19,5 @@ pub mod Cells
 pub mod SameRows
 pub mod Claims
 pub mod Leaving
+pub mod Kindless
 pub mod Cases

@@ -131,7 +131,7 @@ best-same b item ls ls′ k agree g c = ap (λ (r : Forest). best b r g c) (rows
 -- An example: the row from load 4 onward has loads 4 and 5, and load 6 below load 4. The other list has another load 1, another load 3 and
 -- a load 7 below that.
 abbrev load : ℕ → ℕ → ℕ → Load
-load p w v = record { parent = p; power = w; worth = v }
+load p w v = record { parent = p; kind = 0; power = w; worth = v }
 
 abbrev shared : List Load
 shared = load 2 7 50 ∷ load 2 9 20 ∷ load 4 6 20 ∷ []

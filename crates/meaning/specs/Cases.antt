@@ -1,4 +1,5 @@
--- The marked cases of "Edges on this tree" of paper 01 and those of request Four of paper 02, in one table. Assumes nothing.
+-- The marked cases of "Edges on this tree" of paper 01, those of request Four of paper 02, and a cabinet with a safety reader for its request Eight,
+-- in one table. Assumes nothing.
 use Prim.Native.Nat.{ℕ}
 use mathlib.Core.Path.{_≡_}
 use mathlib.Core.Bool.{Bool, _&&_, not}
@@ -12,11 +13,17 @@ use Rattle.meaning.specs.Sets.{power, worth, numberOn, Optimum, NoneFits
 use Rattle.meaning.specs.Best.{bestPlan}
 use Rattle.meaning.specs.Choice.{planEntries, shownSet}
 
+abbrev ofKind : (kind : ℕ) → ℕ → ℕ → ℕ → Transition
+ofKind k x l y = record { from = x; label = l; to = y; kind = k }
+
 abbrev transition : ℕ → ℕ → ℕ → Transition
-transition x l y = record { from = x; label = l; to = y }
+transition = ofKind 0
+
+abbrev loadOf : (kind : ℕ) → ℕ → ℕ → ℕ → Load
+loadOf k p w v = record { parent = p; kind = k; power = w; worth = v }
 
 abbrev load : ℕ → ℕ → ℕ → Load
-load p w v = record { parent = p; power = w; worth = v }
+load = loadOf 0
 
 -- the tree of "One session, whole"
 abbrev pub fourLoads : List Load
@@ -28,6 +35,10 @@ warmFirst = load 0 0 0 ∷ load 1 9 20 ∷ load 1 6 20 ∷ []
 
 abbrev pub coolFirst : List Load
 coolFirst = load 0 0 0 ∷ load 1 6 20 ∷ load 1 9 20 ∷ []
+
+-- "Safety readers must obey other rules than cameras": a camera of 3 W and a safety reader of 2 W and of kind 1, below a feed that draws nothing
+abbrev pub withReader : List Load
+withReader = load 0 0 0 ∷ load 1 3 20 ∷ loadOf 1 1 2 1 ∷ []
 
 -- "This book F keeps a load on only below a load that is on."
 abbrev pub bookF : Book
@@ -62,6 +73,17 @@ bookK = record {
   rowRules = transition 1 3 1 ∷ transition 2 2 2 ∷ transition 3 3 3 ∷ transition 3 1 1 ∷ [];
 }
 
+-- a load of kind 0 may be on or off, a safety reader is never off
+abbrev pub bookReaders : Book
+bookReaders = record {
+  states = 1;
+  stages = 1;
+  starts = record { 0 = 1 };
+  ends = record { 0 = 1 };
+  loadRules = transition 1 0 1 ∷ transition 1 1 1 ∷ ofKind 1 1 1 1 ∷ [];
+  rowRules = transition 1 1 1 ∷ [];
+}
+
 -- what a case says of the plan: its worth and power, that no load is on, or that there is none
 pub data Expected : Type 0 where
   figures : (worth power : ℕ) → Expected
@@ -77,7 +99,8 @@ pub record Case : Type 0 where
 abbrev case : Book → List Load → ℕ → Expected → Case
 case b ls c x = record { book = b; loads = ls; budget = c; expected = x }
 
--- "budget to worth"; the powers follow. Then "with .. space for one, the 6 W camera stays on"
+-- "budget to worth"; the powers follow. Then "with .. space for one, the 6 W camera stays on"; then the reader: a poorer set keeps it on, and a book
+-- with no rule of its kind has no set
 abbrev pub cases : List Case
 cases =
     case bookF fourLoads 10 noLoadOn
@@ -95,6 +118,10 @@ cases =
     ∷ case bookK fourLoads 22 (figures 90 22)
     ∷ case bookF warmFirst 9 (figures 20 6)
     ∷ case bookF coolFirst 9 (figures 20 6)
+    ∷ case bookReaders withReader 1 refusal9
+    ∷ case bookReaders withReader 4 (figures 1 2)
+    ∷ case bookReaders withReader 5 (figures 21 5)
+    ∷ case bookF withReader 5 refusal9
     ∷ []
 
 abbrev pub tablesFor : Case → Tables

@@ -2,7 +2,7 @@
 -- It stands for "Load 1 is the root .. each later load has a parent with a smaller number. Children are ordered by number." of paper 01.
 -- Assumes nothing.
 use Prim.Native.Nat.{ℕ, zero, suc, _+_, _<_}
-use mathlib.Core.Bool.{Bool, true, cond, _&&_}
+use mathlib.Core.Bool.{Bool, cond, _&&_}
 use mathlib.Core.List.{List, [], _∷_}
 use lib.Dec.{eqb}
 use lib.ListN.{getD, drop}
@@ -10,19 +10,20 @@ use Rattle.tables.specs.declared.rule.Transition.{Transition}
 use Rattle.tables.specs.declared.load.Load.{Load}
 use Rattle.tables.specs.Tables.{noLoad}
 
--- what counts of a load in a search (an item of document 000's problem): its figures, and which load rules serve it
+-- what counts of a load in a search (an item of document 000's problem): its figures, its kind, and which load rules serve it
 pub record Item : Type 0 where
   pub power : ℕ
   pub worth : ℕ
+  pub kind : ℕ
   pub serves : Transition → Bool
 
--- planning: the load's own figures, and every load rule serves
+-- planning: the load's own figures; and "a rule serves only loads of its kind" of request Eight of paper 02
 abbrev pub planned : ℕ → Load → Item
-planned k l = record { power = l .power; worth = l .worth; serves = λ t. true }
+planned k l = record { power = l .power; worth = l .worth; kind = l .kind; serves = λ t. eqb (t .kind) (l .kind) }
 
 -- checking a set σ, the mark of each load by its number: no figure counts, and of the rules that serve, those with the load's mark
 abbrev pub fixedTo : (ℕ → ℕ) → ℕ → Item → Item
-fixedTo σ k i = record { power = 0; worth = 0; serves = λ t. i .serves t && eqb (t .label) (σ k) }
+fixedTo σ k i = record { power = 0; worth = 0; kind = i .kind; serves = λ t. i .serves t && eqb (t .label) (σ k) }
 
 abbrev pub checked : (ℕ → ℕ) → ℕ → Load → Item
 checked σ k l = fixedTo σ k (planned k l)

@@ -1,5 +1,6 @@
 -- What the tables of paper 01 mean: runs, acceptance, the best set, the choice among equals, the check and the judge.
--- In the order of the papers; Claims has what is proved of them, Leaving what is of a tree that a load has left.
+-- In the order of the papers; Claims has what is proved of them, Leaving what is of a tree that a load has left, Kindless what is of
+-- tables with all kinds 0.
 pub mod Forest
 pub mod Runs
 pub mod Acceptance
@@ -13,4 +14,5 @@ pub mod Cells
 pub mod Agree
 pub mod Claims
 pub mod Leaving
+pub mod Kindless
 pub mod Cases

@@ -2,11 +2,17 @@
 -- Assumes nothing.
 use Prim.Native.Nat.{ℕ, _≤_, _<_}
 use mathlib.Core.Path.{_≡_, sym, ap, subst, _∙_}
+use mathlib.Core.Bool.{false}
 use mathlib.Core.List.{List}
 use lib.Dec.{lit≤}
 use Rattle.marks.specs.declared.LoadSet.{LoadSet}
+use Rattle.lines.specs.declared.SaveForm.{SaveForm}
+use Rattle.lines.specs.Saved.{losesKinds}
 use Rattle.lines.specs.Input.{lines}
 use Rattle.tables.specs.Limits.{maxLoads}
+use Rattle.tables.specs.Kinds.{hasKinds}
+use Rattle.meaning.specs.Kindless.{AsBefore}
+use Rattle.meaning.proofs.Kindless.{as-before}
 use Rattle.cells.specs.Claims.{Agree, Left, SameRow}
 use Rattle.cells.proofs.Agreement.{rows-agree}
 use Rattle.calls.specs.State.{Sized}
@@ -60,20 +66,23 @@ demand3 = paper3.demand3 maxLoads (lit≤ tt)
 pub judge : (p : Planner) (ns : List ℕ) (v : Verdict) → v ≡ judgedBy (held p) ns → CaseBy (held p) ns v
 judge p ns v is = judges-exactly (held p) ns v .0 (sym is)
 
--- request One: on every planner, whatever it holds, lists of calls whose lines differ only in leading zeros get the same treatment
+-- requests One and Eight: on every planner, whatever it holds, lists of calls whose lines differ only in leading zeros, or in a kind 0 that is written
+-- out, get the same treatment
 pub padding : (p : Planner) (xs ys : List Exchange) → SameCalls xs ys → History (held p) xs → History (held p) ys → SameTreatment (held p) xs ys
 padding p = same-treatment (held p)
 
--- request Two: on every planner within the limits, a save with the bytes that it needs writes the lines of its tables, and leaves everything else
-pub save : (p : Planner) → Lawful p → (c : Call) → SaveCall c → (d : Done) → d ≡ called (held p) c → SaveRight (held p) c d
-save p h c k d is = is ∙ save-right (held p) h c k
+-- requests Two and Eight: on every planner within the limits, a `save` or `save1` with the bytes that it needs writes the lines of its tables in its
+-- form, or is 14 exactly where `save1` would lose a kind, and leaves everything else
+pub save : (f : SaveForm) (p : Planner) → Lawful p → (c : Call) → SaveCall f c → (d : Done) → d ≡ called (held p) c → SaveRight f (held p) c d
+save f p h c k d is = subst (SaveRight f (held p) c) (sym is) (save-right f (held p) h c k)
 
--- these lines, fed to any such planner with the bytes that they need, are accepted, give it equal tables, and a further save gives equal bytes
-pub fed-back : (q p : Planner) → Lawful q → Lawful p → (c : Call) → SaveCall c → (d : Done) → d ≡ called (held q) c
-    → (xs : List Exchange) → History (held p) xs → linesOf xs ≡ lines (writtenBy c (d .reply)) → AllFree xs → Restored (held q) (held p) xs (writtenBy c (d .reply))
-fed-back q p g h c k d is xs y l f =
-    let e = ap (λ (d : Done). writtenBy c (d .reply)) is in
-    subst (Restored (held q) (held p) xs) (sym e) (restores (held q) (held p) g h c k xs y (l ∙ ap lines e) f)
+-- these lines, fed to any such planner with the bytes that they need, are accepted, give it equal tables, and a further save in the same form gives
+-- equal bytes: "An old save, taken in and written with `save1`, comes back byte for byte"
+pub fed-back : (f : SaveForm) (q p : Planner) → Lawful q → Lawful p → losesKinds f (stateIn q .tables) ≡ false → (c : Call) → SaveCall f c → (d : Done) → d ≡ called (held q) c
+    → (xs : List Exchange) → History (held p) xs → linesOf xs ≡ lines (writtenBy c (d .reply)) → AllFree xs → Restored f (held q) (held p) xs (writtenBy c (d .reply))
+fed-back r q p g h e c k d is xs y l f =
+    let w = ap (λ (d : Done). writtenBy c (d .reply)) is in
+    subst (Restored r (held q) (held p) xs) (sym w) (restores r (held q) (held p) g h e c k xs y (l ∙ ap lines w) f)
 
 -- request Three: on every planner within the limits, an accepted drop leaves the tables without that load, with the tree and the answers of a
 -- planner into which they were entered without it
@@ -91,3 +100,8 @@ last p h c k d is = is ∙ last-stored (held p) h c k
 pub rows : (p q : Planner) (k : ℕ) → 0 < k → k ≤ p .tables .loads .count → Agree (p .tables) (q .tables) k
     → (v u : List ℕ) → Left (p .tables) v → Left (q .tables) u → SameRow (p .tables) (q .tables) v u k
 rows p q = rows-agree (p .tables) (q .tables)
+
+-- request Eight: on every planner within the limits in whose tables all kinds are 0, plan, check, runs, judge and the best of each row are those of
+-- the tables without kinds
+pub kindless : (p : Planner) → hasKinds (stateIn p .tables) ≡ false → AsBefore (stateIn p .tables)
+kindless p = as-before (stateIn p .tables)

@@ -44,7 +44,7 @@ pub(crate) fn write_answer(out: &mut [u8], a: Answer, run: Run, tables: StoredTa
             let at = write_yes(&mut *out, 0);
             write_run(&mut *out, at, run, n)
         }
-        Answer::Saved => write_save(out, tables),
+        Answer::Saved { form } => write_save(out, form, tables),
         Answer::Refused { number } => write_no(out, 0, number as u32),
     }
 }

@@ -5,19 +5,25 @@ use crate::changes::Changed;
 use crate::search::Decided;
 use crate::search::unshown;
 use lines::Command;
+use lines::SaveForm;
 use lines::answer::Answer;
 use lines::reading::read;
 use tables::refusal::BROKEN;
+use tables::refusal::KINDS_IN_USE;
 use tables::refusal::TOO_LONG;
 use tables::refusal::UNUSABLE;
+use tables::tables::StoredTables;
 ghost use mathlib.Core.Path.{_≡_};
 ghost use mathlib.Core.Bool.{true};
+ghost use Rattle.lines.specs.declared.Command.the-variants as line;
+ghost use Rattle.lines.specs.Saved.{losesKinds};
+ghost use Rattle.tables.specs.Stored.{tablesOf};
 ghost use Rattle.calls.specs.State.{keeps};
 ghost use Rattle.calls.specs.Rows.{row};
 ghost use Rattle.calls.specs.Calls.{called};
 ghost use Rattle.calls.specs.Demand1.{bytesFor};
 ghost use Rattle.planner.specs.Planner.{held, stateIn, Lawful};
-ghost use Rattle.planner.specs.Decided.{unshown, Decides};
+ghost use Rattle.planner.specs.Decided.{unshown, decided, Decides};
 ghost use Rattle.planner.specs.Calls.{callOf, doneOf, turnedAway};
 
 // "1,024 bytes must be free from there."
@@ -41,10 +47,20 @@ fn bytes_for(c: Command) -> usize
         Command::Change(_) => FREE_BYTES,
         Command::Plan => FREE_BYTES,
         Command::Check { set: _, count: _ } => FREE_BYTES,
-        Command::Save => SAVE_BYTES,
+        Command::Save(_) => SAVE_BYTES,
         Command::Last => FREE_BYTES,
         Command::Broken => FREE_BYTES,
         Command::TooLong => FREE_BYTES,
+    }
+}
+
+// Would a save in this form lose a kind?
+fn loses_kinds(form: SaveForm, tables: StoredTables) -> bool
+    ensures { λ r. ⌜ r ≡ losesKinds form (tablesOf tables) ⌝ }
+{
+    match form {
+        SaveForm::Kinds => false,
+        SaveForm::Plain => tables.has_kinds(),
     }
 }
 
@@ -58,6 +74,17 @@ fn changed(c: Changed) -> Decided
 }
 
 impl Planner {
+    // The tables are saved, in a form that holds their kinds.
+    fn save(self, form: SaveForm) -> Decided
+        requires { ⌜ Lawful self ⌝ }
+        ensures { λ r. ⌜ r ≡ decided (stateIn self) 0 (row (stateIn self) (line.Save form)) ⌝ }
+    {
+        if loses_kinds(form, self.tables) {
+            return self.refused(KINDS_IN_USE);
+        }
+        unshown(Answer::Saved { form }, self)
+    }
+
     // What a command answers.
     fn decide(self, c: Command, work: &mut [u32]) -> Decided
         requires { ⌜ Lawful self ⌝ }
@@ -67,7 +94,7 @@ impl Planner {
             Command::Change(change) => changed(self.change(change)),
             Command::Plan => self.plan(work),
             Command::Check { set, count } => self.check(set, count),
-            Command::Save => unshown(Answer::Saved, self),
+            Command::Save(form) => self.save(form),
             Command::Last => self.last(),
             Command::Broken => self.refused(BROKEN),
             Command::TooLong => self.refused(TOO_LONG),

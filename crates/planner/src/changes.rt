@@ -7,6 +7,7 @@ use tables::limits::MAX_BUDGET;
 use tables::limits::MAX_STATES;
 use tables::load::Figure;
 use tables::load::Load;
+use tables::load::MAX_KIND;
 use tables::load::MAX_POWER;
 use tables::load::MAX_WORTH;
 use tables::refusal::HAS_CHILDREN;
@@ -42,12 +43,13 @@ struct NamedRule {
     rule: Transition,
 }
 
-fn named_rule(range: RuleRange, from: u32, label: u32, to: u32) -> NamedRule
-    ensures { λ r. ⌜ r ≡ namedRule range (rule from label to) ⌝ }
+fn named_rule(range: RuleRange, from: u32, label: u32, to: u32, kind: u32) -> NamedRule
+    ensures { λ r. ⌜ r ≡ namedRule range (rule from label to kind) ⌝ }
 {
     let fits = between(1, range.from as usize, from as usize)
         & between(range.low as usize, range.high as usize, label as usize)
-        & between(1, range.to as usize, to as usize);
+        & between(1, range.to as usize, to as usize)
+        & (kind <= (range.kind as u32));
     if !fits {
         return NamedRule {
             fits,
@@ -60,6 +62,7 @@ fn named_rule(range: RuleRange, from: u32, label: u32, to: u32) -> NamedRule
             from: from as u8,
             label: label as u8,
             to: to as u8,
+            kind: kind as u8,
         },
     }
 }
@@ -70,14 +73,17 @@ struct NamedLoad {
     load: Load,
 }
 
-fn named_load(number: usize, parent: u32, power: u32, worth: u32) -> NamedLoad
+fn named_load(number: usize, parent: u32, power: u32, worth: u32, kind: u32) -> NamedLoad
     requires { ⌜ number ≤ maxLoads + 1 ⌝ }
-    ensures { λ r. ⌜ r ≡ namedLoad number (load parent power worth) ⌝ }
+    ensures { λ r. ⌜ r ≡ namedLoad number (load parent power worth kind) ⌝ }
 {
     let p = parent as usize;
     let root = (number == 1) & (p == 0);
     let child = (1 <= p) & (p < number);
-    let fits = (root | child) & (power <= (MAX_POWER as u32)) & (worth <= (MAX_WORTH as u32));
+    let fits = (root | child)
+        & (power <= (MAX_POWER as u32))
+        & (worth <= (MAX_WORTH as u32))
+        & (kind <= (MAX_KIND as u32));
     if !fits {
         return NamedLoad {
             fits,
@@ -88,6 +94,7 @@ fn named_load(number: usize, parent: u32, power: u32, worth: u32) -> NamedLoad
         fits,
         load: Load {
             parent: parent as u8,
+            kind: kind as u8,
             power: power as u16,
             worth: worth as u16,
         },
@@ -139,12 +146,12 @@ impl Planner {
         self.settled(0, self.tables.mark(sort, number as usize))
     }
 
-    fn add_rule(self, sort: Sort, from: u32, label: u32, to: u32) -> Changed
+    fn add_rule(self, sort: Sort, from: u32, label: u32, to: u32, kind: u32) -> Changed
         requires { ⌜ Lawful self ⌝ }
-        ensures { λ r. ⌜ r ≡ madeBy (stateIn self) (adding (stateIn self .tables) sort (rule from label to)) ⌝ }
+        ensures { λ r. ⌜ r ≡ madeBy (stateIn self) (adding (stateIn self .tables) sort (rule from label to kind)) ⌝ }
     {
         let range = RuleRange::of(sort, self.tables.book.states, self.tables.book.stages);
-        let named = named_rule(range, from, label, to);
+        let named = named_rule(range, from, label, to, kind);
         if !named.fits {
             return self.settled(OUT_OF_RANGE, self.tables);
         }
@@ -152,11 +159,11 @@ impl Planner {
         self.settled(done.number, done.tables)
     }
 
-    fn load(self, parent: u32, power: u32, worth: u32) -> Changed
+    fn load(self, parent: u32, power: u32, worth: u32, kind: u32) -> Changed
         requires { ⌜ Lawful self ⌝ }
-        ensures { λ r. ⌜ r ≡ changedBy (stateIn self) (to.Load parent power worth) ⌝ }
+        ensures { λ r. ⌜ r ≡ changedBy (stateIn self) (to.Load parent power worth kind) ⌝ }
     {
-        let named = named_load(self.tables.loads.count + 1, parent, power, worth);
+        let named = named_load(self.tables.loads.count + 1, parent, power, worth, kind);
         if !named.fits {
             return self.settled(OUT_OF_RANGE, self.tables);
         }
@@ -214,9 +221,11 @@ impl Planner {
             Change::Book(states, stages) => self.book(states, stages),
             Change::Start(state) => self.mark(Sort::Load, state),
             Change::End(stage) => self.mark(Sort::Row, stage),
-            Change::Rule(state, mark, stage) => self.add_rule(Sort::Load, state, mark, stage),
-            Change::Row(stage, state, next) => self.add_rule(Sort::Row, stage, state, next),
-            Change::Load(parent, power, worth) => self.load(parent, power, worth),
+            Change::Rule(state, mark, stage, kind) => {
+                self.add_rule(Sort::Load, state, mark, stage, kind)
+            }
+            Change::Row(stage, state, next) => self.add_rule(Sort::Row, stage, state, next, 0),
+            Change::Load(parent, power, worth, kind) => self.load(parent, power, worth, kind),
             Change::Power(number, watts) => self.set_figure(Figure::Power, number, watts),
             Change::Worth(number, worth) => self.set_figure(Figure::Worth, number, worth),
             Change::Budget(watts) => self.budget(watts),

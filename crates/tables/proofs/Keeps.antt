@@ -21,7 +21,7 @@ use Rattle.tables.specs.declared.rule.Sort.the-variants as sort
 use Rattle.tables.specs.declared.load.Figure.{Figure}
 use Rattle.tables.specs.declared.load.Figure.the-variants as figure
 use Rattle.tables.specs.Tables.{Sort, Transition, Load, Book, Tables, noLoad, sizeFor, marksFor, rulesFor, emptyBook, fresh}
-use Rattle.tables.specs.Limits.{between, maxStates, bookSize, sizeIn, marksIn, ruleIn, ruleRange, rangeFor, sameRule, maxRules, rulesIn, parentIn, figureIn, budgetIn, loadIn, mostPlaces, Limits}
+use Rattle.tables.specs.Limits.{between, maxStates, bookSize, sizeIn, marksIn, ruleIn, ruleRange, rangeFor, sameRule, maxRules, rulesIn, parentIn, figureIn, kindIn, budgetIn, loadIn, mostPlaces, Limits}
 use Rattle.tables.specs.Changes.{withBook, withLoads, withMarks, withRules, newBook, mark, addRule, addLoad, withFigure, setFigure, isChild, hasChildren, fallen, reparented, remaining, dropLoad, setBudget}
 use Rattle.tables.proofs.Parts.{BookParts, Parts, limits-parts, limits-whole}
 use Rattle.tables.proofs.Lawful.{inside, load-inside}
@@ -48,16 +48,34 @@ no-marks n = lt-ltb 0 (2 ^ n) (pow-pos n)
 -- ---- rules of both sorts
 pub same-swap : (a b : Transition) → sameRule a b ≡ sameRule b a
 unfolding sameRule
-same-swap a b = rw (eqb-swap (a .from) (b .from), eqb-swap (a .label) (b .label), eqb-swap (a .to) (b .to))
+same-swap a b = rw (eqb-swap (a .from) (b .from), eqb-swap (a .label) (b .label), eqb-swap (a .to) (b .to), eqb-swap (a .kind) (b .kind))
 
--- ---- loads: another figure in range
+-- ---- loads: the parts of the test of one
+record LoadParts (k : ℕ) (l : Load) : Type 0 where
+  parent : parentIn k (l .parent) ≡ true
+  power : figureIn figure.Power (l .power) ≡ true
+  worth : figureIn figure.Worth (l .worth) ≡ true
+  kind : kindIn (l .kind) ≡ true
+
+load-parts : (k : ℕ) (l : Load) → loadIn k l ≡ true → LoadParts k l
+unfolding loadIn
+load-parts k l h =
+    let a = parentIn k (l .parent) in
+    let b = figureIn figure.Power (l .power) in
+    let c = figureIn figure.Worth (l .worth) in
+    let three = and-left (a && b && c) (kindIn (l .kind)) h in
+    let two = and-left (a && b) c three in
+    record { parent = and-left a b two; power = and-right a b two; worth = and-right (a && b) c three; kind = and-right (a && b && c) (kindIn (l .kind)) h }
+
+-- another figure in range
 figure-in : (f : Figure) (x : ℕ) → figureIn f x ≡ true → (k : ℕ) (l : Load) → loadIn k l ≡ true → loadIn k (withFigure f l x) ≡ true
 unfolding loadIn
 figure-in figure.Power w e k l h =
-    let a = and-left (parentIn k (l .parent) && figureIn figure.Power (l .power)) (figureIn figure.Worth (l .worth)) h in
-    rw (and-left (parentIn k (l .parent)) (figureIn figure.Power (l .power)) a, e)
-    (and-right (parentIn k (l .parent) && figureIn figure.Power (l .power)) (figureIn figure.Worth (l .worth)) h)
-figure-in figure.Worth v e k l h = rw (and-left (parentIn k (l .parent) && figureIn figure.Power (l .power)) (figureIn figure.Worth (l .worth)) h) e
+    let p = load-parts k l h in
+    rw (p .parent, e, p .worth) (p .kind)
+figure-in figure.Worth v e k l h =
+    let p = load-parts k l h in
+    rw (p .parent, p .power, e) (p .kind)
 
 -- a load that comes after load k has left: before it, or behind it and none of its children
 module _ (k : ℕ) (one : 1 ≤ k) where
@@ -75,13 +93,8 @@ module _ (k : ℕ) (one : 1 ≤ k) where
   higher-in : (m : ℕ) (l : Load) → k ≤ m → isChild k l ≡ false → loadIn (suc m) l ≡ true → loadIn m (reparented k l) ≡ true
   unfolding loadIn
   higher-in m l b other h =
-      let figures = figureIn figure.Power (l .power) in
-      let both = and-left (parentIn (suc m) (l .parent) && figures) (figureIn figure.Worth (l .worth)) h in
-      rw (
-        parent-in m (l .parent) b (eqb-false (l .parent) k other) (and-left (parentIn (suc m) (l .parent)) figures both),
-        and-right (parentIn (suc m) (l .parent)) figures both,
-      )
-      (and-right (parentIn (suc m) (l .parent) && figures) (figureIn figure.Worth (l .worth)) h)
+      let p = load-parts (suc m) l h in
+      rw (parent-in m (l .parent) b (eqb-false (l .parent) k other) (p .parent), p .power, p .worth) (p .kind)
 
 -- ---- a book with no rules and no marks
 empty-parts : (s g : ℕ) → sizeIn s g ≡ true → BookParts (emptyBook s g)

@@ -11,7 +11,7 @@ use Rattle.lists.proofs.Places.{Limited, limited-parts}
 use Rattle.tables.specs.declared.rule.RuleRange.{RuleRange}
 use Rattle.tables.specs.declared.load.Figure.the-variants as figure
 use Rattle.tables.specs.Tables.{Sort, Transition, Load, Tables, noRule, noLoad, rulesFor}
-use Rattle.tables.specs.Limits.{between, maxStates, bookSize, sizeIn, ruleIn, rangeFor, sameRule, maxRules, parentIn, maxPower, maxWorth, maxBudget, figureIn, loadIn, Limits}
+use Rattle.tables.specs.Limits.{between, maxStates, bookSize, sizeIn, ruleIn, rangeFor, sameRule, maxRules, parentIn, maxPower, maxWorth, maxKind, kindIn, maxBudget, figureIn, loadIn, Limits}
 use Rattle.tables.specs.Lawful.{RuleFits, LoadFits, Lawful}
 use Rattle.tables.proofs.Parts.{Parts, limits-parts}
 
@@ -41,11 +41,14 @@ rule-inside m r h =
     let a = between 1 (m .from) (r .from) in
     let b = between (m .low) (m .high) (r .label) in
     let d = between 1 (m .to) (r .to) in
-    let ab = and-left (a && b) d h in
+    let e = leb (r .kind) (m .kind) in
+    let abd = and-left (a && b && d) e h in
+    let ab = and-left (a && b) d abd in
     record {
       begins = inside 1 (m .from) (r .from) (and-left a b ab);
       gives = inside (m .low) (m .high) (r .label) (and-right a b ab);
-      leads = inside 1 (m .to) (r .to) (and-right (a && b) d h);
+      leads = inside 1 (m .to) (r .to) (and-right (a && b) d abd);
+      kind = leb-true (r .kind) (m .kind) (and-right (a && b && d) e h);
     }
 
 parent-inside : (k p : ℕ) → parentIn k p ≡ true → (p < k) × (1 < k → 0 < p)
@@ -59,13 +62,16 @@ load-inside k l h =
     let parent = parentIn k (l .parent) in
     let power = figureIn figure.Power (l .power) in
     let worth = figureIn figure.Worth (l .worth) in
-    let both = and-left (parent && power) worth h in
+    let kind = kindIn (l .kind) in
+    let three = and-left (parent && power && worth) kind h in
+    let both = and-left (parent && power) worth three in
     let p = parent-inside k (l .parent) (and-left parent power both) in
     record {
       parent = p .0;
       later = p .1;
       power = leb-true (l .power) maxPower (and-right parent power both);
-      worth = leb-true (l .worth) maxWorth (and-right (parent && power) worth h);
+      worth = leb-true (l .worth) maxWorth (and-right (parent && power) worth three);
+      kind = leb-true (l .kind) maxKind (and-right (parent && power && worth) kind h);
     }
 
 -- ---- the tables

@@ -8,4 +8,5 @@ pub mod Numbers
 pub mod Changes
 pub mod Removed
 pub mod Keeps
+pub mod Plain
 pub mod Examples

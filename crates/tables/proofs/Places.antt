@@ -16,7 +16,7 @@ use Rattle.tables.specs.declared.load.LoadList.{LoadList}
 use Rattle.tables.specs.declared.tables.StoredBook.{StoredBook}
 use Rattle.tables.specs.declared.tables.StoredTables.{StoredTables}
 use Rattle.tables.specs.Tables.{Sort, Load, noRule, noLoad}
-use Rattle.tables.specs.Limits.{sizeIn, marksIn, ruleIn, sameRule, ruleRange, rulesIn, maxRules, sortIn, bookIn, parentIn, maxPower, maxWorth, loadIn, mostPlaces, loadsIn, budgetIn, limits}
+use Rattle.tables.specs.Limits.{sizeIn, marksIn, ruleIn, sameRule, ruleRange, rulesIn, maxRules, sortIn, bookIn, parentIn, maxPower, maxWorth, maxKind, loadIn, mostPlaces, loadsIn, budgetIn, limits}
 use Rattle.tables.specs.Stored.{heldSize, heldMarks, heldRules, rulesOf, loadsOf, placesOf, bookOf, tablesOf, zeroRule, zeroLoad, rulesFree, loadsFree, keepsLimits}
 use Rattle.tables.specs.Places.{rulePlace, loadPlace, rulesHeld, loadsHeld, sortHeld, bookHeld}
 
@@ -31,7 +31,7 @@ parent-in (suc zero) (suc p) = rw (ne-eqb (suc p) 0 (λ e. omega arith), le-ltb 
 parent-in (suc (suc k)) p = rw (ne-eqb (suc (suc k)) 1 (λ e. omega arith), below-suc p (suc k))
 
 pub load-range : (k : ℕ) (l : Load)
-    → ((eqb k 1 && eqb (l .parent) 0) || (leb 1 (l .parent) && ltb (l .parent) k)) && leb (l .power) maxPower && leb (l .worth) maxWorth ≡ loadIn k l
+    → ((eqb k 1 && eqb (l .parent) 0) || (leb 1 (l .parent) && ltb (l .parent) k)) && leb (l .power) maxPower && leb (l .worth) maxWorth && leb (l .kind) maxKind ≡ loadIn k l
 unfolding loadIn
 load-range k l = rw (parent-in k (l .parent))
 

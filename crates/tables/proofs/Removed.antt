@@ -33,7 +33,7 @@ fallen-value k n = go (ltb k n) refl
 
 -- a load whose parent is not above k stays as it is, and so does what an unused place holds
 pub same-parent : (k : ℕ) (l : Load) → l .parent ≤ k → reparented k l ≡ l
-same-parent k l h = ap (λ (p : ℕ). record { parent = p; power = l .power; worth = l .worth }) (omega (arith, fallen-value k (l .parent)))
+same-parent k l h = ap (λ (p : ℕ). record { parent = p; kind = l .kind; power = l .power; worth = l .worth }) (omega (arith, fallen-value k (l .parent)))
 
 still-none : (k : ℕ) → reparented k noLoad ≡ noLoad
 still-none k = same-parent k noLoad (omega arith)

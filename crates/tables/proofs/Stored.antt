@@ -23,22 +23,24 @@ use Rattle.tables.specs.Stored.{heldRules, storedRules, storedLoads, sto
 use Rattle.tables.proofs.Lawful.{lawful}
 use Rattle.tables.proofs.Kept.{tested}
 
--- the three numbers of a place that holds 0
-zeros : (a b d : ℕ) → eqb a 0 && eqb b 0 && eqb d 0 ≡ true → (a ≡ 0) × (b ≡ 0) × (d ≡ 0)
-zeros a b d h =
-    let h2 = and-left (eqb a 0 && eqb b 0) (eqb d 0) h in (
+-- the four numbers of a place that holds 0
+zeros : (a b d k : ℕ) → eqb a 0 && eqb b 0 && eqb d 0 && eqb k 0 ≡ true → (a ≡ 0) × (b ≡ 0) × (d ≡ 0) × (k ≡ 0)
+zeros a b d k h =
+    let h3 = and-left (eqb a 0 && eqb b 0 && eqb d 0) (eqb k 0) h in
+    let h2 = and-left (eqb a 0 && eqb b 0) (eqb d 0) h3 in (
       eqb-true a 0 (and-left (eqb a 0) (eqb b 0) h2),
       eqb-true b 0 (and-right (eqb a 0) (eqb b 0) h2),
-      eqb-true d 0 (and-right (eqb a 0 && eqb b 0) (eqb d 0) h),
+      eqb-true d 0 (and-right (eqb a 0 && eqb b 0) (eqb d 0) h3),
+      eqb-true k 0 (and-right (eqb a 0 && eqb b 0 && eqb d 0) (eqb k 0) h),
     )
 
 rule-zero : (r : Transition) → zeroRule r ≡ true → r ≡ noRule
 unfolding zeroRule
-rule-zero r h = let z = zeros (r .from) (r .label) (r .to) h in λ i. record { from = z .0 i; label = z .1 i; to = z .2 i }
+rule-zero r h = let z = zeros (r .from) (r .label) (r .to) (r .kind) h in λ i. record { from = z .0 i; label = z .1 i; to = z .2 i; kind = z .3 i }
 
 load-zero : (l : Load) → zeroLoad l ≡ true → l ≡ noLoad
 unfolding zeroLoad
-load-zero l h = let z = zeros (l .parent) (l .power) (l .worth) h in λ i. record { parent = z .0 i; power = z .1 i; worth = z .2 i }
+load-zero l h = let z = zeros (l .parent) (l .power) (l .worth) (l .kind) h in λ i. record { parent = z .0 i; kind = z .3 i; power = z .1 i; worth = z .2 i }
 
 -- ---- a list laid out passes the test of its unused places, and what passes it is a list laid out
 rules-free : (rs : List Transition) → length rs ≤ maxRules → restFree zeroRule maxRules (length rs) (laid noRule maxRules rs) ≡ true

@@ -38,18 +38,18 @@ newBook t s g = withBook t (emptyBook s g)
 abbrev pub mark : Tables → Sort → (number : ℕ) → Tables
 mark t k q = withBook t (withMarks k (t .book) (marked (marksFor (t .book) k) q))
 
--- "rule,q,m,g / row,g,q,h: adds a load rule / a row rule"
+-- "rule,q,m,g / row,g,q,h: adds a load rule / a row rule"; with request Eight `rule,q,m,g,kind`
 abbrev pub addRule : Tables → Sort → Transition → Tables
 addRule t k r = withBook t (withRules k (t .book) (rulesFor (t .book) k ++ (r ∷ [])))
 
--- "load,p,w,v: adds the next load: parent, power, worth"
+-- "load,p,w,v: adds the next load: parent, power, worth"; with request Eight `load,p,w,v,kind`
 abbrev pub addLoad : Tables → Load → Tables
 addLoad t l = withLoads t (t .loads ++ (l ∷ []))
 
 -- "power,k,w / worth,k,v: sets one figure of load k"
 abbrev pub withFigure : Figure → Load → ℕ → Load
-withFigure figure.Power l w = record { parent = l .parent; power = w; worth = l .worth }
-withFigure figure.Worth l v = record { parent = l .parent; power = l .power; worth = v }
+withFigure figure.Power l w = record { parent = l .parent; kind = l .kind; power = w; worth = l .worth }
+withFigure figure.Worth l v = record { parent = l .parent; kind = l .kind; power = l .power; worth = v }
 
 abbrev pub onLoad : (Load → Load) → ℕ → List Load → List Load
 onLoad f k ls = set ls (k - 1) (f (getD ls (k - 1) noLoad))
@@ -69,7 +69,7 @@ abbrev pub fallen : (k number : ℕ) → ℕ
 fallen k n = pick (ltb k n) (n - 1) n
 
 abbrev pub reparented : (k : ℕ) → Load → Load
-reparented k l = record { parent = fallen k (l .parent); power = l .power; worth = l .worth }
+reparented k l = record { parent = fallen k (l .parent); kind = l .kind; power = l .power; worth = l .worth }
 
 -- the loads without load k, in their order
 unfoldable pub remaining : (k : ℕ) → List Load → List Load

@@ -4,20 +4,22 @@ use Prim.Native.Nat.{ℕ, suc, _≤_, _<_}
 use lib.ListN.{length, getD}
 use Rattle.tables.specs.declared.rule.RuleRange.{RuleRange}
 use Rattle.tables.specs.Tables.{Sort, Transition, Load, Tables, noRule, noLoad, rulesFor}
-use Rattle.tables.specs.Limits.{maxStates, rangeFor, maxRules, maxPower, maxWorth, maxBudget, mostPlaces}
+use Rattle.tables.specs.Limits.{maxStates, rangeFor, maxRules, maxPower, maxWorth, maxKind, maxBudget, mostPlaces}
 
--- the three numbers of a rule
+-- the three numbers of a rule, and its kind
 pub record RuleFits (m : RuleRange) (r : Transition) : Type 0 where
   pub begins : (1 ≤ r .from) × (r .from ≤ m .from)
   pub gives : (m .low ≤ r .label) × (r .label ≤ m .high)
   pub leads : (1 ≤ r .to) × (r .to ≤ m .to)
+  pub kind : r .kind ≤ m .kind
 
--- the parent and the figures of load k
+-- the parent, the figures and the kind of load k
 pub record LoadFits (k : ℕ) (l : Load) : Type 0 where
   pub parent : l .parent < k
   pub later : 1 < k → 0 < l .parent
   pub power : l .power ≤ maxPower
   pub worth : l .worth ≤ maxWorth
+  pub kind : l .kind ≤ maxKind
 
 pub record Lawful (t : Tables) : Type 0 where
   pub states : t .book .states ≤ maxStates

@@ -6,6 +6,7 @@ pub mod Tables
 pub mod Limits
 pub mod Lawful
 pub mod Stored
+pub mod Kinds
 pub mod Places
 pub mod Changes
 pub mod Operations

@@ -38,20 +38,28 @@ sizeIn s g = (eqb s 0 && eqb g 0) || bookSize s g
 abbrev pub marksIn : ℕ → Marks → Bool
 marksIn n m = upTo n (m .0)
 
--- "every figure and reference is in range": the three numbers of a rule of either sort
-unfoldable pub ruleIn : RuleRange → Transition → Bool
-ruleIn m r = between 1 (m .from) (r .from) && between (m .low) (m .high) (r .label) && between 1 (m .to) (r .to)
+-- "A load and a load rule each gain a kind, 0 to 3" of request Eight of paper 02
+abbrev pub maxKind : ℕ
+maxKind = 3
 
--- "Load rule (state, mark, stage)", mark 0 or 1; "Row rule (stage, state, next stage)"
+abbrev pub kindIn : ℕ → Bool
+kindIn k = leb k maxKind
+
+-- "every figure and reference is in range": the three numbers of a rule of either sort, and its kind
+unfoldable pub ruleIn : RuleRange → Transition → Bool
+ruleIn m r = between 1 (m .from) (r .from) && between (m .low) (m .high) (r .label) && between 1 (m .to) (r .to) && leb (r .kind) (m .kind)
+
+-- "Load rule (state, mark, stage)", mark 0 or 1, with a kind; "Row rule (stage, state, next stage)", which has none: 0 stands in its place
 abbrev pub ruleRange : (states stages : ℕ) → Sort → RuleRange
-ruleRange s g sort.Load = record { from = s; low = 0; high = 1; to = g }
-ruleRange s g sort.Row = record { from = g; low = 1; high = s; to = g }
+ruleRange s g sort.Load = record { from = s; low = 0; high = 1; to = g; kind = maxKind }
+ruleRange s g sort.Row = record { from = g; low = 1; high = s; to = g; kind = 0 }
 
 abbrev pub rangeFor : Book → Sort → RuleRange
 rangeFor b k = ruleRange (b .states) (b .stages) k
 
+-- "Two load rules are the same only if their kinds agree too."
 unfoldable pub sameRule : Transition → Transition → Bool
-sameRule a b = eqb (a .from) (b .from) && eqb (a .label) (b .label) && eqb (a .to) (b .to)
+sameRule a b = eqb (a .from) (b .from) && eqb (a .label) (b .label) && eqb (a .to) (b .to) && eqb (a .kind) (b .kind)
 
 -- "There are at most 32 rules of each sort"; "no rule is there twice"
 abbrev pub maxRules : ℕ
@@ -94,7 +102,7 @@ abbrev pub budgetIn : ℕ → Bool
 budgetIn b = leb b maxBudget
 
 unfoldable pub loadIn : (number : ℕ) → Load → Bool
-loadIn k l = parentIn k (l .parent) && figureIn figure.Power (l .power) && figureIn figure.Worth (l .worth)
+loadIn k l = parentIn k (l .parent) && figureIn figure.Power (l .power) && figureIn figure.Worth (l .worth) && kindIn (l .kind)
 
 -- "numbered 1 to 64": the code's limit. What is shown of tables holds for every limit up to the numbers that a set of loads can hold.
 abbrev pub maxLoads : ℕ

@@ -53,6 +53,10 @@ noPlan = 12
 abbrev pub notAPage : ℕ
 notAPage = 13
 
+-- request Eight: "14, `save1` while some load or load rule has a kind other than 0"
+abbrev pub kindsInUse : ℕ
+kindsInUse = 14
+
 -- no refusal of a line has a greater number
 abbrev pub greatest : ℕ
-greatest = noPlan
+greatest = kindsInUse

@@ -82,10 +82,10 @@ pub record Lengths (s : StoredTables) : Type 0 where
 
 -- "unused places hold 0"
 unfoldable pub zeroRule : Transition → Bool
-zeroRule r = eqb (r .from) 0 && eqb (r .label) 0 && eqb (r .to) 0
+zeroRule r = eqb (r .from) 0 && eqb (r .label) 0 && eqb (r .to) 0 && eqb (r .kind) 0
 
 unfoldable pub zeroLoad : Load → Bool
-zeroLoad l = eqb (l .parent) 0 && eqb (l .power) 0 && eqb (l .worth) 0
+zeroLoad l = eqb (l .parent) 0 && eqb (l .power) 0 && eqb (l .worth) 0 && eqb (l .kind) 0
 
 abbrev pub rulesFree : TransitionList → Bool
 rulesFree l = restFree zeroRule maxRules (l .count) (l .items)

@@ -1,5 +1,6 @@
 -- The tables on paper: plain lists and numbers, so that equal tables is plain equality.
--- They stand for "Book, marks, rules, loads and budget are the tables" and for the first five points of "Loads and book" of paper 01.
+-- They stand for "Book, marks, rules, loads and budget are the tables" and for the first five points of "Loads and book" of paper 01, and for
+-- "A load and a load rule each gain a kind" of request Eight of paper 02.
 -- Assumes nothing.
 use Prim.Native.Nat.{ℕ}
 use mathlib.Core.List.{List, []}
@@ -42,10 +43,10 @@ pub record Tables : Type 0 where
 
 -- what an unused place holds
 abbrev pub noRule : Transition
-noRule = record { from = 0; label = 0; to = 0 }
+noRule = record { from = 0; label = 0; to = 0; kind = 0 }
 
 abbrev pub noLoad : Load
-noLoad = record { parent = 0; power = 0; worth = 0 }
+noLoad = record { parent = 0; kind = 0; power = 0; worth = 0 }
 
 -- "new book: no rules, no marks"
 abbrev pub emptyBook : (states stages : ℕ) → Book

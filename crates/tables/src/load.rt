@@ -1,7 +1,9 @@
 // Loads, and the list of them.
 ghost use mathlib.Core.Path.{_≡_};
+ghost use Rattle.lists.specs.Tests.{some};
 ghost use Rattle.tables.specs.Limits.{loadIn, mostOf};
 ghost use Rattle.tables.specs.Stored.{loadsOf, zeroLoad};
+ghost use Rattle.tables.specs.Kinds.{loadKinded};
 ghost use Rattle.tables.specs.Changes.{withFigure, isChild, hasChildren, reparented};
 ghost use Rattle.tables.specs.Operations.{loadAppended, loadAt, loadReplaced, figureSet, loadRemoved};
 use crate::refusal::FULL;
@@ -12,16 +14,19 @@ pub const MAX_POWER: u16 = 500;
 
 pub const MAX_WORTH: u16 = 1000;
 
+pub const MAX_KIND: u8 = 3;
+
 // A figure of a load that a line can set.
 pub enum Figure {
     Power,
     Worth,
 }
 
-// A load: the number of its parent, its power in watts and its worth.
+// A load: the number of its parent, its kind, its power in watts and its worth. Only load rules of its kind serve it.
 #[repr(C)]
 pub struct Load {
     pub parent: u8,
+    pub kind: u8,
     pub power: u16,
     pub worth: u16,
 }
@@ -55,6 +60,7 @@ impl Load {
     // What an unused place holds.
     pub const NONE: Load = Load {
         parent: 0,
+        kind: 0,
         power: 0,
         worth: 0,
     };
@@ -62,7 +68,7 @@ impl Load {
     pub(crate) fn is_zero(self) -> bool
         ensures { λ r. ⌜ r ≡ zeroLoad self ⌝ }
     {
-        (self.parent == 0) & (self.power == 0) & (self.worth == 0)
+        (self.parent == 0) & (self.power == 0) & (self.worth == 0) & (self.kind == 0)
     }
 
     // Are the parent and the figures in range for the load of this number? The root has parent 0, a later load a smaller number.
@@ -72,7 +78,16 @@ impl Load {
         let parent = self.parent as usize;
         let root = (number == 1) & (parent == 0);
         let child = (1 <= parent) & (parent < number);
-        (root | child) & (self.power <= MAX_POWER) & (self.worth <= MAX_WORTH)
+        (root | child)
+            & (self.power <= MAX_POWER)
+            & (self.worth <= MAX_WORTH)
+            & (self.kind <= MAX_KIND)
+    }
+
+    pub(crate) fn has_kind(self) -> bool
+        ensures { λ r. ⌜ r ≡ loadKinded self ⌝ }
+    {
+        0 < self.kind
     }
 
     // The load with another figure.
@@ -82,11 +97,13 @@ impl Load {
         match figure {
             Figure::Power => Load {
                 parent: self.parent,
+                kind: self.kind,
                 power: value,
                 worth: self.worth,
             },
             Figure::Worth => Load {
                 parent: self.parent,
+                kind: self.kind,
                 power: self.power,
                 worth: value,
             },
@@ -109,6 +126,7 @@ impl Load {
         }
         Load {
             parent: self.parent - 1,
+            kind: self.kind,
             power: self.power,
             worth: self.worth,
         }
@@ -186,6 +204,22 @@ impl LoadList {
             }
             let load = self.items[i];
             if load.is_child(number) {
+                return true;
+            }
+        }
+        false
+    }
+
+    // Has some load a kind other than 0?
+    pub(crate) fn has_kinds(self) -> bool
+        ensures { λ r. ⌜ r ≡ some loadKinded (loadsOf self) ⌝ }
+    {
+        for place in 0..MAX_LOADS {
+            if self.count <= place {
+                return false;
+            }
+            let load = self.items[place];
+            if load.has_kind() {
                 return true;
             }
         }

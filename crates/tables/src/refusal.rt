@@ -24,3 +24,5 @@ pub const HAS_CHILDREN: u8 = 11;
 pub const NO_PLAN: u8 = 12;
 
 pub const NOT_A_PAGE: u8 = 13;
+
+pub const KINDS_IN_USE: u8 = 14;

@@ -2,7 +2,8 @@
 ghost use mathlib.Core.Path.{_≡_};
 ghost use Rattle.tables.specs.Tables.{fresh, emptyBook};
 ghost use Rattle.tables.specs.Limits.{maxLoads};
-ghost use Rattle.tables.specs.Stored.{storedBook, stored, heldSize, heldMarks, heldRules};
+ghost use Rattle.tables.specs.Stored.{storedBook, stored, tablesOf, heldSize, heldMarks, heldRules};
+ghost use Rattle.tables.specs.Kinds.{hasKinds};
 ghost use Rattle.tables.specs.Operations.{putBook, putLoads, putMarks, putRules, bookBegun, markSet, ruleAdded, loadAdded, figureChanged, loadDropped, budgetChanged};
 use crate::load::Figure;
 use crate::load::Load;
@@ -123,6 +124,13 @@ impl StoredTables {
             loads: LoadList::EMPTY,
             budget: 0,
         }
+    }
+
+    // Has some load or load rule a kind other than 0?
+    pub fn has_kinds(self) -> bool
+        ensures { λ r. ⌜ r ≡ hasKinds (tablesOf self) ⌝ }
+    {
+        self.book.load_rules.has_kinds() | self.loads.has_kinds()
     }
 
     fn with_book(self, book: StoredBook) -> StoredTables

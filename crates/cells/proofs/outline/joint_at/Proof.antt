@@ -14,17 +14,17 @@ cast-t11 c = omega (arith, c .shared-slice-known .given (loadPlace (c .before .a
 cast-t16 : tie.Need-cast-t16
 cast-t16 c = omega (arith, c .shared-slice-known2 .given (loadPlace (c .before .before .args .k) + 3))
 
-cast-t26 : tie.Need-cast-t26
-cast-t26 c = omega (arith, c .shared-slice-known4 .given (loadPlace (c .before .before .before .before .before .before .args .k) + 1))
+cast-t30 : tie.Need-cast-t30
+cast-t30 c = omega (arith, c .shared-slice-known5 .given (loadPlace (c .before .before .before .before .before .before .before .args .k) + 1))
 
 returns : tie.Need-returns
-returns c = let s = c .before .before .before .before .before .before .args in rw (le-leb (s .sh .states) (s .x) (c .before .if1 .taken)) refl
+returns c = let s = c .before .before .before .before .before .before .before .args in rw (le-leb (s .sh .states) (s .x) (c .before .if1 .taken)) refl
 
 cast-t8 : tie.Need-cast-t8
-cast-t8 c = omega (arith, c .shared-slice-known5 .given (loadPlace (c .before .before .before .before .before .before .args .k)))
+cast-t8 c = omega (arith, c .shared-slice-known6 .given (loadPlace (c .before .before .before .before .before .before .before .args .k)))
 
 returns-2 : tie.Need-returns-2
-returns-2 c = let s = c .before .before .before .before .before .before .args in rw (lt-leb (s .sh .states) (s .x) (c .before .if1 .left)) refl
+returns-2 c = let s = c .before .before .before .before .before .before .before .args in rw (lt-leb (s .sh .states) (s .x) (c .before .if1 .left)) refl
 
 pub joint-at-spec : {M : Type 1} → statement M
 joint-at-spec =
@@ -45,7 +45,10 @@ joint-at-spec =
     (λ c. search needs)
     (λ c. search needs)
     (λ c. search needs)
-    cast-t26
+    (λ c. search needs)
+    (λ c. search needs)
+    (λ c. search needs)
+    cast-t30
     returns
     (λ c. search needs)
     (λ c. search needs)

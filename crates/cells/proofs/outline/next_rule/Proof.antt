@@ -1,11 +1,10 @@
 -- `next_rule` meets its contract: the rules from j below i do not begin there. Assumes nothing.
-use Prim.Native.Nat.{ℕ, _+_, _-_, _*_, _≤_, _<_}
+use Prim.Native.Nat.{ℕ, _+_, _-_, _≤_, _<_}
 use mathlib.Core.Path.{_≡_, _∙_, sym, ap}
 use mathlib.Core.List.{List}
 use mathlib.Core.Logic.{_⊎_, inl, inr}
 use native.Mathlib.Nat.{eq-or-lt-of-le}
 use native.Mathlib.Omega.{arith}
-use lib.ListN.{getD}
 use Rattle.cells.specs.declared.outline.Rules.{Rules}
 use Rattle.cells.specs.Outline.{ruleIn}
 use Rattle.cells.proofs.outline.next_rule.Statement.{statement}
@@ -19,7 +18,7 @@ passed-more : (o : List ℕ) (r : Rules) (j i : ℕ) → Passed o r j i → (rul
 passed-more o r j i h n m l k = go (eq-or-lt-of-le (omega arith))
   where
     go : (m ≡ i) ⊎ (m < i) → ruleIn o (r .at) m .from ≡ r .from → ⊥
-    go (inl e) f = n (sym (ap (λ (x : ℕ). getD o (r .at + 3 * x) 0) e) ∙ f)
+    go (inl e) f = n (sym (ap (λ (x : ℕ). ruleIn o (r .at) x .from) e) ∙ f)
     go (inr b) f = h m l b f
 
 abbrev Inv-loop : tie.InvT-loop

@@ -17,6 +17,12 @@ slice-write-o-4 c = simp length-set (omega arith)
 slice-write-o-5 : tie.Need-slice-write-o-5
 slice-write-o-5 c = simp length-set (omega arith)
 
+slice-write-o-6 : tie.Need-slice-write-o-6
+slice-write-o-6 c = simp length-set (omega arith)
+
+same-length : tie.Need-same-length
+same-length c = simp length-set
+
 pub put-load-spec : {M : Type 1} → statement M
 put-load-spec =
     tie.close
@@ -41,7 +47,10 @@ put-load-spec =
     slice-write-o-4
     (λ c. search needs)
     (λ c. search needs)
-    (λ c. search needs)
     slice-write-o-5
     (λ c. search needs)
+    (λ c. search needs)
+    (λ c. search needs)
+    slice-write-o-6
+    same-length
     (λ c. search needs))

@@ -11,6 +11,9 @@ slice-write-o-2 c = simp length-set (omega arith)
 slice-write-o-3 : tie.Need-slice-write-o-3
 slice-write-o-3 c = simp length-set (omega arith)
 
+slice-write-o-4 : tie.Need-slice-write-o-4
+slice-write-o-4 c = simp length-set (omega arith)
+
 pub put-rule-spec : {M : Type 1} → statement M
 put-rule-spec =
     tie.close
@@ -26,5 +29,9 @@ put-rule-spec =
     (λ c. search needs)
     (λ c. search needs)
     slice-write-o-3
+    (λ c. search needs)
+    (λ c. search needs)
+    (λ c. search needs)
+    slice-write-o-4
     (λ c. search needs)
     (λ c. search needs))

@@ -6,6 +6,7 @@ use mathlib.Core.List.{List}
 use borrow.Author.Needs.{needs}
 use Rattle.meaning.specs.Best.{loadReach, rowReach}
 use Rattle.cells.specs.declared.problem.Shape.{Shape}
+use Rattle.cells.specs.declared.outline.Lead.{Lead}
 use Rattle.cells.specs.declared.outline.Joint.{Joint}
 use Rattle.cells.specs.Problem.{itemOf}
 use Rattle.cells.specs.Work.{heldBranch, heldRow}
@@ -15,12 +16,12 @@ use Rattle.cells.proofs.Served.{unserved, ruled}
 use Rattle.cells.proofs.stretch.by_rule.Statement.{statement}
 use Rattle.cells.proofs.stretch.by_rule.Tie as tie
 
-module _ (sh : Shape) (w : List ℕ) (t : Joint) (l g a : ℕ) where
-  of-row : t .branch ≡ true → rowReach (heldBranch sh w (t .load)) (heldRow sh w (t .rest)) a (leading l g) ≡ reachOf sh w t a (leading l g)
-  of-row e = ap (λ (b : Bool). reachIf b sh w t a (leading l g)) (sym e)
+module _ (sh : Shape) (w : List ℕ) (t : Joint) (x : Lead) (a : ℕ) where
+  of-row : t .branch ≡ true → rowReach (heldBranch sh w (t .load)) (heldRow sh w (t .rest)) a (leading x) ≡ reachOf sh w t a (leading x)
+  of-row e = ap (λ (b : Bool). reachIf b sh w t a (leading x)) (sym e)
 
-  of-load : t .branch ≡ false → loadReach (itemOf (t .item)) (heldRow sh w (t .rest)) a (leading l g) ≡ reachOf sh w t a (leading l g)
-  of-load e = ap (λ (b : Bool). reachIf b sh w t a (leading l g)) (sym e)
+  of-load : t .branch ≡ false → loadReach (itemOf (t .item)) (heldRow sh w (t .rest)) a (leading x) ≡ reachOf sh w t a (leading x)
+  of-load e = ap (λ (b : Bool). reachIf b sh w t a (leading x)) (sym e)
 
 raise-split-requires : tie.Need-raise-split-requires
 raise-split-requires c κs =
@@ -37,8 +38,8 @@ returns c =
     let s = f .before .before .before .before .before in
     let r = s .pre .0 .2 in
     let q = r .state e in
-    λ h. raised-agree (f .raise-split .ensures (h e .branches (s .args .label) (q .0) (q .1)) (h e .rows (s .args .stage) (r .low) (r .high))) _
-    (λ a l m. of-row (s .args .sh) (s .args .work .now) (s .args .t) (s .args .label) (s .args .stage) a e)
+    λ h. raised-agree (f .raise-split .ensures (h e .branches (s .args .lead .label) (q .0) (q .1)) (h e .rows (s .args .lead .stage) (r .low) (r .high))) _
+    (λ a l m. of-row (s .args .sh) (s .args .work .now) (s .args .t) (s .args .lead) a e)
 
 own-of-requires : tie.Need-own-of-requires
 own-of-requires c κs =
@@ -59,9 +60,9 @@ returns-2 c =
     let e = v .before .if1 .left in
     let s = v .before .before .before .before .args in
     λ h. raised-agree (f .lift-row .ensures) _
-    (λ a l m. ruled (s .t .item) (leading (s .label) (s .stage)) (heldRow (s .sh) (s .work .now) (s .t .rest)) _ (v .serves .ensures) (o .before .before .if2 .taken) _ _
+    (λ a l m. ruled (s .t .item) (leading (s .lead)) (heldRow (s .sh) (s .work .now) (s .t .rest)) _ (v .serves .ensures) (o .before .before .if2 .taken) _ _
     (o .before .draw-of .ensures) (o .own-of .ensures .0) a
-    ∙ of-load (s .sh) (s .work .now) (s .t) (s .label) (s .stage) a e)
+    ∙ of-load (s .sh) (s .work .now) (s .t) (s .lead) a e)
 
 returns-3 : tie.Need-returns-3
 returns-3 c =
@@ -69,8 +70,8 @@ returns-3 c =
     let e = v .before .if1 .left in
     let s = v .before .before .before .before .args in
     λ h. raised-none _ _ _ _
-    (λ a l m. sym (of-load (s .sh) (s .work .now) (s .t) (s .label) (s .stage) a e)
-    ∙ unserved (s .t .item) (leading (s .label) (s .stage)) (heldRow (s .sh) (s .work .now) (s .t .rest)) _ (v .serves .ensures) (c .if2 .left) a)
+    (λ a l m. sym (of-load (s .sh) (s .work .now) (s .t) (s .lead) a e)
+    ∙ unserved (s .t .item) (leading (s .lead)) (heldRow (s .sh) (s .work .now) (s .t .rest)) _ (v .serves .ensures) (c .if2 .left) a)
 
 pub by-rule-spec : {M : Type 1} → statement M
 by-rule-spec =

@@ -30,45 +30,40 @@ loop-holds c =
       λ h. strip-passed (s .o .now) (s .r) (reachOf (s .sh) (s .work .now) (s .t)) (raised-start (λ a. term (s .o .now) (s .r) (reachOf (s .sh) (s .work .now) (s .t) a)) _ _ _) n,
     )
 
-label-of-requires : tie.Need-label-of-requires Inv-loop μ-loop
-label-of-requires c κs = let f = c .before .before .before .before .before .before .before .pre .0 .2 in (omega (arith, f .few), f .room)
-
-stage-of-requires : tie.Need-stage-of-requires Inv-loop μ-loop
-stage-of-requires c κs = let f = c .before .before .before .before .before .before .before .before .pre .0 .2 in (omega (arith, f .few, c .before .if1 .taken), f .room)
+lead-of-requires : tie.Need-lead-of-requires Inv-loop μ-loop
+lead-of-requires c κs = let f = c .before .before .before .before .before .before .before .pre .0 .2 in (omega (arith, f .few), f .room)
 
 by-rule-requires : tie.Need-by-rule-requires Inv-loop μ-loop
 by-rule-requires c κs =
-    let g = c .before in
-    let l = g .before in
+    let l = c .before in
     let t = l .before in
     let e = t .before .before .loop in
     let s = t .before .before .before .before .before .before .before in
     let f = s .pre .0 .2 .each (e .j) (t .if1 .taken) in
-    ((s .pre .0 .0, s .pre .0 .1, fits-leading _ _ _ f _ _ (l .label-of .ensures) (g .stage-of .ensures)), (s .pre .1 .0, omega (arith, s .pre .1 .1, e .inv .1)))
+    ((s .pre .0 .0, s .pre .0 .1, fits-leading _ (s .args .o .now) (s .args .r .at) (e .j) _ (l .lead-of .ensures) _ f), (s .pre .1 .0, omega (arith, s .pre .1 .1, e .inv .1)))
 
 add-next-rule : tie.Need-add-next-rule Inv-loop μ-loop
 add-next-rule c =
-    let t = c .before .before .before .before .before .before in
+    let t = c .before .before .before .before .before in
     let s = t .before .before .before .before .before .before .before in
     omega (arith, t .if1 .taken, s .pre .0 .2 .few)
 
 next-rule-requires-2 : tie.Need-next-rule-requires-2 Inv-loop μ-loop
 next-rule-requires-2 c κs =
-    let t = c .before .before .before .before .before .before in
+    let t = c .before .before .before .before .before in
     let f = t .before .before .before .before .before .before .before .pre .0 .2 in
     (f .few, f .room, omega (arith, t .if1 .taken))
 
 loop-less : tie.Need-loop-less Inv-loop μ-loop
 loop-less c =
-    let t = c .before .before .before .before .before .before .before in
+    let t = c .before .before .before .before .before .before in
     omega (arith, t .if1 .taken, c .next-rule2 .ensures .low, c .next-rule2 .ensures .high)
 
 loop-again : tie.Need-loop-again Inv-loop μ-loop
 loop-again c =
     let n = c .next-rule2 .ensures in
     let b = c .before .before .before in
-    let g = b .before .before in
-    let l = g .before in
+    let l = b .before .before in
     let t = l .before in
     let e = t .before .before .loop in
     let s = t .before .before .before .before .before .before .before .args in
@@ -79,7 +74,7 @@ loop-again c =
       λ h. strip-passed (s .o .now) (s .r) reach
           (strip-raised (s .o .now) (s .r) reach (e .j) (e .inv .3 h) (e .inv .2 (t .if1 .taken))
           (raised-agree (b .by-rule .ensures h) _
-          (λ a u v. reach-leading (s .sh) (s .work .now) (s .t) a (ruleIn (s .o .now) (s .r .at) (e .j)) _ _ (l .label-of .ensures) (g .stage-of .ensures)))) n,
+          (λ a u v. reach-leading (s .sh) (s .o .now) (s .r .at) (e .j) _ (l .lead-of .ensures) (s .work .now) (s .t) a))) n,
     )
 
 returns : tie.Need-returns Inv-loop μ-loop
@@ -97,8 +92,7 @@ raise-spec =
     μ-loop
     (λ c κs. let f = c .before .before .before .pre .0 .2 in (f .few, f .room, omega arith))
     loop-holds
-    label-of-requires
-    stage-of-requires
+    lead-of-requires
     by-rule-requires
     add-next-rule
     next-rule-requires-2

@@ -10,9 +10,10 @@ use borrow.Author.Needs.{needs}
 use Rattle.lists.specs.Argmax.{argmax}
 use Rattle.lists.proofs.Argmax.{argmax-bound, argmax-found}
 use Rattle.cells.specs.declared.problem.Shape.{Shape}
+use Rattle.cells.specs.declared.outline.Lead.{Lead}
 use Rattle.cells.specs.declared.outline.Joint.{Joint}
 use Rattle.cells.specs.declared.outline.Rules.{Rules}
-use Rattle.cells.specs.Outline.{ruleIn, bestIn, NextRule}
+use Rattle.cells.specs.Outline.{ruleIn, leadIn, bestIn, NextRule}
 use Rattle.cells.specs.Stretch.{leading, reachOf}
 use Rattle.cells.proofs.Rules.{term, term-met, term-passed}
 use Rattle.cells.proofs.Served.{reach-leading, fits-leading}
@@ -39,13 +40,13 @@ module _ (sh : Shape) (o w : List ℕ) (t : Joint) (r : Rules) (c goal : ℕ) wh
       go (inl u) = k e pos (rw u at q)
       go (inr u) = h e pos m u q
 
-  -- what rule j reaches, by its numbers, and that it is no more than the best
-  module _ (j l g : ℕ) (h : j < r .count) (b : ruleIn o (r .at) j .from ≡ r .from) (el : l ≡ ruleIn o (r .at) j .label) (eg : g ≡ ruleIn o (r .at) j .to) where
-    by-rule : reachOf sh w t c (leading l g) ≡ term o r (reachOf sh w t c) j
-    by-rule = reach-leading sh w t c (ruleIn o (r .at) j) l g el eg ∙ sym (term-met o r (reachOf sh w t c) j b)
+  -- what rule j reaches, by what it leads to, and that it is no more than the best
+  module _ (j : ℕ) (x : Lead) (h : j < r .count) (b : ruleIn o (r .at) j .from ≡ r .from) (e : x ≡ leadIn o (r .at) j) where
+    by-rule : reachOf sh w t c (leading x) ≡ term o r (reachOf sh w t c) j
+    by-rule = reach-leading sh o (r .at) j x e w t c ∙ sym (term-met o r (reachOf sh w t c) j b)
 
-    no-more : goal ≡ bestIn o r (reachOf sh w t c) .value → reachOf sh w t c (leading l g) ≤ goal
-    no-more e = omega (arith, by-rule, argmax-bound (term o r (reachOf sh w t c)) (r .count) j h)
+    no-more : goal ≡ bestIn o r (reachOf sh w t c) .value → reachOf sh w t c (leading x) ≤ goal
+    no-more q = omega (arith, by-rule, argmax-bound (term o r (reachOf sh w t c)) (r .count) j h)
 
 abbrev Inv-loop : tie.InvT-loop
 Inv-loop sh o t r work c goal j₀ j = (j ≤ r .count) × (j < r .count → ruleIn o (r .at) j .from ≡ r .from) × Missed sh o work t r c goal j
@@ -59,77 +60,73 @@ loop-holds c =
     let s = c .before .before .before .args in
     (n .high, n .found, pass (s .sh) (s .o .now) (s .work .now) (s .t) (s .r) (s .c) (s .goal) 0 _ (λ e pos m l q. absurd (omega arith)) n)
 
-label-of-requires : tie.Need-label-of-requires Inv-loop μ-loop
-label-of-requires c κs = let f = c .before .before .before .before .before .before .pre .0 .2 in (omega (arith, f .few), f .room)
-
-stage-of-requires : tie.Need-stage-of-requires Inv-loop μ-loop
-stage-of-requires c κs = let f = c .before .before .before .before .before .before .before .pre .0 .2 in (omega (arith, f .few, c .before .if1 .taken), f .room)
+lead-of-requires : tie.Need-lead-of-requires Inv-loop μ-loop
+lead-of-requires c κs = let f = c .before .before .before .before .before .before .pre .0 .2 in (omega (arith, f .few), f .room)
 
 share-for-requires : tie.Need-share-for-requires Inv-loop μ-loop
 share-for-requires c κs =
-    let l = c .before in
-    let t = l .before in
+    let t = c .before in
     let e = t .before .before .loop in
     let s = t .before .before .before .before .before .before in
     let f = s .pre .0 .2 .each (e .j) (t .if1 .taken) in
-    ((s .pre .0 .0, s .pre .0 .1, fits-leading _ _ _ f _ _ (l .label-of .ensures) (c .stage-of .ensures)), s .pre .1)
+    ((s .pre .0 .0, s .pre .0 .1, fits-leading _ (s .args .o .now) (s .args .r .at) (e .j) _ (c .lead-of .ensures) _ f), s .pre .1)
 
-add-t13 : tie.Need-add-t13 Inv-loop μ-loop
-add-t13 c = let t = c .before .before .before .before in omega (arith, t .if1 .taken, t .before .before .before .before .before .before .pre .0 .2 .few)
+add-t12 : tie.Need-add-t12 Inv-loop μ-loop
+add-t12 c = let t = c .before .before .before in omega (arith, t .if1 .taken, t .before .before .before .before .before .before .pre .0 .2 .few)
+
+cast-t13 : tie.Need-cast-t13 Inv-loop μ-loop
+cast-t13 c = let t = c .before .before .before in omega (arith, t .if1 .taken, t .before .before .before .before .before .before .pre .0 .2 .few)
 
 cast-t14 : tie.Need-cast-t14 Inv-loop μ-loop
-cast-t14 c = let t = c .before .before .before .before in omega (arith, t .if1 .taken, t .before .before .before .before .before .before .pre .0 .2 .few)
-
-cast-t15 : tie.Need-cast-t15 Inv-loop μ-loop
-cast-t15 c =
+cast-t14 c =
     let l = c .before .before .before in
     let t = l .before in
     let f = t .before .before .before .before .before .before .pre .0 .2 .each _ (t .if1 .taken) in
-    omega (arith, l .label-of .ensures, f .label)
+    omega (arith, ap (λ (x : Lead). x .label) (l .lead-of .ensures), f .label)
 
-cast-t16 : tie.Need-cast-t16 Inv-loop μ-loop
-cast-t16 c =
-    let t = c .before .before .before .before in
+cast-t15 : tie.Need-cast-t15 Inv-loop μ-loop
+cast-t15 c =
+    let l = c .before .before .before .before in
+    let t = l .before in
     let s = t .before .before .before .before .before .before in
     let f = s .pre .0 .2 .each _ (t .if1 .taken) in
-    omega (arith, c .before .before .stage-of .ensures, f .high, s .pre .0 .0 .sane .stages)
+    omega (arith, ap (λ (x : Lead). x .stage) (l .lead-of .ensures), f .high, s .pre .0 .0 .sane .stages)
 
 returns : tie.Need-returns Inv-loop μ-loop
 returns c =
-    let d = c .before in
-    let g = d .before in
-    let l = g .before in
+    let i = c .before .before in
+    let d = i .before in
+    let l = d .before in
     let t = l .before in
     let e = t .before .before .loop in
     let s = t .before .before .before .before .before .before .args in
     let b = e .inv .1 (t .if1 .taken) in
     λ q pos.
-    let h = no-more (s .sh) (s .o .now) (s .work .now) (s .t) (s .r) (s .c) (s .goal) (e .j) _ _ (t .if1 .taken) b (l .label-of .ensures) (g .stage-of .ensures) q in
-    let k = d .share-for .ensures pos h .hit (c .if2 .taken) in
-    let u = by-rule (s .sh) (s .o .now) (s .work .now) (s .t) (s .r) (s .c) (s .goal) (e .j) _ _ (t .if1 .taken) b (l .label-of .ensures) (g .stage-of .ensures) in
+    let h = no-more (s .sh) (s .o .now) (s .work .now) (s .t) (s .r) (s .c) (s .goal) (e .j) _ (t .if1 .taken) b (l .lead-of .ensures) q in
+    let k = d .share-for .ensures pos h .hit (i .if2 .taken) in
+    let u = by-rule (s .sh) (s .o .now) (s .work .now) (s .t) (s .r) (s .c) (s .goal) (e .j) _ (t .if1 .taken) b (l .lead-of .ensures) in
     chosen-is (s .sh) (s .o .now) (s .work .now) (s .t) (s .r) (s .c) (e .j) (t .if1 .taken) (omega (arith, q, pos)) (sym u ∙ k .0 ∙ q)
-    (λ m i z. e .inv .2 q pos m i (z ∙ sym q)) _ _ _ (l .label-of .ensures) (g .stage-of .ensures) (k .1)
+    (λ m i z. e .inv .2 q pos m i (z ∙ sym q)) _ _ (l .lead-of .ensures) (k .1)
 
 add-next-rule : tie.Need-add-next-rule Inv-loop μ-loop
-add-next-rule c = let t = c .before .before .before .before in omega (arith, t .if1 .taken, t .before .before .before .before .before .before .pre .0 .2 .few)
+add-next-rule c = let t = c .before .before .before in omega (arith, t .if1 .taken, t .before .before .before .before .before .before .pre .0 .2 .few)
 
 next-rule-requires-2 : tie.Need-next-rule-requires-2 Inv-loop μ-loop
 next-rule-requires-2 c κs =
-    let t = c .before .before .before .before in
+    let t = c .before .before .before in
     let f = t .before .before .before .before .before .before .pre .0 .2 in
     (f .few, f .room, omega (arith, t .if1 .taken))
 
 loop-less : tie.Need-loop-less Inv-loop μ-loop
 loop-less c =
-    let t = c .before .before .before .before .before in
+    let t = c .before .before .before .before in
     omega (arith, t .if1 .taken, c .next-rule2 .ensures .low, c .next-rule2 .ensures .high)
 
 loop-again : tie.Need-loop-again Inv-loop μ-loop
 loop-again c =
     let n = c .next-rule2 .ensures in
     let d = c .before .before in
-    let g = d .before in
-    let l = g .before in
+    let l = d .before in
     let t = l .before in
     let e = t .before .before .loop in
     let s = t .before .before .before .before .before .before .args in
@@ -139,8 +136,8 @@ loop-again c =
       pass (s .sh) (s .o .now) (s .work .now) (s .t) (s .r) (s .c) (s .goal) _ _
           (miss (s .sh) (s .o .now) (s .work .now) (s .t) (s .r) (s .c) (s .goal) (e .j) (e .inv .2)
           (λ q pos z.
-          let h = no-more (s .sh) (s .o .now) (s .work .now) (s .t) (s .r) (s .c) (s .goal) (e .j) _ _ (t .if1 .taken) b (l .label-of .ensures) (g .stage-of .ensures) q in
-          let u = by-rule (s .sh) (s .o .now) (s .work .now) (s .t) (s .r) (s .c) (s .goal) (e .j) _ _ (t .if1 .taken) b (l .label-of .ensures) (g .stage-of .ensures) in
+          let h = no-more (s .sh) (s .o .now) (s .work .now) (s .t) (s .r) (s .c) (s .goal) (e .j) _ (t .if1 .taken) b (l .lead-of .ensures) q in
+          let u = by-rule (s .sh) (s .o .now) (s .work .now) (s .t) (s .r) (s .c) (s .goal) (e .j) _ (t .if1 .taken) b (l .lead-of .ensures) in
           d .share-for .ensures pos h .miss (c .before .if2 .left) (u ∙ z)))
           n,
     )
@@ -161,13 +158,12 @@ chosen-spec =
     μ-loop
     (λ c κs. let f = c .before .before .pre .0 .2 in (f .few, f .room, omega arith))
     loop-holds
-    label-of-requires
-    stage-of-requires
+    lead-of-requires
     share-for-requires
-    add-t13
+    add-t12
+    cast-t13
     cast-t14
     cast-t15
-    cast-t16
     returns
     add-next-rule
     next-rule-requires-2

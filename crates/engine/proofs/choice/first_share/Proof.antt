@@ -13,10 +13,10 @@ use Rattle.engine.proofs.choice.first_share.Statement.{statement}
 use Rattle.engine.proofs.choice.first_share.Tie as tie
 
 abbrev Inv-loop : tie.InvT-loop
-Inv-loop sh t q h work c goal a₀ a = (a ≤ c + 1) × ((m : ℕ) → m < a → splitAt sh work t c (leading q h) m ≡ goal → ⊥)
+Inv-loop sh t lead work c goal a₀ a = (a ≤ c + 1) × ((m : ℕ) → m < a → splitAt sh work t c (leading lead) m ≡ goal → ⊥)
 
 abbrev μ-loop : tie.MeasureT-loop
-μ-loop sh t q h work c goal a₀ a = c + 1 - a
+μ-loop sh t lead work c goal a₀ a = c + 1 - a
 
 -- one more that does not reach it
 more : (f : ℕ → ℕ) (goal a : ℕ) → ((m : ℕ) → m < a → f m ≡ goal → ⊥) → (f a ≡ goal → ⊥) → (m : ℕ) → m < a + 1 → f m ≡ goal → ⊥
@@ -42,7 +42,7 @@ join-requires c κs = (c .before .row-at .ensures .1, c .branch-at .ensures .1)
 
 -- what the two cells make together
 made : (c : tie.After-join Inv-loop μ-loop) → (let s = c .before .before .before .before .before .before .args in
-    c .join .result ≡ splitAt (s .sh) (s .work .now) (s .t) (s .c) (leading (s .q) (s .h)) (c .before .before .before .before .loop .a))
+    c .join .result ≡ splitAt (s .sh) (s .work .now) (s .t) (s .c) (leading (s .lead)) (c .before .before .before .before .loop .a))
 made c = c .join .ensures ∙ ⊕-comm _ _ ∙ ap₂ _⊕_ (c .before .branch-at .ensures .0) (c .before .before .row-at .ensures .0)
 
 returns : tie.Need-returns Inv-loop μ-loop

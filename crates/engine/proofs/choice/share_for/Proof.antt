@@ -8,6 +8,7 @@ use borrow.Author.Needs.{needs}
 use borrow.Author.Tests.{not-true, not-false}
 use Rattle.meaning.specs.Cell.{_⊕_, score}
 use Rattle.cells.specs.declared.problem.Shape.{Shape}
+use Rattle.cells.specs.declared.outline.Lead.{Lead}
 use Rattle.cells.specs.declared.outline.Joint.{Joint}
 use Rattle.cells.specs.Problem.{itemOf}
 use Rattle.cells.specs.Work.{heldRow}
@@ -20,9 +21,9 @@ use Rattle.engine.proofs.choice.share_for.Statement.{statement}
 use Rattle.engine.proofs.choice.share_for.Tie as tie
 
 -- what is asked for, by the sort of the rule
-abbrev Asked : Shape → List ℕ → Joint → (l g c goal r : ℕ) → Bool → Type 0
-Asked sh w t l g c goal r b =
-    0 < goal → reachIf b sh w t c (leading l g) ≤ goal → Reaches (reachIf b sh w t c (leading l g)) (shareIf b sh w t c (leading l g)) goal c r
+abbrev Asked : Shape → List ℕ → Joint → Lead → (c goal r : ℕ) → Bool → Type 0
+Asked sh w t x c goal r b =
+    0 < goal → reachIf b sh w t c (leading x) ≤ goal → Reaches (reachIf b sh w t c (leading x)) (shareIf b sh w t c (leading x)) goal c r
 
 -- a rule that does not reach the goal
 missed : (reach share goal c r : ℕ) → r ≡ c + 1 → (reach ≡ goal → ⊥) → Reaches reach share goal c r
@@ -38,8 +39,8 @@ first-share-requires c κs =
 returns : tie.Need-returns
 returns c =
     let s = c .before .before .before .args in
-    subst (Asked (s .sh) (s .work .now) (s .t) (s .label) (s .stage) (s .c) (s .goal) (c .first-share .result)) (sym (c .before .if1 .taken))
-    (first-reaches (splitAt (s .sh) (s .work .now) (s .t) (s .c) (leading (s .label) (s .stage))) (s .goal) (s .c) _ (c .first-share .ensures))
+    subst (Asked (s .sh) (s .work .now) (s .t) (s .lead) (s .c) (s .goal) (c .first-share .result)) (sym (c .before .if1 .taken))
+    (first-reaches (splitAt (s .sh) (s .work .now) (s .t) (s .c) (leading (s .lead))) (s .goal) (s .c) _ (c .first-share .ensures))
 
 add-result : tie.Need-add-result
 add-result c = let s = c .before .before .before .before in omega (arith, s .pre .1, s .pre .0 .0 .sane .budget)
@@ -48,9 +49,9 @@ returns-2 : tie.Need-returns-2
 returns-2 c =
     let v = c .before in
     let s = v .before .before .before .args in
-    subst (Asked (s .sh) (s .work .now) (s .t) (s .label) (s .stage) (s .c) (s .goal) _) (sym (v .before .if1 .left))
+    subst (Asked (s .sh) (s .work .now) (s .t) (s .lead) (s .c) (s .goal) _) (sym (v .before .if1 .left))
     (λ pos le. missed _ _ (s .goal) (s .c) _ (omega arith)
-    (λ e. absurd (omega (arith, unserved (s .t .item) (leading (s .label) (s .stage)) (heldRow (s .sh) (s .work .now) (s .t .rest)) _ (v .serves .ensures) (not-true _ (c .if2 .taken)) (s .c)))))
+    (λ e. absurd (omega (arith, unserved (s .t .item) (leading (s .lead)) (heldRow (s .sh) (s .work .now) (s .t .rest)) _ (v .serves .ensures) (not-true _ (c .if2 .taken)) (s .c)))))
 
 add-result-2 : tie.Need-add-result-2
 add-result-2 c = let s = c .before .before .before .before .before .before in omega (arith, s .pre .1, s .pre .0 .0 .sane .budget)
@@ -61,12 +62,12 @@ returns-3 c =
     let v = d .before .before in
     let s = v .before .before .before .args in
     let row = heldRow (s .sh) (s .work .now) (s .t .rest) in
-    subst (Asked (s .sh) (s .work .now) (s .t) (s .label) (s .stage) (s .c) (s .goal) _) (sym (v .before .if1 .left))
+    subst (Asked (s .sh) (s .work .now) (s .t) (s .lead) (s .c) (s .goal) _) (sym (v .before .if1 .left))
     (λ pos le. missed _ _ (s .goal) (s .c) _ (omega arith)
     (λ e. absurd (omega (
       arith,
-      ruled (s .t .item) (leading (s .label) (s .stage)) row _ (v .serves .ensures) (not-false _ (d .before .if2 .left)) _ _ (d .draw-of .ensures) refl (s .c),
-      moved-none (d .draw-of .result) (score (itemOf (s .t .item)) (s .label)) (row (s .stage)) (s .c) (c .if3 .taken),
+      ruled (s .t .item) (leading (s .lead)) row _ (v .serves .ensures) (not-false _ (d .before .if2 .left)) _ _ (d .draw-of .ensures) refl (s .c),
+      moved-none (d .draw-of .result) (score (itemOf (s .t .item)) (s .lead .label)) (row (s .lead .stage)) (s .c) (c .if3 .taken),
     ))))
 
 own-of-requires : tie.Need-own-of-requires
@@ -83,7 +84,7 @@ join-requires c κs = (c .before .own-of .ensures .1, c .row-at .ensures .1)
 
 -- the rule reaches the load's cell joined with the row's
 joined : (c : tie.After-join) → (let s = c .before .before .before .before .before .before .before .before .before .args in
-    c .join .result ≡ reachIf false (s .sh) (s .work .now) (s .t) (s .c) (leading (s .label) (s .stage)))
+    c .join .result ≡ reachIf false (s .sh) (s .work .now) (s .t) (s .c) (leading (s .lead)))
 joined c =
     let o = c .before .before in
     let d = o .before .before in
@@ -92,15 +93,15 @@ joined c =
     let row = heldRow (s .sh) (s .work .now) (s .t .rest) in
     c .join .ensures
     ∙ ap (λ y. o .own-of .result ⊕ y) (c .before .row-at .ensures .0)
-    ∙ sym (moved-at (d .draw-of .result) (o .own-of .result) (row (s .stage)) (s .c) (omega (arith, o .before .if3 .left)))
-    ∙ ruled (s .t .item) (leading (s .label) (s .stage)) row _ (v .serves .ensures) (not-false _ (d .before .if2 .left)) _ _ (d .draw-of .ensures) (o .own-of .ensures .0) (s .c)
+    ∙ sym (moved-at (d .draw-of .result) (o .own-of .result) (row (s .lead .stage)) (s .c) (omega (arith, o .before .if3 .left)))
+    ∙ ruled (s .t .item) (leading (s .lead)) row _ (v .serves .ensures) (not-false _ (d .before .if2 .left)) _ _ (d .draw-of .ensures) (o .own-of .ensures .0) (s .c)
 
 returns-4 : tie.Need-returns-4
 returns-4 c =
     let d = c .before .before .before .before .before in
     let v = d .before .before in
     let s = v .before .before .before .args in
-    subst (Asked (s .sh) (s .work .now) (s .t) (s .label) (s .stage) (s .c) (s .goal) _) (sym (v .before .if1 .left))
+    subst (Asked (s .sh) (s .work .now) (s .t) (s .lead) (s .c) (s .goal) _) (sym (v .before .if1 .left))
     (λ pos le. record {
       hit = λ l. (sym (joined (c .before)) ∙ c .if4 .taken, d .draw-of .ensures);
       miss = λ l. absurd (omega (arith, c .before .before .before .before .if3 .left));
@@ -113,7 +114,7 @@ returns-5 : tie.Need-returns-5
 returns-5 c =
     let v = c .before .before .before .before .before .before .before in
     let s = v .before .before .before .args in
-    subst (Asked (s .sh) (s .work .now) (s .t) (s .label) (s .stage) (s .c) (s .goal) _) (sym (v .before .if1 .left))
+    subst (Asked (s .sh) (s .work .now) (s .t) (s .lead) (s .c) (s .goal) _) (sym (v .before .if1 .left))
     (λ pos le. missed _ _ (s .goal) (s .c) _ (omega arith) (λ e. c .if4 .left (joined (c .before) ∙ e)))
 
 pub share-for-spec : {M : Type 1} → statement M

@@ -9,10 +9,11 @@ use lib.Seq.{getD-take}
 use Rattle.lists.proofs.Arrays.{of-map}
 use Rattle.tables.specs.declared.rule.Sort.the-variants as sort
 use Rattle.tables.specs.declared.rule.TransitionList.{TransitionList}
+use Rattle.tables.specs.declared.load.Load.{Load}
 use Rattle.tables.specs.declared.load.LoadList.{LoadList}
 use Rattle.tables.specs.Tables.{noLoad}
 use Rattle.tables.specs.Limits.{maxLoads}
-use Rattle.tables.specs.Stored.{rulesOf, bookOf, tablesOf}
+use Rattle.tables.specs.Stored.{rulesOf, loadsOf, bookOf, tablesOf}
 use Rattle.judge.specs.declared.figures.Step.{Step}
 use Rattle.judge.specs.Verdict.{proposed}
 use Rattle.judge.specs.Figures.{stepOf}
@@ -21,12 +22,18 @@ use Rattle.judge.proofs.Places.{Filled, fill-none, fill-next}
 use Rattle.judge.proofs.figures.look_up.Statement.{statement}
 use Rattle.judge.proofs.figures.look_up.Tie as tie
 
--- the parent and the step of the load at place j
-abbrev parentOf : LoadList → ℕ → ℕ
-parentOf loads j = getD (loads .items) j noLoad .parent
+-- the load at place j, as it is on paper, its parent and its step
+abbrev loadIn : LoadList → ℕ → Load
+loadIn loads j = getD (loads .items) j noLoad
 
-abbrev stepFor : TransitionList → TransitionList → List ℕ → ℕ → Step
-stepFor load-rules row-rules run j = stepOf (rulesOf load-rules) (rulesOf row-rules) (proposed run (suc j))
+held : (loads : LoadList) (j : ℕ) → j < loads .count → loadIn loads j ≡ getD (loadsOf loads) j noLoad
+held loads j h = sym (getD-take (loads .count) (loads .items) j noLoad h)
+
+abbrev parentOf : LoadList → ℕ → ℕ
+parentOf loads j = loadIn loads j .parent
+
+abbrev stepFor : TransitionList → TransitionList → List ℕ → ℕ → Load → Step
+stepFor load-rules row-rules run j l = stepOf (rulesOf load-rules) (rulesOf row-rules) (l .kind) (proposed run (suc j))
 
 abbrev Inv-loop : tie.InvT-loop
 Inv-loop run loads load-rules row-rules parents₀ begins₀ stages₀ nexts₀ i₀ i-end parents begins stages nexts i =
@@ -34,9 +41,9 @@ Inv-loop run loads load-rules row-rules parents₀ begins₀ stages₀ nexts₀ 
     × (i-end ≤ maxLoads)
     × (length run ≡ 3 * i-end)
     × Filled maxLoads (parentOf loads) parents i
-    × Filled maxLoads (λ j. stepFor load-rules row-rules run j .begin) begins i
-    × Filled maxLoads (λ j. stepFor load-rules row-rules run j .stage) stages i
-    × Filled maxLoads (λ j. stepFor load-rules row-rules run j .next) nexts i
+    × Filled maxLoads (λ j. stepFor load-rules row-rules run j (loadIn loads j) .begin) begins i
+    × Filled maxLoads (λ j. stepFor load-rules row-rules run j (loadIn loads j) .stage) stages i
+    × Filled maxLoads (λ j. stepFor load-rules row-rules run j (loadIn loads j) .next) nexts i
 
 abbrev μ-loop : tie.MeasureT-loop
 μ-loop run loads load-rules row-rules parents₀ begins₀ stages₀ nexts₀ i₀ i-end parents begins stages nexts i = i-end - i
@@ -55,14 +62,14 @@ loop-holds c =
 
 step-of-requires : tie.Need-step-of-requires Inv-loop μ-loop
 step-of-requires c κs =
-    let s = c .before .before .before .before .before .before .before .before .before in
+    let s = c .before .before .before .before .before .before .before .before .before .before in
     let k = kept (s .args .t) (s .pre .0) in
     (k .rules sort.Load, k .rules sort.Row)
 
 loop-again : tie.Need-loop-again Inv-loop μ-loop
 loop-again c =
-    let i = c .before .before .before .before .before .loop .i in
-    let inv = c .before .before .before .before .before .loop .inv in
+    let i = c .before .before .before .before .before .before .loop .i in
+    let inv = c .before .before .before .before .before .before .loop .inv in
     let e = c .step-of .ensures in
     let l : i < maxLoads = omega arith in (
       omega arith,
@@ -75,9 +82,10 @@ loop-again c =
     )
 
 returns : tie.Need-returns Inv-loop μ-loop
-unfolding tablesOf bookOf
+unfolding tablesOf bookOf stepOf
 returns c =
     let s = c .before .before .before .before .before .before in
+    let book = s .args .t .book in
     let loads = s .args .t .loads in
     let k = kept (s .args .t) (s .pre .0) in
     let inv = c .before .loop .inv in
@@ -86,10 +94,8 @@ returns c =
       lawful = k .lawful;
       count = counted;
       endStages = refl;
-      parent = λ j b.
-          let l : j < loads .count = omega (arith, counted) in
-          inv .3 .filled j (omega arith) ∙ sym (ap (λ l. l .parent) (getD-take (loads .count) (loads .items) j noLoad l));
-      begin = λ j b. inv .4 .filled j (omega arith);
+      parent = λ j b. inv .3 .filled j (omega arith) ∙ ap (λ l. l .parent) (held loads j (omega (arith, counted)));
+      begin = λ j b. inv .4 .filled j (omega arith) ∙ ap (λ l. stepFor (book .«load_rules») (book .«row_rules») (s .args .run .now) j l .begin) (held loads j b);
       stage = λ j b. inv .5 .filled j (omega arith);
       next = λ j b. inv .6 .filled j (omega arith);
     }
@@ -110,9 +116,9 @@ look-up-spec =
     (λ c. omega arith)
     (λ c. omega arith)
     (λ c. omega arith)
+    (λ c. omega arith)
+    (λ c. omega arith)
     step-of-requires
-    (λ c. omega arith)
-    (λ c. omega arith)
     (λ c. omega arith)
     (λ c. omega arith)
     (λ c. omega arith)

@@ -7,7 +7,7 @@ use Rattle.judge.proofs.figures.step_of.Tie as tie
 returns : tie.Need-returns
 unfolding stepOf
 returns c =
-    let rules = c .before .before .before .before in
+    let rules = c .before .before .before .before .before in
     rw (← (rules .before .rule-at .ensures), ← (rules .rule-at2 .ensures), ← (c .before .before .only .ensures), ← (c .only2 .ensures))
 
 pub step-of-spec : {M : Type 1} → statement M

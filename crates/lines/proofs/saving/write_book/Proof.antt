@@ -9,6 +9,8 @@ use Rattle.tables.specs.declared.rule.Sort.{Sort}
 use Rattle.tables.specs.declared.rule.Sort.the-variants as sort
 use Rattle.tables.specs.declared.tables.StoredBook.{StoredBook}
 use Rattle.tables.specs.Stored.{heldSize, heldMarks, heldRules, rulesOf}
+use Rattle.lines.specs.declared.SaveForm.{SaveForm}
+use Rattle.lines.specs.declared.SaveForm.the-variants.{Kinds}
 use Rattle.lines.specs.Saved.{sizeChange, markChanges, ruleChange, changesText}
 use Rattle.lines.proofs.Wrote.{wrote-then}
 use Rattle.lines.proofs.Saves.{book-text}
@@ -17,17 +19,17 @@ use Rattle.lines.proofs.saving.write_book.Tie as tie
 
 -- the parts
 abbrev size : StoredBook → List ℕ
-size b = changesText (sizeChange (b .states) (b .stages))
+size b = changesText Kinds (sizeChange (b .states) (b .stages))
 
 abbrev marks : StoredBook → Sort → List ℕ
-marks b k = changesText (markChanges k (heldMarks b k) (heldSize b k))
+marks b k = changesText Kinds (markChanges k (heldMarks b k) (heldSize b k))
 
-abbrev rules : StoredBook → Sort → List ℕ
-rules b k = changesText (map (ruleChange k) (rulesOf (heldRules b k)))
+abbrev rules : SaveForm → StoredBook → Sort → List ℕ
+rules f b k = changesText f (map (ruleChange k) (rulesOf (heldRules b k)))
 
 -- the room, part by part
-room : (c : tie.Start) → let b = c .args .book in
-    c .args .at + (length (size b) + length (marks b sort.Load) + length (marks b sort.Row) + length (rules b sort.Load) + length (rules b sort.Row)) ≤ length (now (c .args .out))
+room : (c : tie.Start) → let b = c .args .book in let f = c .args .form in
+    c .args .at + (length (size b) + length (marks b sort.Load) + length (marks b sort.Row) + length (rules f b sort.Load) + length (rules f b sort.Row)) ≤ length (now (c .args .out))
 room c = simp length-append at (rw book-text at (c .pre .1))
 
 write-size-requires : tie.Need-write-size-requires

@@ -9,6 +9,7 @@ use Rattle.lists.proofs.Arrays.{of-map}
 use Rattle.tables.specs.declared.load.Load.{Load}
 use Rattle.tables.specs.Tables.{noLoad}
 use Rattle.tables.specs.Limits.{maxLoads}
+use Rattle.lines.specs.declared.SaveForm.{SaveForm}
 use Rattle.lines.specs.Written.{changeLine}
 use Rattle.lines.specs.Answers.{Wrote}
 use Rattle.lines.specs.Saved.{loadChange, changesText}
@@ -18,24 +19,24 @@ use Rattle.lines.proofs.saving.write_loads.Statement.{statement}
 use Rattle.lines.proofs.saving.write_loads.Tie as tie
 
 -- the text of the first i loads, and what the next adds to it
-abbrev text : List Load → ℕ → List ℕ
-text xs i = changesText (map loadChange (take i xs))
+abbrev text : SaveForm → List Load → ℕ → List ℕ
+text f xs i = changesText f (map loadChange (take i xs))
 
-abbrev part : List Load → ℕ → List ℕ
-part xs i = changeLine (loadChange (getD xs i noLoad))
+abbrev part : SaveForm → List Load → ℕ → List ℕ
+part f xs i = changeLine f (loadChange (getD xs i noLoad))
 
 abbrev Inv-loop : tie.InvT-loop
-Inv-loop out₀ at loads next₀ i₀ i-end out next i = (i ≤ loads .count) × Wrote out₀ out at next (text (loads .items) i)
+Inv-loop out₀ at form loads next₀ i₀ i-end out next i = (i ≤ loads .count) × Wrote out₀ out at next (text form (loads .items) i)
 
 abbrev μ-loop : tie.MeasureT-loop
-μ-loop out₀ at loads next₀ i₀ i-end out next i = loads .count - i
+μ-loop out₀ at form loads next₀ i₀ i-end out next i = loads .count - i
 
-len : (c : tie.Start Inv-loop μ-loop) → length (c .args .t3 .items) ≡ maxLoads
+len : (c : tie.Start Inv-loop μ-loop) → length (c .args .t4 .items) ≡ maxLoads
 len c = search (needs, of-map)
 
-next-part : (c : tie.Start Inv-loop μ-loop) → let l = c .args .t3 in
-    (i : ℕ) → i < l .count → text (l .items) (i + 1) ≡ text (l .items) i ++ part (l .items) i
-next-part c i h = each-next loadChange noLoad (c .args .t3 .items) i (omega (arith, len c, c .pre .0))
+next-part : (c : tie.Start Inv-loop μ-loop) → let l = c .args .t4 in
+    (i : ℕ) → i < l .count → text (c .args .form) (l .items) (i + 1) ≡ text (c .args .form) (l .items) i ++ part (c .args .form) (l .items) i
+next-part c i h = each-next (c .args .form) loadChange noLoad (c .args .t4 .items) i (omega (arith, len c, c .pre .0))
 
 loop-holds : tie.Need-loop-holds Inv-loop μ-loop
 unfolding changesText
@@ -46,8 +47,8 @@ write-load-requires c κs =
     let t = c .before .before in
     let l = t .before in
     let s = l .before .before in
-    let x = s .args .t3 in
-    part-room (text (x .items)) (part (x .items)) (x .count) (next-part s) (l .loop .i) (t .loop-test .taken) (l .loop .inv .1) (s .pre .1)
+    let x = s .args .t4 in
+    part-room (text (s .args .form) (x .items)) (part (s .args .form) (x .items)) (x .count) (next-part s) (l .loop .i) (t .loop-test .taken) (l .loop .inv .1) (s .pre .1)
 
 loop-again : tie.Need-loop-again Inv-loop μ-loop
 loop-again c =
@@ -55,9 +56,9 @@ loop-again c =
     let t = w .before .before .before in
     let l = t .before in
     let s = l .before .before in
-    let x = s .args .t3 in
+    let x = s .args .t4 in
     let less = t .loop-test .taken in
-    (omega (arith, less), part-more (text (x .items)) (part (x .items)) (x .count) (next-part s) (l .loop .i) less (l .loop .inv .1) (w .write-load .ensures))
+    (omega (arith, less), part-more (text (s .args .form) (x .items)) (part (s .args .form) (x .items)) (x .count) (next-part s) (l .loop .i) less (l .loop .inv .1) (w .write-load .ensures))
 
 same-length : tie.Need-same-length Inv-loop μ-loop
 same-length c = wrote-length (c .before .loop .inv .1)
@@ -66,8 +67,8 @@ returns : tie.Need-returns Inv-loop μ-loop
 returns c =
     let l = c .before in
     let s = l .before .before in
-    let x = s .args .t3 in
-    part-all (text (x .items)) (part (x .items)) (x .count) (next-part s) (l .loop .i) (l .loop .inv .0) (c .loop-test .left) (l .loop .inv .1)
+    let x = s .args .t4 in
+    part-all (text (s .args .form) (x .items)) (part (s .args .form) (x .items)) (x .count) (next-part s) (l .loop .i) (l .loop .inv .0) (c .loop-test .left) (l .loop .inv .1)
 
 pub write-loads-spec : {M : Type 1} → statement M
 write-loads-spec =

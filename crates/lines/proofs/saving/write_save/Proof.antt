@@ -12,6 +12,7 @@ use Rattle.tables.specs.Limits.{maxLoads}
 use Rattle.tables.specs.Stored.{loadsOf, bookOf}
 use Rattle.tables.proofs.Stored.{held-rules, held-loads}
 use Rattle.lines.specs.declared.Change.the-variants.{Clear, Budget}
+use Rattle.lines.specs.declared.SaveForm.{SaveForm}
 use Rattle.lines.specs.Grammar.{lineOf}
 use Rattle.lines.specs.Written.{changeLine}
 use Rattle.lines.specs.Saved.{loadChange, bookChanges, changesText}
@@ -21,21 +22,22 @@ use Rattle.lines.proofs.saving.write_save.Statement.{statement}
 use Rattle.lines.proofs.saving.write_save.Tie as tie
 
 -- the parts
-abbrev book : StoredTables → List ℕ
-book s = changesText (bookChanges (bookOf (s .book)))
+abbrev book : SaveForm → StoredTables → List ℕ
+book f s = changesText f (bookChanges (bookOf (s .book)))
 
-abbrev loads : StoredTables → List ℕ
-loads s = changesText (map loadChange (loadsOf (s .loads)))
+abbrev loads : SaveForm → StoredTables → List ℕ
+loads f s = changesText f (map loadChange (loadsOf (s .loads)))
 
 four-length : (a b c d : List ℕ) → length (a ++ b ++ c ++ d) ≡ length a + length b + length c + length d
 four-length a b c d = simp length-append
 
 -- the room, part by part
-room : (c : tie.Start) → let s = c .args .tables in
-    length (changeLine Clear) + length (book s) + length (loads s) + length (changeLine (Budget (s .budget))) ≤ length (now (c .args .out))
+room : (c : tie.Start) → let s = c .args .tables in let f = c .args .form in
+    length (changeLine f Clear) + length (book f s) + length (loads f s) + length (changeLine f (Budget (s .budget))) ≤ length (now (c .args .out))
 room c =
     let s = c .args .tables in
-    omega (arith, c .pre .1, ap length (save-text s) ∙ four-length (changeLine Clear) (book s) (loads s) (changeLine (Budget (s .budget))))
+    let f = c .args .form in
+    omega (arith, c .pre .1, ap length (save-text f s) ∙ four-length (changeLine f Clear) (book f s) (loads f s) (changeLine f (Budget (s .budget))))
 
 write-line-requires : tie.Need-write-line-requires
 unfolding lineOf

@@ -13,7 +13,7 @@ use Rattle.planner.proofs.Planner.add_rule.Tie as tie
 
 -- the rule that the line names
 line-rule : tie.Start → Transition
-line-rule e = rule (e .args .from) (e .args .label) (e .args .to)
+line-rule e = rule (e .args .from) (e .args .label) (e .args .to) (e .args .kind)
 
 named : (c : tie.After-named-rule) → let e = c .before .before in c .named-rule .result ≡ namedRule (rangeFor (tablesOf (e .args .self .tables) .book) (e .args .sort)) (line-rule e)
 unfolding tablesOf bookOf line-rule

@@ -1,16 +1,12 @@
 -- `Planner::decide` meets its contract: a case for each sort of command. Assumes nothing.
-use mathlib.Core.Path.{refl, ap, _∙_}
+use mathlib.Core.Path.{refl}
 use borrow.Author.Needs.{needs}
 use lib.Dec.{lit<}
 use Rattle.tables.specs.Refusals as no
-use Rattle.lines.specs.declared.answer.Answer.the-variants.{Saved}
-use Rattle.lines.specs.declared.Command.the-variants.{Save, Broken, TooLong}
+use Rattle.lines.specs.declared.Command.the-variants.{Broken, TooLong}
 use Rattle.calls.specs.Rows.{row}
 use Rattle.calls.specs.Causes.{lowest}
-use Rattle.calls.specs.State.{StoredState}
-use Rattle.calls.proofs.State.{kept-stored}
-use Rattle.planner.specs.Planner.{held, plannerOf, stateIn}
-use Rattle.planner.specs.Decided.{unshown, decidedBy}
+use Rattle.planner.specs.Planner.{stateIn}
 use Rattle.planner.proofs.Searching.{turns-down}
 use Rattle.planner.proofs.Deciding.{works-in-none, change-done}
 use Rattle.planner.proofs.Planner.decide.Statement.{statement}
@@ -31,29 +27,26 @@ unfolding row
 returns-3 x = rw (x .before .before .c2 .given .1) (works-in-none _ _ _ refl (x .check .ensures))
 
 returns-4 : tie.Need-returns-4
-unfolding row lowest decidedBy
-returns-4 x =
-    let e = x .before .before .before .before in
-    let p = e .args .self in
-    rw (x .before .enum-told2 .given .1) (works-in-none (stateIn p) (row (stateIn p) Save) (e .args .work .now) refl (x .unshown .ensures ∙ ap (λ (k : StoredState). unshown Saved (plannerOf k)) (kept-stored (held p) (e .pre))))
+unfolding row
+returns-4 x = rw (x .before .before .c3 .given .1) (works-in-none _ _ _ refl (x .save .ensures))
 
 returns-5 : tie.Need-returns-5
 unfolding row
-returns-5 x = rw (x .before .enum-told3 .given .1) (works-in-none _ _ _ refl (x .last .ensures))
+returns-5 x = rw (x .before .enum-told2 .given .1) (works-in-none _ _ _ refl (x .last .ensures))
 
 returns-6 : tie.Need-returns-6
 unfolding row lowest
 returns-6 x =
     let e = x .before .before .before .before in
     let p = e .args .self in
-    rw (x .before .enum-told4 .given .1) (turns-down p (e .pre) (row (stateIn p) Broken) no.broken (e .args .work .now) (lit< tt) refl (x .refused .ensures) refl)
+    rw (x .before .enum-told3 .given .1) (turns-down p (e .pre) (row (stateIn p) Broken) no.broken (e .args .work .now) (lit< tt) refl (x .refused .ensures) refl)
 
 returns-7 : tie.Need-returns-7
 unfolding row lowest
 returns-7 x =
     let e = x .before .before .before .before in
     let p = e .args .self in
-    rw (x .before .enum-told5 .given .1) (turns-down p (e .pre) (row (stateIn p) TooLong) no.tooLong (e .args .work .now) (lit< tt) refl (x .refused2 .ensures) refl)
+    rw (x .before .enum-told4 .given .1) (turns-down p (e .pre) (row (stateIn p) TooLong) no.tooLong (e .args .work .now) (lit< tt) refl (x .refused2 .ensures) refl)
 
 pub decide-spec : {M : Type 1} → statement M
 decide-spec =

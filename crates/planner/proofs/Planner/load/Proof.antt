@@ -24,7 +24,7 @@ use Rattle.planner.proofs.Planner.load.Tie as tie
 
 -- the load that the line names, and its number
 line-load : tie.Start → Load
-line-load e = load (e .args .parent) (e .args .power) (e .args .worth)
+line-load e = load (e .args .parent) (e .args .power) (e .args .worth) (e .args .kind)
 
 number : tie.Start → ℕ
 number e = suc (length (tablesOf (e .args .self .tables) .loads))

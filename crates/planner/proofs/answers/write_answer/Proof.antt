@@ -50,15 +50,15 @@ write-run-requires-2 c κs =
 
 write-save-requires : tie.Need-write-save-requires
 write-save-requires c κs =
-    let k = c .before in
+    let k = c .before .before in
     let e = k .before .before .before in
-    (e .pre .0, rw (k .enum-told3 .given .1) at (e .pre .1))
+    (e .pre .0, rw (k .a2 .given .1) at (e .pre .1))
 
 write-no-requires : tie.Need-write-no-requires
 write-no-requires c κs =
     let k = c .before .before in
     let e = k .before .before .before in
-    omega (arith, rw (k .a2 .given .1) at (e .pre .1))
+    omega (arith, rw (k .a3 .given .1) at (e .pre .1))
 
 returns : tie.Need-returns
 returns c = let w = c .before .before in rw (w .before .before .enum-told .given .1) (w .write-ok .ensures)
@@ -80,10 +80,10 @@ returns-3 c =
     check-wrote (e .args .a) (entries e) (changes e) (k .enum-told2 .given .1) (w .write-yes .ensures) (r .write-run2 .ensures)
 
 returns-4 : tie.Need-returns-4
-returns-4 c = let w = c .before .before in rw (w .before .before .enum-told3 .given .1) (w .write-save .ensures)
+returns-4 c = let w = c .before .before in rw (w .before .before .before .a2 .given .1) (w .write-save .ensures)
 
 returns-5 : tie.Need-returns-5
-returns-5 c = let w = c .before .before in rw (w .before .before .before .a2 .given .1) (w .write-no .ensures)
+returns-5 c = let w = c .before .before in rw (w .before .before .before .a3 .given .1) (w .write-no .ensures)
 
 pub write-answer-spec : {M : Type 1} → statement M
 write-answer-spec =

@@ -26,7 +26,7 @@ within k l b is e = let f : loadIn k l ≡ true = sym is ∙ e in rw (e, f)
 
 -- the load that the line names
 named : tie.Start → Load
-named e = load (e .args .parent) (e .args .power) (e .args .worth)
+named e = load (e .args .parent) (e .args .power) (e .args .worth) (e .args .kind)
 
 passed : (c : tie.Else1) → LoadFits (c .before .args .number) (named (c .before))
 unfolding named
@@ -36,21 +36,25 @@ returns : tie.Need-returns
 unfolding named
 returns c = out _ _ _ (load-range (c .before .args .number) (named (c .before))) (not-true _ (c .if1 .taken))
 
-cast-t16 : tie.Need-cast-t16
+cast-t20 : tie.Need-cast-t20
 unfolding named
-cast-t16 c = omega (arith, passed c .parent, c .before .pre)
+cast-t20 c = omega (arith, passed c .parent, c .before .pre)
 
-cast-t17 : tie.Need-cast-t17
+cast-t21 : tie.Need-cast-t21
 unfolding named
-cast-t17 c = omega (arith, passed c .power)
+cast-t21 c = omega (arith, passed c .kind)
 
-cast-t18 : tie.Need-cast-t18
+cast-t22 : tie.Need-cast-t22
 unfolding named
-cast-t18 c = omega (arith, passed c .worth)
+cast-t22 c = omega (arith, passed c .power)
+
+cast-t23 : tie.Need-cast-t23
+unfolding named
+cast-t23 c = omega (arith, passed c .worth)
 
 returns-2 : tie.Need-returns-2
 unfolding named
 returns-2 c = within _ _ _ (load-range (c .before .args .number) (named (c .before))) (not-false _ (c .if1 .left))
 
 pub named-load-spec : {M : Type 1} → statement M
-named-load-spec = tie.close (tie.spec (λ c. search needs) (λ c. search needs) returns cast-t16 cast-t17 cast-t18 returns-2)
+named-load-spec = tie.close (tie.spec (λ c. search needs) (λ c. search needs) (λ c. search needs) returns cast-t20 cast-t21 cast-t22 cast-t23 returns-2)
