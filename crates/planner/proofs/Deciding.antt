@@ -1,29 +1,36 @@
 -- What a decided answer has: the number that was given, and the text of paper 01; and what a change decides. Assumes nothing.
 use Prim.Native.Nat.{ℕ, zero, suc}
 use mathlib.Core.Path.{_≡_, refl, sym, ap, subst, _∙_}
+use mathlib.Core.Bool.{Bool, true, false}
 use mathlib.Core.List.{List}
 use lib.ListN.{length}
+use Rattle.lines.specs.declared.SaveForm.{SaveForm}
 use Rattle.lines.specs.declared.Change.{Change}
 use Rattle.lines.specs.declared.Command.{Command}
+use Rattle.lines.specs.declared.Command.the-variants.{Save}
+use Rattle.lines.specs.declared.answer.Answer.the-variants.{Saved, Refused}
 use Rattle.lines.specs.Grammar.{lineCommand}
-use Rattle.lines.specs.Saved.{saved}
+use Rattle.lines.specs.Saved.{saved, losesKinds}
 use Rattle.lines.specs.Answers.{numberOf, answerOf, textOf}
+use Rattle.tables.specs.Refusals as no
 use Rattle.tables.specs.Limits.{maxLoads}
-use Rattle.calls.specs.State.{State, storedState, Within}
+use Rattle.calls.specs.State.{State, StoredState, storedState, Within}
 use Rattle.calls.specs.Rows.{Row, changes, changing, row, lineRow, bytesOf, causesOf, cellsFor}
 use Rattle.calls.specs.Causes.{lowest}
 use Rattle.calls.specs.Effects.{stateBy}
 use Rattle.calls.specs.Printing.{shownBy, text}
 use Rattle.calls.specs.Demand1.{bytesFor}
+use Rattle.calls.proofs.State.{kept-stored}
 use Rattle.calls.proofs.Rows.{Right}
 use Rattle.calls.proofs.Work.{no-cells}
 use Rattle.calls.proofs.ByCommand.{row-bytes}
 use Rattle.runs.specs.Runs.{runOf, entriesTo}
+use Rattle.planner.specs.declared.Planner.{Planner}
 use Rattle.planner.specs.declared.changes.Changed.{Changed}
 use Rattle.planner.specs.declared.search.Decided.{Decided}
-use Rattle.planner.specs.Planner.{plannerOf}
+use Rattle.planner.specs.Planner.{held, plannerOf, stateIn, Lawful}
 use Rattle.planner.specs.Changes.{madeBy, changedBy}
-use Rattle.planner.specs.Decided.{unshown, decidedBy, decided, Decides}
+use Rattle.planner.specs.Decided.{saveAnswer, unshown, decidedBy, decided, Decides}
 use Rattle.planner.proofs.RunLines.{shown-lines}
 
 -- ---- the answer
@@ -67,3 +74,12 @@ change-done s c w is-x is-d =
     go : (n : ℕ) → unshown (answerOf n) (plannerOf (storedState (stateBy s n (changes (changing (s .tables) c))))) ≡ decidedBy s n (changes (changing (s .tables) c))
     go zero = refl
     go (suc n) = refl
+
+-- a save: one cause, and the planner as it was
+pub save-done : (p : Planner) → Lawful p → (f : SaveForm) → unshown (saveAnswer f (stateIn p .tables)) p ≡ decided (stateIn p) 0 (row (stateIn p) (Save f))
+unfolding row lowest decidedBy saveAnswer
+save-done p h f = go (losesKinds f (stateIn p .tables)) refl
+  where
+    go : (b : Bool) → losesKinds f (stateIn p .tables) ≡ b → unshown (saveAnswer f (stateIn p .tables)) p ≡ decided (stateIn p) 0 (row (stateIn p) (Save f))
+    go true e = rw e (ap (λ (k : StoredState). unshown (Refused no.kindsInUse) (plannerOf k)) (kept-stored (held p) h))
+    go false e = rw e (ap (λ (k : StoredState). unshown (Saved f) (plannerOf k)) (kept-stored (held p) h))

@@ -1,11 +1,18 @@
 -- What a row is answered, the run that it shows and the planner after it.
--- It stands for "An accepted change prints `ok`. A plan prints .. An allowed check prints `yes` and the same load lines." of paper 01.
+-- It stands for "An accepted change prints `ok`. A plan prints .. An allowed check prints `yes` and the same load lines." of paper 01, and for "14,
+-- `save1` while some load or load rule has a kind other than 0" of request Eight of paper 02.
 -- Assumes nothing.
 use Prim.Native.Nat.{ℕ}
 use mathlib.Core.Path.{_≡_}
 use mathlib.Core.List.{List, []}
 use lib.ListN.{length}
+use Rattle.lists.specs.Tests.{pick}
+use Rattle.lines.specs.declared.SaveForm.{SaveForm}
 use Rattle.lines.specs.declared.answer.Answer.{Answer}
+use Rattle.lines.specs.declared.answer.Answer.the-variants.{Saved, Refused}
+use Rattle.lines.specs.Saved.{losesKinds}
+use Rattle.tables.specs.Refusals as no
+use Rattle.tables.specs.Tables.{Tables}
 use Rattle.lines.specs.Answers.{numberOf}
 use Rattle.calls.specs.State.{State, storedState}
 use Rattle.calls.specs.Rows.{Row, causesOf}
@@ -16,6 +23,10 @@ use Rattle.runs.specs.Runs.{runOf}
 use Rattle.planner.specs.declared.Planner.{Planner}
 use Rattle.planner.specs.declared.search.Decided.{Decided}
 use Rattle.planner.specs.Planner.{plannerOf}
+
+-- what a save in a form is answered: 14 where a kind would be lost
+unfoldable pub saveAnswer : SaveForm → Tables → Answer
+saveAnswer f t = pick (losesKinds f t) (Refused no.kindsInUse) (Saved f)
 
 -- an answer that shows no run
 abbrev pub unshown : Answer → Planner → Decided

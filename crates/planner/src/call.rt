@@ -15,7 +15,6 @@ use tables::refusal::UNUSABLE;
 use tables::tables::StoredTables;
 ghost use mathlib.Core.Path.{_≡_};
 ghost use mathlib.Core.Bool.{true};
-ghost use Rattle.lines.specs.declared.Command.the-variants as line;
 ghost use Rattle.lines.specs.Saved.{losesKinds};
 ghost use Rattle.tables.specs.Stored.{tablesOf};
 ghost use Rattle.calls.specs.State.{keeps};
@@ -23,7 +22,7 @@ ghost use Rattle.calls.specs.Rows.{row};
 ghost use Rattle.calls.specs.Calls.{called};
 ghost use Rattle.calls.specs.Demand1.{bytesFor};
 ghost use Rattle.planner.specs.Planner.{held, stateIn, Lawful};
-ghost use Rattle.planner.specs.Decided.{unshown, decided, Decides};
+ghost use Rattle.planner.specs.Decided.{saveAnswer, unshown, Decides};
 ghost use Rattle.planner.specs.Calls.{callOf, doneOf, turnedAway};
 
 // "1,024 bytes must be free from there."
@@ -64,6 +63,18 @@ fn loses_kinds(form: SaveForm, tables: StoredTables) -> bool
     }
 }
 
+// What a save in this form is answered. It changes nothing.
+fn save_answer(form: SaveForm, tables: StoredTables) -> Answer
+    ensures { λ r. ⌜ r ≡ saveAnswer form (tablesOf tables) ⌝ }
+{
+    if loses_kinds(form, tables) {
+        return Answer::Refused {
+            number: KINDS_IN_USE,
+        };
+    }
+    Answer::Saved { form }
+}
+
 // A change shows no run.
 fn changed(c: Changed) -> Decided
     ensures { λ r. ⌜ r ≡ unshown (c .answer) (c .planner) ⌝ }
@@ -74,17 +85,6 @@ fn changed(c: Changed) -> Decided
 }
 
 impl Planner {
-    // The tables are saved, in a form that holds their kinds.
-    fn save(self, form: SaveForm) -> Decided
-        requires { ⌜ Lawful self ⌝ }
-        ensures { λ r. ⌜ r ≡ decided (stateIn self) 0 (row (stateIn self) (line.Save form)) ⌝ }
-    {
-        if loses_kinds(form, self.tables) {
-            return self.refused(KINDS_IN_USE);
-        }
-        unshown(Answer::Saved { form }, self)
-    }
-
     // What a command answers.
     fn decide(self, c: Command, work: &mut [u32]) -> Decided
         requires { ⌜ Lawful self ⌝ }
@@ -94,7 +94,7 @@ impl Planner {
             Command::Change(change) => changed(self.change(change)),
             Command::Plan => self.plan(work),
             Command::Check { set, count } => self.check(set, count),
-            Command::Save(form) => self.save(form),
+            Command::Save(form) => unshown(save_answer(form, self.tables), self),
             Command::Last => self.last(),
             Command::Broken => self.refused(BROKEN),
             Command::TooLong => self.refused(TOO_LONG),

@@ -1,14 +1,16 @@
 -- `Planner::decide` meets its contract: a case for each sort of command. Assumes nothing.
-use mathlib.Core.Path.{refl}
+use mathlib.Core.Path.{refl, ap, _∙_}
 use borrow.Author.Needs.{needs}
 use lib.Dec.{lit<}
 use Rattle.tables.specs.Refusals as no
 use Rattle.lines.specs.declared.Command.the-variants.{Broken, TooLong}
 use Rattle.calls.specs.Rows.{row}
 use Rattle.calls.specs.Causes.{lowest}
+use Rattle.lines.specs.declared.answer.Answer.{Answer}
 use Rattle.planner.specs.Planner.{stateIn}
+use Rattle.planner.specs.Decided.{unshown}
 use Rattle.planner.proofs.Searching.{turns-down}
-use Rattle.planner.proofs.Deciding.{works-in-none, change-done}
+use Rattle.planner.proofs.Deciding.{works-in-none, change-done, save-done}
 use Rattle.planner.proofs.Planner.decide.Statement.{statement}
 use Rattle.planner.proofs.Planner.decide.Tie as tie
 
@@ -28,7 +30,11 @@ returns-3 x = rw (x .before .before .c2 .given .1) (works-in-none _ _ _ refl (x 
 
 returns-4 : tie.Need-returns-4
 unfolding row
-returns-4 x = rw (x .before .before .c3 .given .1) (works-in-none _ _ _ refl (x .save .ensures))
+returns-4 x =
+    let k = x .before .before .before in
+    let e = k .before .before .before in
+    let p = e .args .self in
+    rw (k .c3 .given .1) (works-in-none (stateIn p) _ (e .args .work .now) refl (x .unshown .ensures ∙ ap (λ (a : Answer). unshown a p) (x .before .save-answer .ensures) ∙ save-done p (e .pre) _))
 
 returns-5 : tie.Need-returns-5
 unfolding row
@@ -60,6 +66,7 @@ decide-spec =
     (λ c. search needs)
     (λ c κs. search needs)
     (λ c. search needs)
+    (λ c κs. search needs)
     (λ c κs. search needs)
     (λ c. search needs)
     (λ c κs. search needs)
