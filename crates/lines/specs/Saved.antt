@@ -68,10 +68,13 @@ changesText f (c ∷ cs) = changeLine f c ++ changesText f cs
 abbrev pub saveText : SaveForm → Tables → List ℕ
 saveText f t = changesText f (saved t)
 
--- would it lose a kind? "`save1` while some load or load rule has a kind other than 0"
+-- would it lose a kind, where some are in use? "`save1` while some load or load rule has a kind other than 0"
+abbrev pub loses : SaveForm → (inUse : Bool) → Bool
+loses form.Kinds b = false
+loses form.Plain b = b
+
 abbrev pub losesKinds : SaveForm → Tables → Bool
-losesKinds form.Kinds t = false
-losesKinds form.Plain t = hasKinds t
+losesKinds f t = loses f (hasKinds t)
 
 -- "It needs 3,000 free bytes", and so does `save1`
 abbrev pub saveBytes : ℕ

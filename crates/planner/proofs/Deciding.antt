@@ -14,6 +14,7 @@ use Rattle.lines.specs.Saved.{saved, losesKinds}
 use Rattle.lines.specs.Answers.{numberOf, answerOf, textOf}
 use Rattle.tables.specs.Refusals as no
 use Rattle.tables.specs.Limits.{maxLoads}
+use Rattle.tables.specs.Kinds.{hasKinds}
 use Rattle.calls.specs.State.{State, StoredState, storedState, Within}
 use Rattle.calls.specs.Rows.{Row, changes, changing, row, lineRow, bytesOf, causesOf, cellsFor}
 use Rattle.calls.specs.Causes.{lowest}
@@ -76,10 +77,10 @@ change-done s c w is-x is-d =
     go (suc n) = refl
 
 -- a save: one cause, and the planner as it was
-pub save-done : (p : Planner) → Lawful p → (f : SaveForm) → unshown (saveAnswer f (stateIn p .tables)) p ≡ decided (stateIn p) 0 (row (stateIn p) (Save f))
+pub save-done : (p : Planner) → Lawful p → (f : SaveForm) → unshown (saveAnswer f (hasKinds (stateIn p .tables))) p ≡ decided (stateIn p) 0 (row (stateIn p) (Save f))
 unfolding row lowest decidedBy saveAnswer
 save-done p h f = go (losesKinds f (stateIn p .tables)) refl
   where
-    go : (b : Bool) → losesKinds f (stateIn p .tables) ≡ b → unshown (saveAnswer f (stateIn p .tables)) p ≡ decided (stateIn p) 0 (row (stateIn p) (Save f))
+    go : (b : Bool) → losesKinds f (stateIn p .tables) ≡ b → unshown (saveAnswer f (hasKinds (stateIn p .tables))) p ≡ decided (stateIn p) 0 (row (stateIn p) (Save f))
     go true e = rw e (ap (λ (k : StoredState). unshown (Refused no.kindsInUse) (plannerOf k)) (kept-stored (held p) h))
     go false e = rw e (ap (λ (k : StoredState). unshown (Saved f) (plannerOf k)) (kept-stored (held p) h))

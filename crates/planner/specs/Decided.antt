@@ -4,15 +4,15 @@
 -- Assumes nothing.
 use Prim.Native.Nat.{ℕ}
 use mathlib.Core.Path.{_≡_}
+use mathlib.Core.Bool.{Bool}
 use mathlib.Core.List.{List, []}
 use lib.ListN.{length}
 use Rattle.lists.specs.Tests.{pick}
 use Rattle.lines.specs.declared.SaveForm.{SaveForm}
 use Rattle.lines.specs.declared.answer.Answer.{Answer}
 use Rattle.lines.specs.declared.answer.Answer.the-variants.{Saved, Refused}
-use Rattle.lines.specs.Saved.{losesKinds}
+use Rattle.lines.specs.Saved.{loses}
 use Rattle.tables.specs.Refusals as no
-use Rattle.tables.specs.Tables.{Tables}
 use Rattle.lines.specs.Answers.{numberOf}
 use Rattle.calls.specs.State.{State, storedState}
 use Rattle.calls.specs.Rows.{Row, causesOf}
@@ -24,9 +24,9 @@ use Rattle.planner.specs.declared.Planner.{Planner}
 use Rattle.planner.specs.declared.search.Decided.{Decided}
 use Rattle.planner.specs.Planner.{plannerOf}
 
--- what a save in a form is answered: 14 where a kind would be lost
-unfoldable pub saveAnswer : SaveForm → Tables → Answer
-saveAnswer f t = pick (losesKinds f t) (Refused no.kindsInUse) (Saved f)
+-- what a save in a form is answered, where kinds are in use or not: 14 where a kind would be lost
+unfoldable pub saveAnswer : SaveForm → (inUse : Bool) → Answer
+saveAnswer f b = pick (loses f b) (Refused no.kindsInUse) (Saved f)
 
 -- an answer that shows no run
 abbrev pub unshown : Answer → Planner → Decided

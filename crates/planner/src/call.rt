@@ -12,11 +12,9 @@ use tables::refusal::BROKEN;
 use tables::refusal::KINDS_IN_USE;
 use tables::refusal::TOO_LONG;
 use tables::refusal::UNUSABLE;
-use tables::tables::StoredTables;
 ghost use mathlib.Core.Path.{_≡_};
 ghost use mathlib.Core.Bool.{true};
-ghost use Rattle.lines.specs.Saved.{losesKinds};
-ghost use Rattle.tables.specs.Stored.{tablesOf};
+ghost use Rattle.lines.specs.Saved.{loses};
 ghost use Rattle.calls.specs.State.{keeps};
 ghost use Rattle.calls.specs.Rows.{row};
 ghost use Rattle.calls.specs.Calls.{called};
@@ -53,21 +51,21 @@ fn bytes_for(c: Command) -> usize
     }
 }
 
-// Would a save in this form lose a kind?
-fn loses_kinds(form: SaveForm, tables: StoredTables) -> bool
-    ensures { λ r. ⌜ r ≡ losesKinds form (tablesOf tables) ⌝ }
+// Would a save in this form lose a kind, where some are in use?
+fn loses(form: SaveForm, in_use: bool) -> bool
+    ensures { λ r. ⌜ r ≡ loses form «in_use» ⌝ }
 {
     match form {
         SaveForm::Kinds => false,
-        SaveForm::Plain => tables.has_kinds(),
+        SaveForm::Plain => in_use,
     }
 }
 
-// What a save in this form is answered. It changes nothing.
-fn save_answer(form: SaveForm, tables: StoredTables) -> Answer
-    ensures { λ r. ⌜ r ≡ saveAnswer form (tablesOf tables) ⌝ }
+// What a save in this form is answered, where kinds are in use or not. It changes nothing.
+fn save_answer(form: SaveForm, in_use: bool) -> Answer
+    ensures { λ r. ⌜ r ≡ saveAnswer form «in_use» ⌝ }
 {
-    if loses_kinds(form, tables) {
+    if loses(form, in_use) {
         return Answer::Refused {
             number: KINDS_IN_USE,
         };
@@ -94,7 +92,7 @@ impl Planner {
             Command::Change(change) => changed(self.change(change)),
             Command::Plan => self.plan(work),
             Command::Check { set, count } => self.check(set, count),
-            Command::Save(form) => unshown(save_answer(form, self.tables), self),
+            Command::Save(form) => unshown(save_answer(form, self.tables.has_kinds()), self),
             Command::Last => self.last(),
             Command::Broken => self.refused(BROKEN),
             Command::TooLong => self.refused(TOO_LONG),

@@ -8,7 +8,7 @@ use Rattle.calls.specs.Rows.{row}
 use Rattle.calls.specs.Causes.{lowest}
 use Rattle.lines.specs.declared.answer.Answer.{Answer}
 use Rattle.planner.specs.Planner.{stateIn}
-use Rattle.planner.specs.Decided.{unshown}
+use Rattle.planner.specs.Decided.{saveAnswer, unshown}
 use Rattle.planner.proofs.Searching.{turns-down}
 use Rattle.planner.proofs.Deciding.{works-in-none, change-done, save-done}
 use Rattle.planner.proofs.Planner.decide.Statement.{statement}
@@ -31,10 +31,12 @@ returns-3 x = rw (x .before .before .c2 .given .1) (works-in-none _ _ _ refl (x 
 returns-4 : tie.Need-returns-4
 unfolding row
 returns-4 x =
-    let k = x .before .before .before in
+    let u = x .before .before in
+    let k = u .before .before in
     let e = k .before .before .before in
     let p = e .args .self in
-    rw (k .c3 .given .1) (works-in-none (stateIn p) _ (e .args .work .now) refl (x .unshown .ensures ∙ ap (λ (a : Answer). unshown a p) (x .before .save-answer .ensures) ∙ save-done p (e .pre) _))
+    rw (k .c3 .given .1) (works-in-none (stateIn p) _ (e .args .work .now) refl
+    (x .unshown .ensures ∙ ap (λ (a : Answer). unshown a p) (x .before .save-answer .ensures ∙ ap (saveAnswer _) (u .has-kinds .ensures)) ∙ save-done p (e .pre) _))
 
 returns-5 : tie.Need-returns-5
 unfolding row
@@ -66,6 +68,7 @@ decide-spec =
     (λ c. search needs)
     (λ c κs. search needs)
     (λ c. search needs)
+    (λ c κs. search needs)
     (λ c κs. search needs)
     (λ c κs. search needs)
     (λ c. search needs)

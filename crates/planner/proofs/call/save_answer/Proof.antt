@@ -7,11 +7,11 @@ use Rattle.planner.proofs.call.save_answer.Tie as tie
 
 returns : tie.Need-returns
 unfolding saveAnswer
-returns c = rw (sym (c .before .loses-kinds .ensures) ∙ c .if1 .taken)
+returns c = rw (sym (c .before .loses .ensures) ∙ c .if1 .taken)
 
 returns-2 : tie.Need-returns-2
 unfolding saveAnswer
-returns-2 c = rw (sym (c .before .loses-kinds .ensures) ∙ c .if1 .left)
+returns-2 c = rw (sym (c .before .loses .ensures) ∙ c .if1 .left)
 
 pub save-answer-spec : {M : Type 1} → statement M
 save-answer-spec = tie.close (tie.spec (λ c κs. search needs) returns returns-2)
