@@ -95,8 +95,8 @@ zeros-parse s t z = go (fields s) (fields-cons s) (fields t) (fields-cons t) (z 
     go ls (cons v fs) ms (cons w gs) e o h = same-found v (not-same check v (λ q. o (sym q))) h table kept ∙ ap (λ (x : List ℕ). findForm table x gs) e
 
 -- ---- and so does a line with a kind 0 written out
-abbrev kindless : (isNumbers : Bool) → Command → Command
-kindless b c = pick b c Broken
+abbrev ifNumbers : (isNumbers : Bool) → Command → Command
+ifNumbers b c = pick b c Broken
 
 module _ (a b c z : List ℕ) (is : isNumber z ≡ true) (zero-kind : value z ≡ 0) where
   abbrev three : Bool
@@ -110,11 +110,11 @@ module _ (a b c z : List ℕ) (is : isNumber z ≡ true) (zero-kind : value z �
 
   rule-written : findForm table (bytes "rule") (a ∷ b ∷ c ∷ []) ≡ findForm table (bytes "rule") (a ∷ b ∷ c ∷ z ∷ [])
   unfolding findForm same every valueFrom
-  rule-written = ap₂ (λ (x : Bool) (k : ℕ). kindless x (Change (Rule (value a) (value b) (value c) k))) (sym same-numbers-all) (sym zero-kind)
+  rule-written = ap₂ (λ (x : Bool) (k : ℕ). ifNumbers x (Change (Rule (value a) (value b) (value c) k))) (sym same-numbers-all) (sym zero-kind)
 
   load-written : findForm table (bytes "load") (a ∷ b ∷ c ∷ []) ≡ findForm table (bytes "load") (a ∷ b ∷ c ∷ z ∷ [])
   unfolding findForm same every valueFrom
-  load-written = ap₂ (λ (x : Bool) (k : ℕ). kindless x (Change (Load (value a) (value b) (value c) k))) (sym same-numbers-all) (sym zero-kind)
+  load-written = ap₂ (λ (x : Bool) (k : ℕ). ifNumbers x (Change (Load (value a) (value b) (value c) k))) (sym same-numbers-all) (sym zero-kind)
 
 -- three fields, and one more
 written-found : (w : List ℕ) → (w ≡ bytes "rule") ⊎ (w ≡ bytes "load") → (fs : List (List ℕ)) → length fs ≡ 3 → (z : List ℕ) → isNumber z ≡ true → value z ≡ 0

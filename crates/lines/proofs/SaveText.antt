@@ -15,7 +15,7 @@ use Rattle.lines.specs.declared.SaveForm.the-variants as form
 use Rattle.lines.specs.declared.Change.{Change}
 use Rattle.lines.specs.declared.Change.the-variants as to
 use Rattle.lines.specs.Text.{comma, lineFeed, decimal}
-use Rattle.lines.specs.Grammar.{mostDigits, kindIn, kindTold, told, lineOf}
+use Rattle.lines.specs.Grammar.{mostDigits, kindField, kindTold, told, lineOf}
 use Rattle.lines.specs.Written.{parted, line, Short, changeLine}
 use Rattle.lines.specs.Saved.{markChange, markChanges, ruleChange, loadChange, sizeChange, bookChanges, saved, changesText, saveText, losesKinds, saveBytes}
 use Rattle.lines.proofs.Decimal.{decimal-length}
@@ -66,9 +66,9 @@ digitsOf f to.Clear = []
 digitsOf f (to.Book s g) = 1 ∷ 1 ∷ []
 digitsOf f (to.Start q) = 1 ∷ []
 digitsOf f (to.End g) = 1 ∷ []
-digitsOf f (to.Rule q m g k) = 1 ∷ 1 ∷ 1 ∷ kindIn f 1
+digitsOf f (to.Rule q m g k) = 1 ∷ 1 ∷ 1 ∷ kindField f 1
 digitsOf f (to.Row g q h) = 1 ∷ 1 ∷ 1 ∷ []
-digitsOf f (to.Load p w v k) = 3 ∷ 3 ∷ 4 ∷ kindIn f 1
+digitsOf f (to.Load p w v k) = 3 ∷ 3 ∷ 4 ∷ kindField f 1
 digitsOf f (to.Power k w) = 3 ∷ 3 ∷ []
 digitsOf f (to.Worth k v) = 3 ∷ 4 ∷ []
 digitsOf f (to.Budget w) = 3 ∷ []
@@ -92,7 +92,7 @@ three-digits h = record { below = h; some = lit≤ tt; few = lit≤ tt; short = 
 four-digits : {n : ℕ} → n < 10000 → Digits n 4
 four-digits h = record { below = h; some = lit≤ tt; few = lit≤ tt; short = lit≤ tt }
 
-kind-digit : (f : SaveForm) (k : ℕ) → k < 10 → Pairwise Digits (kindIn f k) (kindIn f 1)
+kind-digit : (f : SaveForm) (k : ℕ) → k < 10 → Pairwise Digits (kindField f k) (kindField f 1)
 kind-digit form.Kinds k h = both (one-digit h) none
 kind-digit form.Plain k h = none
 
@@ -256,7 +256,7 @@ module _ (f : SaveForm) where
   most-ends b = lit≤ tt
 
 -- a kind and its comma
-most-kind : (f : SaveForm) (k : ℕ) → weight (kindIn f k) ≤ suc k
+most-kind : (f : SaveForm) (k : ℕ) → weight (kindField f k) ≤ suc k
 unfolding weight
 most-kind form.Kinds k = omega arith
 most-kind form.Plain k = omega arith

@@ -21,7 +21,7 @@ use Rattle.lines.specs.declared.SaveForm.the-variants.{Kinds, Plain}
 use Rattle.lines.specs.declared.Change.{Change}
 use Rattle.lines.specs.declared.Change.the-variants.{Clear, Book, Budget}
 use Rattle.lines.specs.Text.{comma, lineFeed, decimal}
-use Rattle.lines.specs.Grammar.{kindIn, numbersIn, lineOf}
+use Rattle.lines.specs.Grammar.{kindField, numberCount, lineOf}
 use Rattle.lines.specs.Reading.{mostNumbers}
 use Rattle.lines.specs.Written.{parted, line, changeLine}
 use Rattle.lines.specs.Answers.{Wrote}
@@ -43,20 +43,20 @@ pub line-next : (w v : List ℕ) (i : ℕ) → i < length v → line w (take (i 
 line-next w v i h = rw (add-one i, take-suc v i 0 h, map-append) (parted-snoc (map decimal (take i v)) w (decimal (getD v i 0)))
 
 -- ---- the numbers of the line of a load and of a load rule
-module _ (f : SaveForm) (w : List ℕ) (a b c k : ℕ) {m : ℕ} (e : m ≡ numbersIn f) where
-  few : (f : SaveForm) → numbersIn f ≤ mostNumbers
+module _ (f : SaveForm) (w : List ℕ) (a b c k : ℕ) {m : ℕ} (e : m ≡ numberCount f) where
+  few : (f : SaveForm) → numberCount f ≤ mostNumbers
   few Kinds = lit≤ tt
   few Plain = lit≤ tt
 
-  first : (f : SaveForm) → take (numbersIn f) (a ∷ b ∷ c ∷ k ∷ []) ≡ a ∷ b ∷ c ∷ kindIn f k
+  first : (f : SaveForm) → take (numberCount f) (a ∷ b ∷ c ∷ k ∷ []) ≡ a ∷ b ∷ c ∷ kindField f k
   first Kinds = refl
   first Plain = refl
 
   -- so many of all numbers are those of the form
-  taken : take m (a ∷ b ∷ c ∷ k ∷ []) ≡ a ∷ b ∷ c ∷ kindIn f k
+  taken : take m (a ∷ b ∷ c ∷ k ∷ []) ≡ a ∷ b ∷ c ∷ kindField f k
   taken = ap (λ (x : ℕ). take x (a ∷ b ∷ c ∷ k ∷ [])) e ∙ first f
 
-  pub kind-room : (at n : ℕ) → at + length (line w (a ∷ b ∷ c ∷ kindIn f k) ++ (lineFeed ∷ [])) ≤ n
+  pub kind-room : (at n : ℕ) → at + length (line w (a ∷ b ∷ c ∷ kindField f k) ++ (lineFeed ∷ [])) ≤ n
       → (m ≤ mostNumbers) × (at + length (line w (take m (a ∷ b ∷ c ∷ k ∷ [])) ++ (lineFeed ∷ [])) ≤ n)
   kind-room at n h = (
     subst (λ (x : ℕ). x ≤ mostNumbers) (sym e) (few f),
@@ -64,7 +64,7 @@ module _ (f : SaveForm) (w : List ℕ) (a b c k : ℕ) {m : ℕ} (e : m ≡ numb
   )
 
   pub kind-wrote : {before after : List ℕ} {at next : ℕ} → Wrote before after at next (line w (take m (a ∷ b ∷ c ∷ k ∷ [])) ++ (lineFeed ∷ []))
-      → Wrote before after at next (line w (a ∷ b ∷ c ∷ kindIn f k) ++ (lineFeed ∷ []))
+      → Wrote before after at next (line w (a ∷ b ∷ c ∷ kindField f k) ++ (lineFeed ∷ []))
   kind-wrote {before} {after} {at} {next} h = subst (λ (ns : List ℕ). Wrote before after at next (line w ns ++ (lineFeed ∷ []))) taken h
 
 -- ---- the text of changes

@@ -127,13 +127,13 @@ meant (bits w c ∷ xs) v ns = meant xs v ns
 
 -- the forms of a save: "`save` now writes every kind, 0 too, and `save1` writes the form of request Two", which has none. The last number of the line
 -- of a load and of a load rule, how many numbers they have, and the kind that they tell: "Lines without it mean kind 0."
-abbrev pub kindIn : SaveForm → (kind : ℕ) → List ℕ
-kindIn Kinds k = k ∷ []
-kindIn Plain k = []
+abbrev pub kindField : SaveForm → (kind : ℕ) → List ℕ
+kindField Kinds k = k ∷ []
+kindField Plain k = []
 
-abbrev pub numbersIn : SaveForm → ℕ
-numbersIn Kinds = 4
-numbersIn Plain = 3
+abbrev pub numberCount : SaveForm → ℕ
+numberCount Kinds = 4
+numberCount Plain = 3
 
 abbrev pub kindTold : SaveForm → (kind : ℕ) → ℕ
 kindTold Kinds k = k
@@ -162,12 +162,12 @@ pub record Line (f : SaveForm) (c : change.Change) : Type 0 where
 abbrev says : {f : SaveForm} {c : change.Change} (word : String) (values : List ℕ) → meant table (bytes word) values ≡ Change (told f c) → Line f c
 says w ns e = record { word = bytes w; values = ns; means = e }
 
-pub rule-means : (f : SaveForm) (q m g k : ℕ) → meant table (bytes "rule") (q ∷ m ∷ g ∷ kindIn f k) ≡ Change (Rule q m g (kindTold f k))
+pub rule-means : (f : SaveForm) (q m g k : ℕ) → meant table (bytes "rule") (q ∷ m ∷ g ∷ kindField f k) ≡ Change (Rule q m g (kindTold f k))
 unfolding meant same
 rule-means Kinds q m g k = refl
 rule-means Plain q m g k = refl
 
-pub load-means : (f : SaveForm) (p w v k : ℕ) → meant table (bytes "load") (p ∷ w ∷ v ∷ kindIn f k) ≡ Change (Load p w v (kindTold f k))
+pub load-means : (f : SaveForm) (p w v k : ℕ) → meant table (bytes "load") (p ∷ w ∷ v ∷ kindField f k) ≡ Change (Load p w v (kindTold f k))
 unfolding meant same
 load-means Kinds p w v k = refl
 load-means Plain p w v k = refl
@@ -178,9 +178,9 @@ lineOf f Clear = says "clear" [] refl
 lineOf f (Book s g) = says "book" (s ∷ g ∷ []) refl
 lineOf f (Start q) = says "start" (q ∷ []) refl
 lineOf f (End g) = says "end" (g ∷ []) refl
-lineOf f (Rule q m g k) = says "rule" (q ∷ m ∷ g ∷ kindIn f k) (rule-means f q m g k)
+lineOf f (Rule q m g k) = says "rule" (q ∷ m ∷ g ∷ kindField f k) (rule-means f q m g k)
 lineOf f (Row g q h) = says "row" (g ∷ q ∷ h ∷ []) refl
-lineOf f (Load p w v k) = says "load" (p ∷ w ∷ v ∷ kindIn f k) (load-means f p w v k)
+lineOf f (Load p w v k) = says "load" (p ∷ w ∷ v ∷ kindField f k) (load-means f p w v k)
 lineOf f (Power k w) = says "power" (k ∷ w ∷ []) refl
 lineOf f (Worth k v) = says "worth" (k ∷ v ∷ []) refl
 lineOf f (Budget w) = says "budget" (w ∷ []) refl

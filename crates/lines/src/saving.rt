@@ -20,7 +20,7 @@ ghost use Rattle.tables.specs.Stored.{heldRules, rulesOf, loadsOf, bookOf, tabl
 ghost use Rattle.lines.specs.declared.SaveForm.the-variants.{Kinds};
 ghost use Rattle.lines.specs.Written.{changeLine};
 ghost use Rattle.lines.specs.Answers.{Wrote};
-ghost use Rattle.lines.specs.Grammar.{numbersIn};
+ghost use Rattle.lines.specs.Grammar.{numberCount};
 ghost use Rattle.lines.specs.Saved.{markChange, markIfSet, markChanges, ruleChange, loadChange, sizeChange, bookChanges, changesText, saveText};
 
 // The line that marks a state, or a stage.
@@ -35,8 +35,8 @@ fn write_mark(out: &mut [u8], at: usize, sort: Sort, number: u32) -> usize
 }
 
 // How many numbers the line of a load rule and that of a load have.
-fn numbers_in(form: SaveForm) -> usize
-    ensures { λ r. ⌜ r ≡ numbersIn form ⌝ }
+fn number_count(form: SaveForm) -> usize
+    ensures { λ r. ⌜ r ≡ numberCount form ⌝ }
 {
     match form {
         SaveForm::Kinds => 4,
@@ -51,7 +51,7 @@ fn write_rule(out: &mut [u8], at: usize, form: SaveForm, sort: Sort, t: Transiti
 {
     let v = [t.from as u32, t.label as u32, t.to as u32, t.kind as u32];
     match sort {
-        Sort::Load => write_line(out, at, b"rule", v, numbers_in(form)),
+        Sort::Load => write_line(out, at, b"rule", v, number_count(form)),
         Sort::Row => write_line(out, at, b"row", v, 3),
     }
 }
@@ -67,7 +67,7 @@ fn write_load(out: &mut [u8], at: usize, form: SaveForm, l: Load) -> usize
         l.worth as u32,
         l.kind as u32,
     ];
-    write_line(out, at, b"load", v, numbers_in(form))
+    write_line(out, at, b"load", v, number_count(form))
 }
 
 // The line of a book, if there are states.

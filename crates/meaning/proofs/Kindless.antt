@@ -16,15 +16,14 @@ use Rattle.tables.specs.declared.entry.Entry.{Entry}
 use Rattle.tables.specs.Tables.{Book, Tables, noLoad}
 use Rattle.tables.specs.Kinds.{ruleKinded, loadKinded, hasKinds}
 use Rattle.tables.proofs.Plain.{no-kinds, rule-plain, load-plain, loads-plain}
-use Rattle.meaning.specs.Forest.{Item, Forest, nil, node, fixedTo, row, tree, rowAt}
-use Rattle.meaning.specs.Forest as forest
+use Rattle.meaning.specs.Forest.{Item, Forest, nil, node, planned, checked, row, tree, rowAt}
 use Rattle.meaning.specs.Runs.{isStart, ruleAt, rule, Assigned, BranchRun, RowRun, Run, TreeRun}
 use Rattle.meaning.specs.Sets.{treeOf}
 use Rattle.meaning.specs.Cell.{_⊕_, draw, score}
 use Rattle.meaning.specs.Best.{loadReach, shares, loadRuleFor, rowRuleFor, branchCell, rowCell, best, startFor, bestTree, bestPlan, bestCheck}
 use Rattle.meaning.specs.Choice.{chooseBranch, choose, chooseTree, plan, check, inOrder, planEntries, checkEntries}
 use Rattle.meaning.specs.Judge.{begins, starts, judgeBranch, judge, judgeTree}
-use Rattle.meaning.specs.Kindless.{planned, checked, plannedTree, checkedTree, AsBefore}
+use Rattle.meaning.specs.Kindless.{unkinded, unkindedChecked, unkindedTree, unkindedCheckedTree, AsBefore}
 
 -- ---- a forest in which other rules serve
 -- so that they serve load k as s says
@@ -240,26 +239,26 @@ module _ (t : Tables) (h : hasKinds t ≡ false) where
   abbrev all : ℕ → Transition → Bool
   all k r = true
 
-  plan-alike : (k : ℕ) (l : Load) → l .kind ≡ 0 → Alike (t .book) all k (forest.planned k l)
+  plan-alike : (k : ℕ) (l : Load) → l .kind ≡ 0 → Alike (t .book) all k (planned k l)
   plan-alike k l e n = same-kind l e n
 
   abbrev marked : (ℕ → ℕ) → ℕ → Transition → Bool
   marked σ k r = eqb (r .label) (σ k)
 
-  check-alike : (σ : ℕ → ℕ) (k : ℕ) (l : Load) → l .kind ≡ 0 → Alike (t .book) (marked σ) k (forest.checked σ k l)
+  check-alike : (σ : ℕ → ℕ) (k : ℕ) (l : Load) → l .kind ≡ 0 → Alike (t .book) (marked σ) k (checked σ k l)
   check-alike σ k l e n = ap (λ (x : Bool). x && eqb (rule (t .book .loadRules) n .label) (σ k)) (same-kind l e n)
 
   plan-tree : AllAlike (t .book) all (treeOf t)
-  plan-tree = tree-alike (t .book) all forest.planned plan-alike (t .loads) (none .1)
+  plan-tree = tree-alike (t .book) all planned plan-alike (t .loads) (none .1)
 
-  plan-served : servedAll all (treeOf t) ≡ plannedTree t
-  plan-served = served-tree all forest.planned planned (λ k l. refl) (t .loads)
+  plan-served : servedAll all (treeOf t) ≡ unkindedTree t
+  plan-served = served-tree all planned unkinded (λ k l. refl) (t .loads)
 
-  check-tree : (σ : ℕ → ℕ) → AllAlike (t .book) (marked σ) (tree (forest.checked σ) (t .loads))
-  check-tree σ = tree-alike (t .book) (marked σ) (forest.checked σ) (check-alike σ) (t .loads) (none .1)
+  check-tree : (σ : ℕ → ℕ) → AllAlike (t .book) (marked σ) (tree (checked σ) (t .loads))
+  check-tree σ = tree-alike (t .book) (marked σ) (checked σ) (check-alike σ) (t .loads) (none .1)
 
-  check-served : (σ : ℕ → ℕ) → servedAll (marked σ) (tree (forest.checked σ) (t .loads)) ≡ checkedTree t σ
-  check-served σ = served-tree (marked σ) (forest.checked σ) (checked σ) (λ k l. refl) (t .loads)
+  check-served : (σ : ℕ → ℕ) → servedAll (marked σ) (tree (checked σ) (t .loads)) ≡ unkindedCheckedTree t σ
+  check-served σ = served-tree (marked σ) (checked σ) (unkindedChecked σ) (λ k l. refl) (t .loads)
 
   pub as-before : AsBefore t
   unfolding bestPlan bestCheck planEntries checkEntries plan check
@@ -271,8 +270,8 @@ module _ (t : Tables) (h : hasKinds t ≡ false) where
     check = λ σ. ap (λ (f : ℕ → List Entry). inOrder (f 0) 1 (length (t .loads)))
         (choose-tree-same (t .book) (marked σ) _ (check-tree σ) ∙ ap (chooseTree (t .book)) (check-served σ));
     rows = λ k.
-        best-same (t .book) all (rowAt forest.planned (t .loads) k) (at-alike (t .book) all forest.planned plan-alike (t .loads) (none .1) k)
-        ∙ ap (best (t .book)) (served-at all forest.planned planned (λ k l. refl) (t .loads) k);
+        best-same (t .book) all (rowAt planned (t .loads) k) (at-alike (t .book) all planned plan-alike (t .loads) (none .1) k)
+        ∙ ap (best (t .book)) (served-at all planned unkinded (λ k l. refl) (t .loads) k);
     runs = λ σ ρ. subst (λ (f : Forest). TreeRun (t .book) σ ρ (treeOf t) ↔ TreeRun (t .book) σ ρ f) plan-served (tree-run (t .book) all ρ σ (treeOf t) plan-tree);
     judged = λ ρ. judge-tree-same (t .book) all ρ (treeOf t) plan-tree ∙ ap (judgeTree (t .book) ρ) plan-served;
   }

@@ -7,8 +7,7 @@ use mathlib.Core.Logic.{_↔_}
 use lib.ListN.{length}
 use Rattle.tables.specs.declared.load.Load.{Load}
 use Rattle.tables.specs.Tables.{Tables}
-use Rattle.meaning.specs.Forest.{Item, Forest, fixedTo, tree, rowAt}
-use Rattle.meaning.specs.Forest as forest
+use Rattle.meaning.specs.Forest.{Item, Forest, planned, fixedTo, tree, rowAt}
 use Rattle.meaning.specs.Runs.{Assigned, TreeRun}
 use Rattle.meaning.specs.Sets.{treeOf}
 use Rattle.meaning.specs.Best.{best, bestTree, bestPlan, bestCheck}
@@ -16,24 +15,24 @@ use Rattle.meaning.specs.Choice.{chooseTree, inOrder, planEntries, check
 use Rattle.meaning.specs.Judge.{judgeTree}
 
 -- what counts of a load where no kind is looked at: every load rule serves
-abbrev pub planned : ℕ → Load → Item
-planned k l = record { power = l .power; worth = l .worth; kind = 0; serves = λ t. true }
+abbrev pub unkinded : ℕ → Load → Item
+unkinded k l = record { power = l .power; worth = l .worth; kind = 0; serves = λ t. true }
 
-abbrev pub checked : (ℕ → ℕ) → ℕ → Load → Item
-checked σ k l = fixedTo σ k (planned k l)
+abbrev pub unkindedChecked : (ℕ → ℕ) → ℕ → Load → Item
+unkindedChecked σ k l = fixedTo σ k (unkinded k l)
 
-abbrev pub plannedTree : Tables → Forest
-plannedTree t = tree planned (t .loads)
+abbrev pub unkindedTree : Tables → Forest
+unkindedTree t = tree unkinded (t .loads)
 
-abbrev pub checkedTree : Tables → (ℕ → ℕ) → Forest
-checkedTree t σ = tree (checked σ) (t .loads)
+abbrev pub unkindedCheckedTree : Tables → (ℕ → ℕ) → Forest
+unkindedCheckedTree t σ = tree (unkindedChecked σ) (t .loads)
 
 -- plan, check, runs, judge and the best of each row are those of the tables without kinds
 pub record AsBefore (t : Tables) : Type 0 where
-  pub planBest : bestPlan t ≡ bestTree (t .book) (plannedTree t) (t .budget)
-  pub plan : planEntries t ≡ inOrder (chooseTree (t .book) (plannedTree t) (t .budget)) 1 (length (t .loads))
-  pub checkBest : (σ : ℕ → ℕ) → bestCheck t σ ≡ bestTree (t .book) (checkedTree t σ) 0
-  pub check : (σ : ℕ → ℕ) → checkEntries t σ ≡ inOrder (chooseTree (t .book) (checkedTree t σ) 0) 1 (length (t .loads))
-  pub rows : (k : ℕ) → best (t .book) (rowAt forest.planned (t .loads) k) ≡ best (t .book) (rowAt planned (t .loads) k)
-  pub runs : (σ : ℕ → ℕ) (ρ : ℕ → Assigned) → TreeRun (t .book) σ ρ (treeOf t) ↔ TreeRun (t .book) σ ρ (plannedTree t)
-  pub judged : (ρ : ℕ → Assigned) → judgeTree (t .book) ρ (treeOf t) ≡ judgeTree (t .book) ρ (plannedTree t)
+  pub planBest : bestPlan t ≡ bestTree (t .book) (unkindedTree t) (t .budget)
+  pub plan : planEntries t ≡ inOrder (chooseTree (t .book) (unkindedTree t) (t .budget)) 1 (length (t .loads))
+  pub checkBest : (σ : ℕ → ℕ) → bestCheck t σ ≡ bestTree (t .book) (unkindedCheckedTree t σ) 0
+  pub check : (σ : ℕ → ℕ) → checkEntries t σ ≡ inOrder (chooseTree (t .book) (unkindedCheckedTree t σ) 0) 1 (length (t .loads))
+  pub rows : (k : ℕ) → best (t .book) (rowAt planned (t .loads) k) ≡ best (t .book) (rowAt unkinded (t .loads) k)
+  pub runs : (σ : ℕ → ℕ) (ρ : ℕ → Assigned) → TreeRun (t .book) σ ρ (treeOf t) ↔ TreeRun (t .book) σ ρ (unkindedTree t)
+  pub judged : (ρ : ℕ → Assigned) → judgeTree (t .book) ρ (treeOf t) ≡ judgeTree (t .book) ρ (unkindedTree t)

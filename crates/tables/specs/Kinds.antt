@@ -7,14 +7,14 @@ use Rattle.lists.specs.Tests.{some}
 use Rattle.tables.specs.Tables.{Transition, Load, Tables}
 
 -- "a kind other than 0"
-abbrev pub other : (kind : ℕ) → Bool
-other k = ltb 0 k
+abbrev pub kinded : (kind : ℕ) → Bool
+kinded k = ltb 0 k
 
 unfoldable pub ruleKinded : Transition → Bool
-ruleKinded r = other (r .kind)
+ruleKinded r = kinded (r .kind)
 
 unfoldable pub loadKinded : Load → Bool
-loadKinded l = other (l .kind)
+loadKinded l = kinded (l .kind)
 
 -- "some load or load rule"
 unfoldable pub hasKinds : Tables → Bool

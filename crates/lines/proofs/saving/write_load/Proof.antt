@@ -9,11 +9,11 @@ write-line-requires : tie.Need-write-line-requires
 unfolding lineOf
 write-line-requires c κs =
     let s = c .before .before .before .before .before .before .before .before in
-    kind-room (s .args .form) _ _ _ _ _ (c .numbers-in .ensures) _ _ (s .pre)
+    kind-room (s .args .form) _ _ _ _ _ (c .number-count .ensures) _ _ (s .pre)
 
 returns : tie.Need-returns
 unfolding lineOf
-returns c = let w = c .before .before in kind-wrote (w .before .before .before .before .before .before .before .before .before .args .form) _ _ _ _ _ (w .before .numbers-in .ensures) (w .write-line .ensures)
+returns c = let w = c .before .before in kind-wrote (w .before .before .before .before .before .before .before .before .before .args .form) _ _ _ _ _ (w .before .number-count .ensures) (w .write-line .ensures)
 
 pub write-load-spec : {M : Type 1} → statement M
 write-load-spec =

@@ -11,7 +11,7 @@ unfolding lineOf
 write-line-requires c κs =
     let t = c .before .before .before in
     let s = t .before .before .before .before .before .before .before in
-    kind-room (s .args .form) _ _ _ _ _ (c .numbers-in .ensures) _ _ (rw (t .enum-told .given .1) at (s .pre))
+    kind-room (s .args .form) _ _ _ _ _ (c .number-count .ensures) _ _ (rw (t .enum-told .given .1) at (s .pre))
 
 write-line-requires-2 : tie.Need-write-line-requires-2
 unfolding lineOf
@@ -22,7 +22,7 @@ unfolding lineOf
 returns c =
     let w = c .before .before in
     let t = w .before .before .before .before in
-    rw (t .enum-told .given .1) (kind-wrote (t .before .before .before .before .before .before .before .args .form) _ _ _ _ _ (w .before .numbers-in .ensures) (w .write-line .ensures))
+    rw (t .enum-told .given .1) (kind-wrote (t .before .before .before .before .before .before .before .args .form) _ _ _ _ _ (w .before .number-count .ensures) (w .write-line .ensures))
 
 returns-2 : tie.Need-returns-2
 unfolding lineOf
