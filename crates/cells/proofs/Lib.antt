@@ -1,6 +1,7 @@
 pub mod Numbers
 pub mod Tables
 pub mod Outlining
+pub mod InRange
 pub mod Lawful
 pub mod Strips
 pub mod Shares

@@ -9,7 +9,7 @@ use lib.Dec.{T, eqb, leb}
 use lib.ListN.{length, getD, drop}
 use Rattle.lists.specs.Tests.{some}
 use Rattle.lists.proofs.Tests.{none-first, none-drop}
-use Rattle.lists.specs.Argmax.{guard, Greatest, argmax}
+use Rattle.lists.specs.Argmax.{guard, argmax}
 use Rattle.tables.specs.declared.rule.Transition.{Transition}
 use Rattle.tables.specs.declared.load.Load.{Load}
 use Rattle.tables.specs.declared.entry.Entry.{Entry}
@@ -17,10 +17,10 @@ use Rattle.tables.specs.Tables.{Book, Tables, noLoad}
 use Rattle.tables.specs.Kinds.{ruleKinded, loadKinded, hasKinds}
 use Rattle.tables.proofs.Plain.{no-kinds, rule-plain, load-plain, loads-plain}
 use Rattle.meaning.specs.Forest.{Item, Forest, nil, node, planned, checked, row, tree, rowAt}
-use Rattle.meaning.specs.Runs.{isStart, ruleAt, rule, Assigned, BranchRun, RowRun, Run, TreeRun}
+use Rattle.meaning.specs.Runs.{isStart, ruleAt, rule, Assigned, BranchRun, Run, TreeRun}
 use Rattle.meaning.specs.Sets.{treeOf}
 use Rattle.meaning.specs.Cell.{_⊕_, draw, score}
-use Rattle.meaning.specs.Best.{loadReach, shares, loadRuleFor, rowRuleFor, branchCell, rowCell, best, startFor, bestTree, bestPlan, bestCheck}
+use Rattle.meaning.specs.Best.{shares, loadRuleFor, rowRuleFor, branchCell, rowCell, best, bestTree, bestPlan, bestCheck}
 use Rattle.meaning.specs.Choice.{chooseBranch, choose, chooseTree, plan, check, inOrder, planEntries, checkEntries}
 use Rattle.meaning.specs.Judge.{begins, starts, judgeBranch, judge, judgeTree}
 use Rattle.meaning.specs.Kindless.{unkinded, unkindedChecked, unkindedTree, unkindedCheckedTree, AsBefore}

@@ -12,7 +12,7 @@ use Rattle.cells.specs.Outline.{jointIn, rulesIn, bestIn}
 use Rattle.cells.specs.Work.{placeOf}
 use Rattle.cells.specs.Strip.{Stored}
 use Rattle.cells.specs.Stretch.{reachOf, Sound, Worked}
-use Rattle.cells.proofs.Outlining.{looked-up}
+use Rattle.cells.proofs.InRange.{looked-up}
 use Rattle.cells.proofs.Places.{place-room}
 use Rattle.cells.proofs.Strips.{zeros-raised}
 use Rattle.cells.proofs.stretch.stretch.Statement.{statement}

@@ -11,7 +11,7 @@ use Rattle.cells.specs.declared.outline.Rules.{Rules}
 use Rattle.cells.specs.Outline.{jointIn, rulesIn, bestIn}
 use Rattle.cells.specs.Work.{placeOf, cellsFrom}
 use Rattle.cells.specs.Stretch.{reachOf, reached}
-use Rattle.cells.proofs.Outlining.{looked-up}
+use Rattle.cells.proofs.InRange.{looked-up}
 use Rattle.cells.proofs.Places.{place-room}
 use Rattle.engine.specs.declared.choice.Choice.{Choice}
 use Rattle.engine.specs.Search.{choiceIn}

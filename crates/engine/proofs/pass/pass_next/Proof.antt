@@ -11,7 +11,7 @@ use Rattle.meaning.specs.Cell.{powerLimit}
 use Rattle.cells.specs.declared.problem.Problem.{Problem}
 use Rattle.cells.specs.declared.problem.Shape.{Shape}
 use Rattle.cells.specs.Problem.{shapeOf}
-use Rattle.cells.proofs.Outlining.{outline-fits}
+use Rattle.cells.proofs.InRange.{outline-fits}
 use Rattle.engine.specs.declared.choice.Choice.{Choice}
 use Rattle.engine.specs.declared.pass.Rows.{Rows}
 use Rattle.engine.specs.declared.pass.Pass.{Pass}

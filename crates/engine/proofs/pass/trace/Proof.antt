@@ -16,7 +16,7 @@ use Rattle.cells.specs.declared.problem.Problem.{Problem}
 use Rattle.cells.specs.declared.problem.Shape.{Shape}
 use Rattle.cells.specs.Problem.{bookFor, loadsFor, itemsFor, shapeOf}
 use Rattle.cells.specs.Work.{heldBranch, branchFor}
-use Rattle.cells.proofs.Outlining.{outline-fits}
+use Rattle.cells.proofs.InRange.{outline-fits}
 use Rattle.cells.proofs.Stretches.{loads-long}
 use Rattle.runs.specs.declared.run.Run.{Run}
 use Rattle.runs.specs.declared.outcome.StoredOutcome.{StoredOutcome}

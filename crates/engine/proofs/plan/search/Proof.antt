@@ -7,7 +7,7 @@ use borrow.Author.Needs.{needs}
 use lib.ListN.{drop, replicate}
 use Rattle.cells.specs.Problem.{shapeOf, Sane}
 use Rattle.cells.specs.Work.{cellsNeeded}
-use Rattle.cells.proofs.Outlining.{outline-fits}
+use Rattle.cells.proofs.InRange.{outline-fits}
 use Rattle.engine.proofs.Planning.{outlined, ready, complete, rest-kept}
 use Rattle.engine.proofs.plan.search.Statement.{statement}
 use Rattle.engine.proofs.plan.search.Tie as tie
