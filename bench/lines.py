@@ -36,6 +36,7 @@ CABINETS = (
         'check': (('check,1110', *YES), ('check,0100', 'no,10')),
         'plan': (('plan', *PLAN),),
         'last': (('last', *PLAN),),
+        'need': (('need,70', 'need,30'),),
     }),
     Cabinet('64 loads, budget 63', LARGE_CABINET, ('plan,63,63,64', *LARGE_RUN), 6000, {
         'changes': (
@@ -44,6 +45,7 @@ CABINETS = (
         'check': (('check,' + '1' * 64, 'yes', *LARGE_RUN), ('check,0' + '1' * 63, 'no,10')),
         'plan': (('plan', 'plan,63,63,64', *LARGE_RUN),),
         'last': (('last', 'plan,63,63,64', *LARGE_RUN),),
+        'need': (('need,63', 'need,63'),),
     }),
 )
 

@@ -138,6 +138,7 @@ static void print_calls(Shape shape) {
     print_line("plan", "plan", HULMEIDE_ACCEPTED);
     print_check_and_judge();
     print_line("last", "last", HULMEIDE_ACCEPTED);
+    print_line("need", "need,0", HULMEIDE_ACCEPTED);
     print_page();
     print_of_last_load("change", "power", ",1");
     print_line("save", "save", HULMEIDE_ACCEPTED);

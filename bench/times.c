@@ -1,7 +1,9 @@
-// Times of the four plans by tree, loads, rules and budget, and on cabinets that tell which of equal plans each shows; and those of a page.
+// Times of the four plans by tree, loads, rules and budget, and on cabinets that tell which of equal plans each shows; and those of a page and of
+// `need`.
 #include "measure.h"
 #include <stdio.h>
 #include <stdlib.h>
+#include <string.h>
 
 static void print_trees(void) {
     print_head("Trees: 8 states, 8 stages, 32 + 32 rules, budget 500", "tree", "loads");
@@ -96,6 +98,69 @@ static void print_pages(void) {
         print_page(shape);
 }
 
+// ---- needs
+
+// What is timed: the plan, the need of its worth, which looks at every budget below its power, and that of the greatest worth, which is refused.
+enum { PLAN, NEED, TOO_POOR, SEARCHES };
+
+typedef struct { char line[HULMEIDE_LINE_BYTES]; uint32_t number; char text[HULMEIDE_LINE_BYTES]; } Search;
+
+// Each line with its number and the begin of its answer. The least budget for the worth of a plan is its power.
+static void set_searches(Search searches[SEARCHES]) {
+    unsigned worth = 0, power = 0;
+    answer_line(&planned, "plan", work, &answer);
+    answer.text[answer.reply.count] = '\0';
+    sscanf((const char *)answer.text, "plan,%u,%u,", &worth, &power);
+    searches[PLAN] = (Search){"plan", HULMEIDE_ACCEPTED, ""};
+    searches[NEED] = (Search){"", HULMEIDE_ACCEPTED, ""};
+    searches[TOO_POOR] = (Search){"", HULMEIDE_TOO_POOR, ""};
+    snprintf(searches[PLAN].text, HULMEIDE_LINE_BYTES, "plan,%u,%u,", worth, power);
+    snprintf(searches[NEED].line, HULMEIDE_LINE_BYTES, "need,%u", worth);
+    snprintf(searches[NEED].text, HULMEIDE_LINE_BYTES, "need,%u\n", power);
+    snprintf(searches[TOO_POOR].line, HULMEIDE_LINE_BYTES, "need,%d", HULMEIDE_MAX_NEED);
+    snprintf(searches[TOO_POOR].text, HULMEIDE_LINE_BYTES, "no,%d\n", HULMEIDE_TOO_POOR);
+}
+
+// The time of a line over so many turns. Its answer is looked at after them.
+static double time_of_line(const Search *search, int turns) {
+    double began = seconds();
+    for (int turn = 0; turn < turns; turn++)
+        answer_line(&planned, search->line, work, &answer);
+    double time = (seconds() - began) / turns;
+    if (answer.reply.number != search->number || memcmp(answer.text, search->text, strlen(search->text)) != 0) {
+        printf("another answer than %s: %s\n", search->text, search->line);
+        exit(1);
+    }
+    return time;
+}
+
+static void print_need(Shape shape, Tables t) {
+    Search searches[SEARCHES];
+    double best[SEARCHES];
+    planned = t;
+    set_searches(searches);
+    for (int i = 0; i < SEARCHES; i++)
+        best[i] = time_of_line(&searches[i], 1);
+    int turns = 1 + (int)(1e-3 / best[PLAN]);
+    for (int round = 0; round < ROUNDS * SEARCHES; round++) {
+        double time = time_of_line(&searches[round % SEARCHES], turns);
+        if (time < best[round % SEARCHES])
+            best[round % SEARCHES] = time;
+    }
+    printf("%-11s  %8.4f %8.4f %8.4f  %5.3f  %5.3f  %.*s\n", shape_names[shape], 1e3 * best[PLAN], 1e3 * best[NEED], 1e3 * best[TOO_POOR],
+        best[NEED] / best[PLAN], best[TOO_POOR] / best[PLAN], (int)strlen(searches[NEED].text) - 1, searches[NEED].text);
+}
+
+static void print_needs(void) {
+    printf("\n`need` on the largest cabinet, and on that of many equals: processor time in milliseconds, best of %d rounds; of the worth of\n"
+           "the plan, and of %d, which is refused, each over `plan`\n", ROUNDS, HULMEIDE_MAX_NEED);
+    printf("%-11s  %8s %8s %8s  %5s  %5s  %s\n", "tree", "plan", "need", "refused", "/plan", "/plan", "answer");
+    for (Shape shape = 0; shape < SHAPES; shape++)
+        print_need(shape, tables_of(largest(shape)));
+    for (Shape shape = 0; shape < SHAPES; shape++)
+        print_need(shape, with_equals(tables_of(largest(shape))));
+}
+
 int main(void) {
     printf("A plan: processor time in milliseconds, best of %d rounds; proved over each other one; the answer that all agree on\n", ROUNDS);
     print_trees();
@@ -103,5 +168,6 @@ int main(void) {
     print_equals();
     print_kinds();
     print_pages();
+    print_needs();
     return 0;
 }

@@ -6,7 +6,7 @@ use std::mem::{size_of, MaybeUninit};
 // ---- Version, sizes and numbers, as include/hulmeide.h has them: tests/limits.py compares the two.
 
 /// The version of the header that this wrapper is for: major * 10000 + minor * 100 + patch.
-pub const VERSION: u32 = 10800;
+pub const VERSION: u32 = 10900;
 
 /// A line has at most this many bytes, its line feed not counted.
 pub const LINE_BYTES: usize = 80;
@@ -14,7 +14,7 @@ pub const LINE_BYTES: usize = 80;
 /// A number in a line has at most this many digits, zeros in front of it among them: such zeros change nothing.
 pub const MAX_DIGITS: usize = 5;
 
-/// So many bytes must be free in the output from the place on, for every line but `save` and `save1`, `last` among them.
+/// So many bytes must be free in the output from the place on, for every line but `save` and `save1`, `last` and `need` among them.
 pub const FREE_BYTES: usize = 1024;
 
 /// So many must be free for `save` and for `save1`. An output of this length is enough for every line.
@@ -33,6 +33,9 @@ pub const MAX_POWER: usize = 500;
 pub const MAX_WORTH: usize = 1000;
 pub const MAX_BUDGET: usize = 500;
 pub const MAX_KIND: usize = 3;
+
+/// The greatest worth that [`Planner::need`] may be asked for: no set of loads is worth more.
+pub const MAX_NEED: usize = MAX_LOADS * MAX_WORTH;
 
 // A page of the handheld: rows of ASCII bytes, one after the other.
 pub const PAGE_ROWS: usize = 8;
@@ -60,6 +63,7 @@ pub enum Refusal {
     NoPlan = 12,
     NotAPage = 13,
     KindsInUse = 14,
+    TooPoor = 15,
 }
 
 // ---- The planner, laid out as the header has it.
@@ -175,7 +179,7 @@ extern "C" {
 }
 
 impl Refusal {
-    const ALL: [Refusal; 14] = [
+    const ALL: [Refusal; 15] = [
         Refusal::TurnedAway,
         Refusal::LongLine,
         Refusal::BadForm,
@@ -190,9 +194,10 @@ impl Refusal {
         Refusal::NoPlan,
         Refusal::NotAPage,
         Refusal::KindsInUse,
+        Refusal::TooPoor,
     ];
 
-    /// Its number, 1 to 14. That of a line is printed as `no,N`, but for 1; that of a drawing is only returned.
+    /// Its number, 1 to 15. That of a line is printed as `no,N`, but for 1; that of a drawing is only returned.
     pub fn number(self) -> u32 {
         self as u32
     }
@@ -214,6 +219,7 @@ impl Refusal {
             Refusal::NoPlan => "no current plan",
             Refusal::NotAPage => "a page of another length",
             Refusal::KindsInUse => "a load or a load rule has a kind other than 0",
+            Refusal::TooPoor => "the plan at the budget in force is worth less",
         }
     }
 
@@ -264,7 +270,7 @@ impl Planner {
         }
     }
 
-    /// The cells that a plan needs as the planner stands: loads x (states + stages) x (budget + 1).
+    /// The cells that a plan needs as the planner stands, and [`Planner::need`] too: loads x (states + stages) x (budget + 1).
     pub fn cells_needed(&self) -> usize {
         let ways = usize::from(self.book.states) + usize::from(self.book.stages);
         self.loads.count * ways * (usize::from(self.budget) + 1)
@@ -309,6 +315,18 @@ impl Planner {
     pub fn last<'a>(&mut self, out: &'a mut [u8; FREE_BYTES]) -> Result<&'a [u8], Refusal> {
         let answer = self.call(b"last", out, 0, &mut []);
         answer.refusal.map_or(Ok(&out[..answer.count]), Err)
+    }
+
+    /// How little supply would do: the least budget, at most the one in force, whose plan has this worth or more. It changes nothing. It is refused
+    /// with [`Refusal::NoneFits`] where no allowed set fits the budget in force, with [`Refusal::TooPoor`] where the plan there is worth less, and
+    /// with [`Refusal::OutOfRange`] for a worth above [`MAX_NEED`], however great.
+    pub fn need(&mut self, worth: usize, work: &mut [u32]) -> Result<usize, Refusal> {
+        let mut out = [0; FREE_BYTES];
+        let line = format!("need,{}", worth.min(MAX_NEED + 1));
+        let answer = self.call(line.as_bytes(), &mut out, 0, work);
+        let digits = out[..answer.count].iter().filter(|byte| byte.is_ascii_digit());
+        let budget = digits.fold(0, |number, digit| 10 * number + usize::from(digit - b'0'));
+        answer.refusal.map_or(Ok(budget), Err)
     }
 
     /// Takes out a load, as `drop` does. It is refused where there is no such load, or where it has children. The numbers above its own fall

@@ -1,7 +1,7 @@
 //! The line program again, in Rust over the safe wrapper: lines from standard input, answers to standard output.
 
 use hulmeide::{stretch, stretch_row, Planner, Refusal};
-use hulmeide::{FREE_BYTES, LINE_BYTES, LINE_PROGRAM_CELLS, PAGE_BYTES, ROW_BYTES, SAVE_BYTES};
+use hulmeide::{FREE_BYTES, LINE_BYTES, LINE_PROGRAM_CELLS, MAX_NEED, PAGE_BYTES, ROW_BYTES, SAVE_BYTES};
 use std::io::{self, BufRead, Write};
 
 /// Of a line that is too long one byte more is kept than a line may have.
@@ -65,6 +65,32 @@ fn drops_alike(mut before: Planner, line: &[u8], refusal: Option<Refusal>) -> bo
     }
     let load: u32 = std::str::from_utf8(number).expect("digits").parse().expect("a number");
     u8::try_from(load).map_or(Some(Refusal::OutOfRange), |load| before.drop_load(load).err()) == refusal
+}
+
+/// Does a line that is not refused before work in a plan's cells?
+fn searches(line: &[u8], refusal: Option<Refusal>) -> bool {
+    let told_before = matches!(refusal, Some(Refusal::BadForm | Refusal::LongLine | Refusal::OutOfRange));
+    line == b"plan" || line.starts_with(b"need,") && !told_before
+}
+
+/// Does `need` answer as a line did? A line that is no need passes.
+fn needs_alike(planner: &mut Planner, line: &[u8], text: &str, work: &mut [u32]) -> bool {
+    let Some(number) = line.strip_prefix(b"need,") else { return true };
+    if text == "no,2\n" || text == "no,3\n" {
+        return true;
+    }
+    let worth = std::str::from_utf8(number).expect("digits").parse().expect("a number");
+    let answer = planner.need(worth, work);
+    text == answer.map_or_else(|refusal| format!("no,{}\n", refusal.number()), |budget| format!("need,{budget}\n"))
+}
+
+/// Is the power of a plan the least budget for its worth, and is there none for more? A line that shows no new plan passes.
+fn needs_its_power(planner: &mut Planner, line: &[u8], text: &str, work: &mut [u32]) -> bool {
+    let fields: Vec<&str> = text.lines().next().unwrap_or("").split(',').collect();
+    let (b"plan", ["plan", worth, power, _]) = (line, &fields[..]) else { return true };
+    let worth: usize = worth.parse().expect("a number");
+    let more = if worth < MAX_NEED { Refusal::TooPoor } else { Refusal::OutOfRange };
+    planner.need(worth, work) == Ok(power.parse().expect("a number")) && planner.need(worth + 1, work) == Err(more)
 }
 
 /// The latest plan after a line, if one is current then, that before it being this: `plan` stores its answer, a refusal for want of a set too,
@@ -132,11 +158,13 @@ fn main() -> io::Result<()> {
         let answer = planner.call(&line, &mut out, 0, &mut work);
         let text = std::str::from_utf8(&out[..answer.count]).expect("answers are plain text");
         assert_eq!(answer.refusal.map(Refusal::number), printed_refusal(text));
-        let few_cells = line == b"plan" && planner.cells_needed() > work.len();
+        let few_cells = searches(&line, answer.refusal) && planner.cells_needed() > work.len();
         assert_eq!(answer.refusal == Some(Refusal::FewCells), few_cells);
         assert!(judged(&planner, text), "the planner showed what is no run");
         assert!(rebuilds(&line, text), "the planner showed a save that does not rebuild it");
         assert!(drops_alike(before, &line, answer.refusal), "the wrapper drops otherwise than the line");
+        assert!(needs_alike(&mut planner, &line, text, &mut work), "the wrapper needs another budget than the line");
+        assert!(needs_its_power(&mut planner, &line, text, &mut work), "a plan's power is not the least budget for its worth");
         latest = latest_after(latest, &line, text);
         assert!(shows(&mut planner, &latest), "the wrapper shows another plan than the latest");
         assert!(draws(&planner, &latest, &mut glass), "the wrapper draws another page than the latest plan's");

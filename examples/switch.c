@@ -1,12 +1,13 @@
 /*
  * The planner in a switch's main loop: bytes come in from a line port, each line is answered as soon as it is complete, a plan switches
- * the power of the cabinet's ports, the port of a load that leaves goes off, and a display polls the latest plan.
+ * the power of the cabinet's ports, the port of a load that leaves goes off, a display polls the latest plan, and an energy manager is told how
+ * little supply would do.
  *
  * Here the line port is standard input and output (port.h), the cabinet's ports are an array, and the display is a struct. A switch has its own
  * functions in the place of those of the port, set_port and show. Nothing is allocated: the planner and the buffers that it is lent are static.
  *
  * With SWITCH_LOG in the environment each plan and each drop leaves a line on standard error that names the ports that are on, and so does
- * whatever is new on the display.
+ * whatever is new on the display. Each plan leaves one more, for the energy manager.
  *
  * Every run that the planner shows is handed to the judge before it is sent. That is not needed, since the planner is proved; it shows how
  * the judge is called.
@@ -37,7 +38,7 @@ struct display {
 };
 
 static struct display display = {HULMEIDE_NO_PLAN, 0, 0, 0};
-static uint8_t polled[HULMEIDE_FREE_BYTES]; /* enough for `last` */
+static uint8_t polled[HULMEIDE_FREE_BYTES]; /* enough for `last` and `need` */
 
 /* What an answer shows: the set of loads that are on, load k as bit k - 1, and the run, three numbers for each load. */
 struct shown {
@@ -164,6 +165,28 @@ static void poll_display(void)
     show(next);
 }
 
+/* ---- The energy manager ---- */
+
+/* How little supply would do for a worth that the latest plan has? `need` works in a plan's cells, and changes nothing: the ports, the display and
+ * the budget in force stay. */
+static uint32_t supply_for(uint32_t worth)
+{
+    char line[HULMEIDE_LINE_BYTES];
+    size_t at = sizeof "need," - 1;
+    snprintf(line, sizeof line, "need,%u", worth);
+    struct hulmeide_reply reply = hulmeide_call_text(&planner, line, polled, sizeof polled, 0, work, HULMEIDE_LINE_PROGRAM_CELLS);
+    return next_number(polled, reply.count, &at);
+}
+
+/* The energy manager asks for the worth of the plan on the display, which needs the plan's power, and for half of it. */
+static void log_supply(void)
+{
+    if (getenv("SWITCH_LOG") != NULL) {
+        uint32_t half = supply_for((display.worth + 1) / 2);
+        fprintf(stderr, "supply: %u W for this worth, %u W for half of it\n", supply_for(display.worth), half);
+    }
+}
+
 /* ---- Answers ---- */
 
 /* Reads what is shown off an answer with one line "load,mark,state,load rule,row rule" for each load. */
@@ -218,11 +241,15 @@ static void follow(const struct line *line, size_t count)
 static void answer(const struct line *line)
 {
     struct hulmeide_reply reply = hulmeide_call(&planner, line->bytes, line->length, out, sizeof out, 0, work, HULMEIDE_LINE_PROGRAM_CELLS);
-    if (reply.number == HULMEIDE_ACCEPTED) {
+    bool accepted = reply.number == HULMEIDE_ACCEPTED;
+    if (accepted) {
         follow(line, reply.count);
     }
     transmit(out, reply.count);
     poll_display();
+    if (accepted && line->bytes[0] == 'p' && out[0] == 'p') {
+        log_supply();
+    }
 }
 
 int main(void)

@@ -47,8 +47,10 @@ extern "C" {
  *      meant. `save` writes every kind. `save1` is a command, which writes the form of 1.2 that planners before 1.8 take, and
  *      HULMEIDE_KINDS_IN_USE its refusal. A planner has 888 bytes, and its fields stand at other places; the field `kind` of an outcome is
  *      `status` now. There is no 1.7.
+ * 1.9: `need` is a command, and HULMEIDE_TOO_POOR its refusal. It works in the cells of a plan. Other lines, answers and layout are those of
+ *      1.8.
  */
-#define HULMEIDE_VERSION 10800
+#define HULMEIDE_VERSION 10900
 
 /* ---- Sizes ----
  *
@@ -61,8 +63,8 @@ extern "C" {
 /* A number in a line has at most this many digits, zeros in front of it among them: such zeros change nothing. */
 #define HULMEIDE_MAX_DIGITS 5
 
-/* So many bytes must be free in the output from the place on, for every line but `save` and `save1`, `last` among them. No answer but a save is
- * longer. */
+/* So many bytes must be free in the output from the place on, for every line but `save` and `save1`, `last` and `need` among them. No answer but a
+ * save is longer. */
 #define HULMEIDE_FREE_BYTES 1024
 
 /* So many must be free for `save` and for `save1`, and no save is longer: a caller that passes every line on lends this. A line that only begins
@@ -84,12 +86,16 @@ extern "C" {
 #define HULMEIDE_MAX_BUDGET 500
 #define HULMEIDE_MAX_KIND 3
 
+/* The greatest worth that `need` may be asked for: no set of loads is worth more. */
+#define HULMEIDE_MAX_NEED (HULMEIDE_MAX_LOADS * HULMEIDE_MAX_WORTH)
+
 /* A page of the handheld: rows of ASCII bytes, one after the other, with nothing between them and no NUL byte at the end. */
 #define HULMEIDE_PAGE_ROWS 8
 #define HULMEIDE_ROW_BYTES 20
 #define HULMEIDE_PAGE_BYTES (HULMEIDE_PAGE_ROWS * HULMEIDE_ROW_BYTES)
 
-/* The cells that a plan needs: loads x (states + stages) x (budget + 1). With fewer it is HULMEIDE_FEW_CELLS. */
+/* The cells that `plan` and `need` work in: loads x (states + stages) x (budget + 1), with the budget in force. With fewer it is
+ * HULMEIDE_FEW_CELLS. */
 #define HULMEIDE_CELLS_NEEDED(loads, states, stages, budget) ((size_t)(loads) * ((size_t)(states) + (stages)) * ((size_t)(budget) + 1))
 
 /* The cells that a plan of the largest cabinet needs. */
@@ -111,7 +117,7 @@ enum hulmeide_number {
     HULMEIDE_LONG_LINE = 2,
     /* No command of the table, a wrong count of fields, or a field of the wrong form. */
     HULMEIDE_BAD_FORM = 3,
-    /* `plan`, `check` or the judge, with no loads. */
+    /* `plan`, `check`, `need` or the judge, with no loads. */
     HULMEIDE_NO_LOADS = 4,
     /* A value out of its range; bits not one for each load; the judge given not three numbers for each load; a drawing from a load that is not
      * there, with no loads too. */
@@ -120,10 +126,10 @@ enum hulmeide_number {
     HULMEIDE_FULL = 6,
     /* The same rule is in the book already. Two load rules of different kinds are not the same. */
     HULMEIDE_SAME_RULE = 7,
-    /* `plan` with too few cells of work. */
+    /* `plan` or `need` with too few cells of work. */
     HULMEIDE_FEW_CELLS = 8,
-    /* `plan`: no allowed set fits the budget. `last`: the latest plan was refused so, and no change was accepted since. (A drawing shows that,
-     * and is not refused.) */
+    /* `plan` and `need`: no allowed set fits the budget. `last`: the latest plan was refused so, and no change was accepted since. (A drawing
+     * shows that, and is not refused.) */
     HULMEIDE_NONE_FITS = 9,
     /* The checked set is not allowed. */
     HULMEIDE_NOT_ALLOWED = 10,
@@ -136,6 +142,8 @@ enum hulmeide_number {
     HULMEIDE_NOT_A_PAGE = 13,
     /* `save1` while some load or some load rule has a kind other than 0, whether a plan would use it or not. */
     HULMEIDE_KINDS_IN_USE = 14,
+    /* `need`: the plan at the budget in force has a worth below the one asked for. */
+    HULMEIDE_TOO_POOR = 15,
     /* The judge: no, the numbers are not a run. This is no refusal, and lies above the numbers of all of them. */
     HULMEIDE_NOT_A_RUN = 255
 };
@@ -288,10 +296,13 @@ void hulmeide_fresh(struct hulmeide_planner *planner);
 
 /*
  * Handles one line, given without its line feed. The answer is written from out + place on, and `count` says how many bytes it has; the
- * bytes before the place and after the answer keep their values. A plan fills the cells that it needs at the start of the work, and
- * leaves 0 in them, after HULMEIDE_NONE_FITS too; all other cells, and all cells after any other line, keep their values.
+ * bytes before the place and after the answer keep their values. `plan` and `need` fill the cells that a plan needs at the start of the work,
+ * and leave 0 in them, after HULMEIDE_NONE_FITS and HULMEIDE_TOO_POOR too; all other cells, and all cells after any other line or any other
+ * refusal, keep their values.
  * `last` shows the outcome of the latest plan as `plan` printed it, HULMEIDE_NONE_FITS as well, without planning anew. It changes nothing and
  * needs no work: a display may ask as often as it likes. Once a change was accepted it is HULMEIDE_NO_PLAN until the next plan.
+ * `need`, as in "need,70", prints the least budget, at most the one in force, whose plan has that worth or more, as "need,30". "need,0" prints the
+ * least budget that has a plan at all. It changes nothing: the tables, the budget in force and the latest plan stay.
  * `save` changes nothing and writes lines, each with its line feed, that rebuild the tables: any planner that breaks no limit accepts them one
  * by one, and has these tables then. `save1` writes them without kinds, for a planner before 1.8, where every kind is 0, and is
  * HULMEIDE_KINDS_IN_USE otherwise. It changes nothing either.
@@ -338,7 +349,7 @@ size_t hulmeide_stretch_row(const uint8_t *glass, size_t glass_length, const uin
 
 /* ---- What callers would write ---- */
 
-/* The cells that a plan of this planner needs, as it stands. */
+/* The cells that a plan of this planner needs, as it stands, and `need` too. */
 static inline size_t hulmeide_cells_needed(const struct hulmeide_planner *planner)
 {
     return HULMEIDE_CELLS_NEEDED(planner->loads.count, planner->book.states, planner->book.stages, planner->budget);

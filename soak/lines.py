@@ -9,21 +9,21 @@ from edges import BELOW  # of tests/, which model.py put on the path
 
 SEASON = 150  # lines
 SEASONS = (
-    {b'load': 30, b'power': 2, b'worth': 2, b'budget': 1, b'plan': 2, b'check': 2, b'save': 1, b'save1': 1, b'last': 1},
-    {b'start': 2, b'end': 2, b'rule': 20, b'row': 20, b'load': 3, b'plan': 2, b'check': 2, b'save': 1, b'save1': 1, b'last': 1},
+    {b'load': 30, b'power': 2, b'worth': 2, b'budget': 1, b'plan': 2, b'check': 2, b'save': 1, b'save1': 1, b'last': 1, b'need': 1},
+    {b'start': 2, b'end': 2, b'rule': 20, b'row': 20, b'load': 3, b'plan': 2, b'check': 2, b'save': 1, b'save1': 1, b'last': 1, b'need': 1},
     {b'start': 1, b'end': 1, b'rule': 5, b'row': 5, b'load': 2, b'power': 5, b'worth': 5, b'budget': 5, b'plan': 8, b'check': 5, b'save': 1,
-     b'save1': 1, b'last': 3},
+     b'save1': 1, b'last': 3, b'need': 4},
     {b'book': 1, b'start': 6, b'end': 6, b'rule': 8, b'row': 8, b'load': 1, b'budget': 2, b'plan': 2, b'check': 2, b'save': 1, b'save1': 1,
-     b'last': 1},
-    {b'load': 20, b'drop': 20, b'power': 1, b'worth': 1, b'budget': 2, b'plan': 3, b'check': 3, b'save': 2, b'save1': 1, b'last': 1},
-    {b'load': 10, b'drop': 20, b'rule': 3, b'row': 3, b'budget': 2, b'plan': 2, b'check': 2, b'save': 1, b'save1': 1, b'last': 1},
+     b'last': 1, b'need': 1},
+    {b'load': 20, b'drop': 20, b'power': 1, b'worth': 1, b'budget': 2, b'plan': 3, b'check': 3, b'save': 2, b'save1': 1, b'last': 1, b'need': 1},
+    {b'load': 10, b'drop': 20, b'rule': 3, b'row': 3, b'budget': 2, b'plan': 2, b'check': 2, b'save': 1, b'save1': 1, b'last': 1, b'need': 1},
     {word: 1 for word in (*RANGES, b'check')},
 )
 OTHER_WORDS = (
     b'', b'Plan', b'plans', b'pla', b'save', b'saves', b'save1', b'save2', b'Save1', b'drop', b'Drop', b'drops', b'dro', b' drop', b'last',
-    b'Last', b'lasts', b'las', b'need', b'rules', b'check1', b'cler', b'0', b'no', b'ok',
+    b'Last', b'lasts', b'las', b'need', b'Need', b'needs', b'nee', b'rules', b'check1', b'cler', b'0', b'no', b'ok',
 )
-ASKED = (b'save', b'save1', b'last', b'plan', b'last', b'check')  # after a drop; they change no table
+ASKED = (b'save', b'save1', b'last', b'plan', b'last', b'check', b'need')  # after a drop; they change no table
 POLLED = 0.3  # how often `last` comes after a line before or after which an outcome is stored
 # The greatest power and worth, each with its place in a line, in a season in which many sets are equal in worth.
 EQUALS = {b'load': {1: 3, 2: 1}, b'power': {1: 3}, b'worth': {1: 1}}
@@ -65,6 +65,13 @@ def bits(rng, model):
     return bytes(rng.choices(b'01', k=max(1, count)))
 
 
+def worth_wanted(rng, model):
+    """A worth for a need: none, that of some loads together, one more, that of all loads, or one more."""
+    all_loads = sum(load[2] for load in model.loads)
+    some = sum(load[2] for load in rng.sample(model.loads, min(len(model.loads), rng.randint(1, 4))))
+    return rng.choice((0, 1, some, some, some + 1, all_loads, all_loads + 1))
+
+
 def leaf(rng, model):
     """The number of a load without children."""
     return rng.choice(sorted({*range(1, len(model.loads) + 1)} - {parent for parent, *_ in model.loads}))
@@ -80,6 +87,8 @@ def values(rng, model, word, style):
         return [budget(rng, model)]
     if word == b'drop' and model.loads and rng.random() < 0.6:
         return [leaf(rng, model)]
+    if word == b'need' and rng.random() < 0.8:
+        return [worth_wanted(rng, model)]
     ranges = RANGES[word](model)
     found = [rng.randint(low, max(low, high)) for low, high in ranges]
     for place, most in EQUALS.get(word, {}).items() if style.equals else ():
@@ -156,7 +165,7 @@ def made_long(rng, line):
     """The line filled up to a length at or past the limit, in form or not."""
     length = rng.choice(LONG)
     filling = rng.choice((b'0', b'1', b',', b' ', b'x', b'\0'))
-    return rng.choice((line, b'check,', b'budget,', b'save', b'save1', b'last')).ljust(length, filling)
+    return rng.choice((line, b'check,', b'budget,', b'save', b'save1', b'last', b'need,')).ljust(length, filling)
 
 
 def noise(rng, line):
@@ -261,11 +270,12 @@ def of_kinds():
 
 
 def all_cells():
-    """Plans that need every cell that is lent, and more."""
+    """Plans and needs that take every cell that is lent, and more."""
     loads = Model.most_loads // 2
     budget = Model.cells_lent // (2 * loads) - 1
     lines = [b'book,1,1', b'load,0,0,0'] + [b'load,1,0,0'] * (loads - 1)
-    return lines + [b'budget,%d' % budget, b'plan', b'budget,%d' % (budget + 1), b'plan']
+    asked = [b'plan', b'need,0', b'need,%d' % Model.most_need, b'need,%d' % (Model.most_need + 1)]
+    return lines + [b'budget,%d' % budget, *asked, b'budget,%d' % (budget + 1), *asked]
 
 
 def cameras(*powers):
@@ -277,7 +287,8 @@ def cameras(*powers):
 # Lines that leave the last plan of a feed with two cameras as it is, and lines that do not, though they leave every table equal.
 LEFT = (
     b'budget,501', b'drop,4', b'power,4,1', b'rule,1,0,2', b'row,2,2,2', b'drop,1', b'check,110', b'check,101', b'check,011', b'save', b'save1',
-    b'last', b'rule,1,0,2,0', b'rule,1,0,2,4', b'load,1,1,1,4', b'plan', b'plan,', b'', b'last,', b'clear'.ljust(Model.most_bytes + 1, b','),
+    b'last', b'rule,1,0,2,0', b'rule,1,0,2,4', b'load,1,1,1,4', b'plan', b'plan,', b'', b'last,', b'need,0', b'need,20', b'need,21',
+    b'need,%d' % (Model.most_need + 1), b'need,', b'clear'.ljust(Model.most_bytes + 1, b','),
 )
 WIPED = (b'start,1', b'end,2', b'power,2,9', b'worth,3,20', b'budget,9')
 
@@ -293,11 +304,29 @@ def polled():
         b'budget,%d' % Model.most_budget, b'plan', b'last', b'budget,0', b'last', b'plan', b'load,1,0,0', b'last']
 
 
+# Lines that ask for the least budget, at every edge of the worth, and lines that are nearly such.
+NEEDS = (
+    b'need,0', b'need,00000', b'need,1', b'need,20', b'need,00020', b'need,21', b'need,40', b'need,41', b'need,%d' % Model.most_need,
+    b'need,%d' % (Model.most_need + 1), b'need,65556', b'need,99999', b'need,100000', b'need,000020', b'need', b'need,', b'need,20,', b'need,20,0',
+    b'needs,20', b'Need,20', b'need,-1', b'need,'.ljust(Model.most_bytes + 1, b'0'),
+)
+
+
+def needed():
+    """Needs with no loads, with no book, of two cameras with several budgets, with no allowed set, and with as many cells as are lent and fewer;
+    with saves and the last plan between."""
+    lines = [b'clear', *NEEDS, b'budget,9', b'load,0,0,0', *NEEDS, b'clear', *cameras(9, 6)]
+    for budget in (0, 5, 6, 14, 15, 500):
+        lines += [b'budget,%d' % budget, *NEEDS, b'plan', *(line for one in NEEDS for line in (one, b'last')), b'save']
+    lines += [b'book,2,2', *NEEDS, b'last', b'plan', *NEEDS, b'last', *all_cells()]
+    return lines
+
+
 def seldom():
     """What random lines seldom have, in a session of its own."""
     sizes = [b'book,%d,1' % (Model.most_states + 1), b'book,1,%d' % (Model.most_stages + 1)]
     others = [b'\0plan', b'\0budget,1', b'check,', b'save']
-    return sizes + one_rule_more() + kinds_past_all() + all_cells() + others + cameras(9, 6) + cameras(6, 9) + polled() + of_kinds()
+    return sizes + one_rule_more() + kinds_past_all() + all_cells() + others + cameras(9, 6) + cameras(6, 9) + polled() + of_kinds() + needed()
 
 
 def session(rng, model, count):

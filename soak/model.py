@@ -1,8 +1,9 @@
 """A plain model of the planner's tables, straight from papers 01 and 02: what each line changes, the refusals that the tables settle, the lines
 of both saves, and whether the outcome of a plan is stored.
 
-It does no planning, so what the outcome is it does not know; that is held to what was printed for the plan (soak.py). It shares no code with
-the product, nor with tests/oracle.py; the limits are those of the header, by tests/limits.py.
+It does no planning, so what the outcome is it does not know; that is held to what was printed for the plan (soak.py). Nor does it know what budget
+a need shows; plans tell that (needs.py). It shares no code with the product, nor with tests/oracle.py; the limits are those of the header, by
+tests/limits.py.
 The limits and the steps that wrong.py gets wrong on purpose are attributes and methods of their own.
 """
 import sys
@@ -26,6 +27,7 @@ class Model:
     most_worth = limits.MAX_WORTH
     most_budget = limits.MAX_BUDGET
     most_kind = limits.MAX_KIND
+    most_need = limits.MAX_NEED
     cells_lent = limits.CELLS
 
     def __init__(self):
@@ -117,7 +119,7 @@ class Model:
 
     def cause(self, word, values):
         """The lowest number that applies and that the tables settle, or 0."""
-        if word in (b'plan', b'check') and not self.loads:
+        if word in (b'plan', b'check', b'need') and not self.loads:
             return 4
         if not self.in_range(word, values):
             return 5
@@ -125,7 +127,7 @@ class Model:
             return 6
         if self.known(word, values):
             return 7
-        if word == b'plan' and self.cells() > self.cells_lent:
+        if word in (b'plan', b'need') and self.cells() > self.cells_lent:
             return 8
         if word == b'drop' and self.has_children(values[0]):
             return 11
@@ -251,9 +253,10 @@ RANGES = {
     b'save1': lambda t: (),
     b'drop': lambda t: ((1, len(t.loads)),),
     b'last': lambda t: (),
+    b'need': lambda t: ((0, t.most_need),),
 }
 
-# The method that makes each change; `plan`, `check`, `save`, `save1` and `last` change no table.
+# The method that makes each change; `plan`, `check`, `save`, `save1`, `last` and `need` change no table.
 EFFECTS = {
     b'clear': 'clear', b'book': 'book', b'start': 'start', b'end': 'end', b'rule': 'rule', b'row': 'row',
     b'load': 'load', b'power': 'power', b'worth': 'worth', b'budget': 'set_budget', b'drop': 'drop',

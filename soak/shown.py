@@ -1,7 +1,8 @@
-"""The answers of `plan` and `check` where the tables settle no refusal, read as far as that needs no planning.
+"""The answers of `plan`, `check` and `need` where the tables settle no refusal, read as far as that needs no planning.
 
 Either the refusal that planning alone can tell (9 or 10), or a first line and a line for each load. Those lines must be a run by paper 01,
-and the first line the figures of its set. Whether a better set exists, or whether the refusal is right, is not asked here.
+and the first line the figures of its set. Whether a better set exists, or whether the refusal is right, is not asked here. A need is answered with
+9, 15 or a budget up to the one in force; whether that is the least is not asked here.
 """
 
 OTHERWISE = {b'plan': b'no,9', b'check': b'no,10'}
@@ -78,9 +79,21 @@ def wrong(model, word, values, lines):
     return None if lines[0] == b'plan,%d,%d,%d' % (worth, power, count) else 'the figures of the set shown'
 
 
+def wrong_need(model, worth, line):
+    """What is wrong with the answer to a need, or None. No worth is too great if it is 0, and none is reached that all loads together lack."""
+    if line == b'no,9' or line == b'no,15' and worth > 0:
+        return None
+    budget = line.removeprefix(b'need,')
+    in_form = line.startswith(b'need,') and budget.isdigit() and b'%d' % int(budget) == budget and int(budget) <= model.budget
+    return None if in_form and worth <= sum(load[2] for load in model.loads) else 'a budget up to %d' % model.budget
+
+
 def read(model, word, values, printed, at):
-    """Reads the answer to an accepted `plan` or `check` from the printed lines at a place: what was expected but not found, or None;
+    """Reads the answer to an accepted `plan`, `check` or `need` from the printed lines at a place: what was expected but not found, or None;
     the kind of the answer; and how many lines it has."""
+    if word == b'need':
+        line = printed[at] if at < len(printed) else b''
+        return wrong_need(model, values[0], line), line, 1
     if at < len(printed) and printed[at] == OTHERWISE[word]:
         return None, printed[at], 1
     lines = printed[at:at + 1 + len(model.loads)]

@@ -7,13 +7,14 @@ drawn by no line (tests/pagecheck.py).
 Every answer to a change, every refusal from 2 to 8, every 11, 12 and 14 and every save is compared. Of a plan or a check that the tables do not
 refuse, the answer must be 9 or 10, or a run of the set it shows, line for line (shown.py). The last plan must be what was printed for the
 latest one, where the model has one stored. Every number that a word can be answered with must come up.
-After a drop both saves, a plan with `last` before and after it, and a check are asked for. Another process, fed the tree without that load,
-must answer the same.
+After a drop both saves, a plan with `last` before and after it, a check and a need are asked for. Another process, fed the tree without that
+load, must answer the same.
 Plans are asked for again, of another process, with a budget of just their power and with a watt less (budgets.py); and where the last plan was
-shown, the tables in force are fed to another process, whose plan must be the same (latest.py).
+shown, the tables in force are fed to another process, whose plan must be the same (latest.py). The budget that a need shows must be the least by
+another process's plans: at it, at a watt less and at the budget in force, and now and then at every budget (needs.py).
 Then the same lines are given to models that are wrong on purpose (wrong.py), and each must be told apart from the program.
 With --wrong NAME the wrong model takes the right one's place, and the run is to fail.
-Answers to plans asked for again and anew that are wrong on purpose must be told apart too.
+Answers to plans asked for again and anew, and to needs, that are wrong on purpose must be told apart too.
 The last line is 'N passed, M failed': sessions, kinds of answers, wrong models and answers.
 """
 import argparse
@@ -26,6 +27,7 @@ from collections import Counter
 import budgets
 import latest
 import lines
+import needs
 import shown
 from model import EFFECTS, Model
 from texts import entered_without  # of tests/, which model.py put on the path
@@ -39,7 +41,7 @@ KEPT = 20  # sessions that the wrong models are given
 KINDS = {
     b'clear': (0,), b'book': (0, 5), b'start': (0, 5), b'end': (0, 5), b'rule': (0, 5, 6, 7), b'row': (0, 5, 6, 7), b'load': (0, 5, 6),
     b'power': (0, 5), b'worth': (0, 5), b'budget': (0, 5), b'plan': (0, 4, 8, 9), b'check': (0, 4, 5, 10), b'save': (0,),
-    b'save1': (0, 14), b'drop': (0, 5, 11), b'last': (0, 9, 12), None: (2, 3),
+    b'save1': (0, 14), b'drop': (0, 5, 11), b'last': (0, 9, 12), b'need': (0, 4, 5, 8, 9, 15), None: (2, 3),
 }
 
 
@@ -117,13 +119,15 @@ def fed(ask, session, parts):
 
 
 def asked_anew(program, session, parts):
-    """How many trees without a load, how many plans and how many last plans another process was asked about, and what differs, or None."""
+    """How many trees without a load, how many plans, last plans and needs another process was asked about, and what differs, or None."""
     def ask(given):
         return printed_by(program, given, ended=bool(given))[:-1]
     trees, same = fed(ask, session, parts)
     plans, fault = budgets.compared(ask, session, parts)
     lasts, other = latest.compared(ask, session, parts)
-    return {'drops': trees, 'plans': plans, 'lasts': lasts}, fault or other if same else 'a tree that was entered without a load that left'
+    needed, missed = needs.compared(ask, session, parts)
+    counts = {'drops': trees, 'plans': plans, 'lasts': lasts, **needed}
+    return counts, fault or other or missed if same else 'a tree that was entered without a load that left'
 
 
 def sessions(args, rng):
@@ -162,12 +166,13 @@ def answers(seen):
 
 
 def told_apart(kept):
-    """How many wrong models differ from the program in a kept session, with the wrong answers of budgets.py and latest.py; how many do not."""
-    untold = [name for name, kind in WRONG.items()
-              if not any(compare(kind(), session, printed, Counter())[1] for session, printed in kept)] + budgets.untold() + latest.untold()
+    """How many wrong models differ from the program in a kept session, with the wrong answers of budgets.py, latest.py and needs.py; how many do
+    not."""
+    untold = [name for name, kind in WRONG.items() if not any(compare(kind(), session, printed, Counter())[1] for session, printed in kept)]
+    untold += budgets.untold() + latest.untold() + needs.untold()
     for name in untold:
         print('%s: not told apart' % name)
-    return len(WRONG) + len(budgets.WRONG) + len(latest.WRONG) - len(untold), len(untold)
+    return len(WRONG) + len(budgets.WRONG) + len(latest.WRONG) + len(needs.WRONG) - len(untold), len(untold)
 
 
 def main():
@@ -182,6 +187,7 @@ def main():
     seconds = time.monotonic() - began
     print('%d lines in %d sessions, seed %d, %d drops compared, %d plans asked for again, %d last plans asked for anew'
           % (args.lines, agree + differ, args.seed, asked['drops'], asked['plans'], asked['lasts']))
+    print('%d needs planned for, %d of them at every budget' % (asked['needs'], asked['every budget']))
     print('%d sessions differ; %.1f s' % (differ, seconds))
     present, missing = answers(seen)
     told, untold = told_apart(kept)

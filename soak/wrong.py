@@ -825,6 +825,113 @@ class BookForgetsKinds(Model):
             load[3] = 0
 
 
+# ---- needs
+
+
+class NeedMore(Model):
+    """A worth may be one greater."""
+    most_need = Model.most_need + 1
+
+
+class NeedLess(Model):
+    """A worth may be only one less than the greatest."""
+    most_need = Model.most_need - 1
+
+
+class NeedOfOneLoad(Model):
+    """A worth may be as great as that of a load."""
+    most_need = Model.most_worth
+
+
+class NeedNotTested(Model):
+    """A worth may be any number."""
+    most_need = 10 ** Model.most_digits - 1
+
+
+class NeedUnknown(Model):
+    """`need` is no command."""
+
+    def read(self, line):
+        return None if line.startswith(b'need,') else super().read(line)
+
+
+class NeedTakesFields(Model):
+    """`need` may have a second field."""
+
+    def read(self, line):
+        return super().read(line.rpartition(b',')[0] if line.startswith(b'need,') and line.count(b',') == 2 else line)
+
+
+class NeedOfNoField(Model):
+    """`need` without a field is of worth 0."""
+
+    def read(self, line):
+        return super().read(b'need,0' if line == b'need' else line)
+
+
+class FiveBeforeFour(Model):
+    """A worth out of its range is told before that there are no loads."""
+
+    def cause(self, word, values):
+        return 5 if word == b'need' and not self.in_range(word, values) else super().cause(word, values)
+
+
+class EightBeforeFive(Model):
+    """Too few cells for a need are told before a worth out of its range."""
+
+    def cause(self, word, values):
+        number = super().cause(word, values)
+        return 8 if number == 5 and word == b'need' and self.cells() > self.cells_lent else number
+
+
+class NeedOfNoLoads(Model):
+    """A need with no loads is not refused for that."""
+
+    def cause(self, word, values):
+        number = super().cause(word, values)
+        return 0 if number == 4 and word == b'need' else number
+
+
+class NeedWithoutCells(Model):
+    """A need has cells of its own."""
+
+    def cause(self, word, values):
+        number = super().cause(word, values)
+        return 0 if number == 8 and word == b'need' else number
+
+
+class NeedOfLast(Model):
+    """A need with no current plan is refused as `last` is."""
+
+    def cause(self, word, values):
+        number = super().cause(word, values)
+        return 12 if number == 0 and word == b'need' and not self.stored else number
+
+
+class NeedWipes(Model):
+    """A need wipes the outcome."""
+
+    def wipes(self, number, word):
+        return number == 0 and word == b'need' or super().wipes(number, word)
+
+
+class NeedStored(Model):
+    """A need stores an outcome as a plan does."""
+
+    def stores(self, number, word):
+        return number == 0 and word == b'need' or super().stores(number, word)
+
+
+class NeedSetsBudget(Model):
+    """A need leaves the first budget that it tried in force."""
+
+    def settle(self, line):
+        settled = super().settle(line)
+        if settled[:2] == (0, b'need'):
+            self.set_budget(0)
+        return settled
+
+
 def keeping(words):
     """The model in which changes by some words keep the outcome."""
     def wipes(self, number, word):

@@ -21,8 +21,9 @@ import sys
 from collections import Counter, namedtuple
 from itertools import compress
 
-from edges import BELOW, EDGES, EVERY_OTHER, LARGEST_EDGES, NEAR_DROPS, NEAR_KINDS, NEAR_LASTS, NEAR_SAVES, ON_BY_ROW, ON_FIRST
-from limits import LINE_BYTES, MAX_BUDGET, MAX_DIGITS, MAX_KIND, MAX_LOADS, MAX_POWER, MAX_RULES, MAX_STAGES, MAX_STATES, MAX_WORTH, NOTHING
+from edges import BELOW, EDGES, EVERY_OTHER, LARGEST_EDGES, NEAR_DROPS, NEAR_KINDS, NEAR_LASTS, NEAR_NEEDS, NEAR_SAVES, ON_BY_ROW, ON_FIRST
+from limits import LINE_BYTES, MAX_BUDGET, MAX_DIGITS, MAX_KIND, MAX_LOADS, MAX_NEED, MAX_POWER, MAX_RULES, MAX_STAGES, MAX_STATES, MAX_WORTH
+from limits import NOTHING
 from oracle import WORDS, Oracle
 from wrong_oracles import WRONG, with_fields
 
@@ -124,7 +125,9 @@ def budget_line(rng, figures):
 
 def field(rng):
     """A field that may be a number: in range or at an edge, or of the wrong form."""
-    edges = (MAX_STATES + 1, MAX_LOADS, MAX_LOADS + 1, MAX_BUDGET, MAX_BUDGET + 1, MAX_WORTH, MAX_WORTH + 1, 10**MAX_DIGITS - 1, 10**MAX_DIGITS)
+    edges = (
+        MAX_STATES + 1, MAX_LOADS, MAX_LOADS + 1, MAX_BUDGET, MAX_BUDGET + 1, MAX_WORTH, MAX_WORTH + 1, MAX_NEED, MAX_NEED + 1, 10**MAX_DIGITS - 1,
+        10**MAX_DIGITS)
     zeros = ('00', '01', '0' * MAX_DIGITS, '1'.zfill(MAX_DIGITS), '0' * (MAX_DIGITS + 1), '1'.zfill(MAX_DIGITS + 1))
     return rng.choice(('0', '1', '2', '3', *zeros, *map(str, edges), '', '-1', ' 1', '1 ', 'x'))
 
@@ -132,16 +135,16 @@ def field(rng):
 def damaged(rng):
     """A line that may break its form, its range or its length in any way."""
     sort = rng.randrange(9)
-    word = rng.choice((*WORDS, 'check', 'Plan', 'plans', 'Save', 'saves', 'Last', 'lasts', ''))
+    word = rng.choice((*WORDS, 'check', 'Plan', 'plans', 'Save', 'saves', 'Last', 'lasts', 'Need', 'needs', ''))
     if sort > 6:
-        return rng.choice(rng.choice((NEAR_DROPS, NEAR_LASTS, NEAR_KINDS, NEAR_SAVES)))
+        return rng.choice(rng.choice((NEAR_DROPS, NEAR_LASTS, NEAR_KINDS, NEAR_SAVES, NEAR_NEEDS)))
     if sort < 4 and word != 'clear':
         return ','.join([word] + [field(rng) for _ in range(rng.randint(0, 5))]).encode()
     if sort == 4:
         return bytes(rng.choice((0, 9, 13, 32, 44, 48, 49, 57, 99, 112, 128, 255)) for _ in range(rng.randint(0, 12)))
     if sort == 5:
         return b'check,' + rng.choice((b'0', b'1')) * rng.randint(1, LINE_BYTES)
-    return rng.choice((b'budget,', b'save,', b'save', b'save1', b'last')) + b'0' * rng.randint(LINE_BYTES - 20, LINE_BYTES + 10)
+    return rng.choice((b'budget,', b'save,', b'save', b'save1', b'last', b'need,')) + b'0' * rng.randint(LINE_BYTES - 20, LINE_BYTES + 10)
 
 
 def drop_line(rng, oracle):
@@ -149,6 +152,15 @@ def drop_line(rng, oracle):
     numbers = range(len(oracle.loads) + 2)
     leaves = [k for k in numbers[1:-1] if not oracle.children(k)]
     return b'drop,%d' % rng.choice(leaves if leaves and rng.random() < 0.6 else numbers)
+
+
+def need_line(rng, oracle):
+    """A need: of the worth of the plan at a budget up to the one in force, of one near it, or of an end of the range."""
+    budget = oracle.budget if rng.random() < 0.6 else rng.randint(0, oracle.budget)
+    best = oracle.best(oracle.tree_runs(), budget) if oracle.loads else None
+    worth = best[0] if best else 1
+    near = 0, 1, worth, worth, worth, worth + 1, worth + 1, max(0, worth - 1)
+    return b'need,%d' % rng.choice(near if rng.random() < 0.8 else (MAX_NEED, MAX_NEED + 1, 2**16 + worth, 10**MAX_DIGITS - 1))
 
 
 def same_again(rng, oracle):
@@ -174,7 +186,7 @@ def question(rng, oracle, figures, kinds):
     loads = len(oracle.loads)
     return rng.choice((
         lambda: budget_line(rng, figures).encode(), *4 * [lambda: b'plan'], lambda: b'save', lambda: b'save1', lambda: b'last',
-        lambda: same_again(rng, oracle), lambda: near_a_kind(rng, oracle),
+        lambda: same_again(rng, oracle), lambda: near_a_kind(rng, oracle), *3 * [lambda: need_line(rng, oracle)],
         lambda: b'check,' + bytes(rng.choice(b'01') for _ in range(loads)),
         lambda: b'power,%d,%d' % (rng.randint(1, loads + 1), rng.choice(figures.powers)),
         lambda: b'worth,%d,%d' % (rng.randint(1, loads + 1), rng.choice(figures.worths)),
@@ -212,7 +224,7 @@ def session(rng):
         if not said.say(line.encode()):
             return None
         if rng.random() < 0.05:
-            said.say(rng.choice((b'save', b'save1', b'plan')))
+            said.say(rng.choice((b'save', b'save1', b'plan', need_line(rng, said.oracle))))
     for _ in range(rng.randint(4, 14)):
         line = question(rng, said.oracle, figures, kinds)
         if line.startswith((b'load,', b'book', b'rule', b'row', b'start')) and rng.random() < 0.5:
@@ -368,13 +380,20 @@ def edge_right(case, out):
 # ---- what is printed of each comparison, and how many failed
 
 
+def counted(answer):
+    """What an answer is counted as: a refusal with its number, or the word of its first line."""
+    return answer[0] if answer[0].startswith('no,') else answer[0].split(',')[0]
+
+
 def sessions_differ(wrong, cases):
     for lines, first in wrong[:3]:
         print('DIFFERS at %r: expected %r, printed %r, in the session %r' % (*first, lines))
-    said = Counter((line == b'last', 'plan' if answer[0].startswith('plan') else answer[0]) for case in cases for line, answer in zip(*case))
-    counts = [said[False, first] for first in ('plan', 'no,9', 'no,8', 'yes', 'no,10')]
-    print('%d sessions with %d plans shown, %d refusals 9, %d refusals 8, %d sets allowed, %d not' % (len(cases), *counts))
-    print('last: %d plans shown, %d refusals 9, %d refusals 12' % tuple(said[True, first] for first in ('plan', 'no,9', 'no,12')))
+    said = Counter((line.split(b',')[0], counted(answer)) for case in cases for line, answer in zip(*case))
+    plans, checks = [said[b'plan', first] for first in ('plan', 'no,9', 'no,8')], [said[b'check', first] for first in ('yes', 'no,10')]
+    print('%d sessions with %d plans shown, %d refusals 9, %d refusals 8, %d sets allowed, %d not' % (len(cases), *plans, *checks))
+    print('last: %d plans shown, %d refusals 9, %d refusals 12' % tuple(said[b'last', first] for first in ('plan', 'no,9', 'no,12')))
+    needs = [said[b'need', first] for first in ('need', 'no,15', 'no,9', 'no,8', 'no,5', 'no,4')]
+    print('need: %d budgets shown, %d refusals 15, %d refusals 9, %d refusals 8, %d refusals 5, %d refusals 4' % tuple(needs))
     print('%d sessions with kinds in use' % sum(['no,14'] in answers for _, answers in cases))
     return len(wrong)
 

@@ -4,8 +4,8 @@
   dropcheck.py PROGRAM [--sessions N] [--seed S]
 
 In some sessions hundreds of loads come and go; in others the fullest tree is emptied leaf by leaf, in any order, and filled again. In most the
-loads are of several kinds. After each drop both saves, a plan and checks are asked for, and the last plan: none is current before the plan, and
-then it is that. Another process is fed the tree without that load: the lines of the save before the drop, without the line of the load and with
+loads are of several kinds. After each drop both saves, a plan, checks and needs are asked for, and the last plan: none is current before the plan,
+and then it is that. Another process is fed the tree without that load: the lines of the save before the drop, without the line of the load and with
 the parents above it one less. It must take them all, and answer the same questions the same.
 Sessions on small trees are given to the oracle too, and to oracles that are wrong on purpose (wrong_oracles.py), in the program's place. Each
 wrong one must be told apart.
@@ -93,6 +93,10 @@ class Session:
         sets = ['0' * count, self.set_from_the_top(), ''.join(self.rng.choices('01', k=count)), '0' * (count + 1)]
         return ['check,' + bits for bits in sets if bits]
 
+    def needs(self):
+        """Needs of worths that a few of the loads may have."""
+        return ['need,%d' % self.rng.randint(0, most * self.most_worth) for most in (0, 2, 5)]
+
     def budget(self):
         """A budget for which the cells of the line program are enough."""
         most = CELLS // (MOST_WAYS * max(1, len(self.loads))) - 1
@@ -106,7 +110,7 @@ class Session:
         self.say('save')
         self.say('drop,' + str(load).zfill(self.rng.choice((1, 1, 5))), 'ok')
         self.loads = entered_without(self.loads, load)
-        question = Question(load, len(self.lines) - 2, ['save', 'save1', 'last', 'plan', 'last', *self.checks()])
+        question = Question(load, len(self.lines) - 2, ['save', 'save1', 'last', 'plan', *self.needs(), 'last', *self.checks()])
         self.questions.append(question)
         for line in question.asked:
             self.say(line)

@@ -1,13 +1,13 @@
 """Sessions by name, each with its answers as paper 02 has them: of loads that leave (request Three), of equal plans, of which the cooler one
-wins (request Four), of the last plan, shown again (request Five), and of kinds of load (request Eight). The answers are written by hand but for
-the listings of the fullest trees, which a formula makes.
+wins (request Four), of the last plan, shown again (request Five), of kinds of load (request Eight), and of how little supply would do (request
+Nine). The answers are written by hand but for the listings of the fullest trees, which a formula makes.
 
 In the text of a session a row is `LINE LINE .. -> ANSWER`: each of the lines has this answer, and an answer's lines are parted by blanks. Where
 the answer of `save` has a line without a kind, the kind 0 is added to it. That of `save1` stands as it is.
 """
 import re
 
-from limits import CELLS, LINE_BYTES, MAX_BUDGET, MAX_KIND, MAX_LOADS, MAX_RULES, MAX_STAGES, MAX_STATES, MAX_WORTH
+from limits import CELLS, LINE_BYTES, MAX_BUDGET, MAX_KIND, MAX_LOADS, MAX_NEED, MAX_RULES, MAX_STAGES, MAX_STATES, MAX_WORTH
 
 # A load may be on only if its parent is.
 BELOW = 'book,2,2 start,1 start,2 end,1 end,2 rule,1,0,2 rule,1,1,1 rule,2,0,2 row,1,1,1 row,2,2,2'
@@ -72,6 +72,15 @@ NEAR_SAVES = (
 )
 LONG_SAVE = b'save1'.ljust(LINE_BYTES + 1, b'1')
 
+# Lines that are nearly `need`: each breaks its form, and is answered with 3.
+NEAR_NEEDS = (
+    b'need', b'need,', b'need,,', b'need,,70', b'need,70,', b'need,70,0', b'need,70,70', b'Need,70', b'NEED,70', b'needs,70', b'needed,70',
+    b'nee,70', b'need70', b'need;70', b' need,70', b'need ,70', b'need, 70', b'need,70 ', b'need,70\t', b'need,70\r', b'need,70\0', b'\0need,70',
+    b',need,70', b'70,need', b'need,-1', b'need,+70', b'need,70.0', b'need,0x46', b'need,x', b'need,plan', b'need,000000', b'need,000070',
+    b'need,064000', b'need,100000', b'need,\xb7', b'\xeeeed,70', b'need,'.ljust(LINE_BYTES, b'0'), b'need,'.ljust(LINE_BYTES, b','),
+)
+LONG_NEED = b'need,'.ljust(LINE_BYTES + 1, b'0')
+
 WITHOUT_KIND = re.compile('(rule|load)(,[0-9]+){3}')
 
 
@@ -135,6 +144,16 @@ def near_saves():
     return parted([
         *steps('clear load,0,1,1 -> ok'), *near, *steps('save1 -> clear load,0,1,1 budget,0'),
         *steps('load,1,2,2,1 -> ok'), *near, *steps('save1 -> no,14'),
+    ])
+
+
+def near_needs():
+    """The lines that are nearly `need`, with no loads, with loads and with a plan, which stays: 3 comes before 4."""
+    near = [*((line, ['no,3']) for line in NEAR_NEEDS), (LONG_NEED, ['no,2'])]
+    return parted([
+        (b'clear', ['ok']), *near, *steps(f'{WORKED} budget,30 -> ok'), *near,
+        *steps(f'need,70 -> need,30\nlast -> no,12\nplan -> {PLAN_30}'), *near,
+        *steps(f'last -> {PLAN_30}\nsave -> clear {BELOW} {CABINET} budget,30'),
     ])
 
 
@@ -1055,6 +1074,266 @@ plan last -> {READER_ON}
 '''),
 }
 
+NEED_EDGES = {
+    'near needs': near_needs(),
+    # The plan has worth 70 and draws 30 W.
+    'the worth of the plan, one less and one more': session(f'''
+{WORKED} budget,30 -> ok
+plan -> {PLAN_30}
+need,70 need,69 -> need,30
+need,71 need,72 -> no,15
+need,0 -> need,0
+need,1 -> need,15
+'''),
+    # The plans are of worth 0, and from 15, 25, 30, 32 and 37 W on of 30, 40, 70, 90 and 120.
+    'each step of the plans': session(f'''
+{WORKED} budget,500 -> ok
+need,0 -> need,0
+need,1 need,2 need,29 need,30 -> need,15
+need,31 need,39 need,40 -> need,25
+need,41 need,69 need,70 -> need,30
+need,71 need,89 need,90 -> need,32
+need,91 need,119 need,120 -> need,37
+need,121 need,122 -> no,15
+budget,37 -> ok
+need,120 need,91 -> need,37
+need,121 -> no,15
+budget,36 -> ok
+need,120 need,91 -> no,15
+need,90 -> need,32
+budget,14 -> ok
+need,1 need,30 -> no,15
+need,0 -> need,0
+budget,15 -> ok
+need,1 need,30 -> need,15
+need,31 -> no,15
+'''),
+    # "v is 0 to 64,000"
+    'a worth out of its range': session(f'''
+{WORKED} budget,30 -> ok
+need,{MAX_NEED} need,{MAX_NEED - 1} need,1000 need,1001 need,4000 need,4001 -> no,15
+need,{MAX_NEED + 1} need,65535 need,65536 need,65606 need,99999 -> no,5
+need,100000 need,0{MAX_NEED} need,131142 -> no,3
+need,70 -> need,30
+'''),
+    'a worth with zeros in front': session(f'''
+{WORKED} budget,30 -> ok
+need,070 need,0070 need,00070 -> need,30
+need,00 need,000 need,00000 -> need,0
+need,00071 -> no,15
+need,000070 need,000000 -> no,3
+'''),
+    # "meets 4": before 5, whatever the worth is.
+    'a need of no loads': session(f'''
+need,0 need,1 need,{MAX_NEED} need,{MAX_NEED + 1} need,99999 -> no,4
+need, need,000001 -> no,3
+{BELOW} budget,30 -> ok
+need,0 need,{MAX_NEED + 1} -> no,4
+load,0,10,5 -> ok
+need,5 -> need,10
+need,{MAX_NEED + 1} -> no,5
+drop,1 -> ok
+need,0 need,5 need,{MAX_NEED + 1} -> no,4
+save -> clear {BELOW} budget,30
+'''),
+    'a budget of 0': session(f'''
+{WORKED} -> ok
+need,0 -> need,0
+need,1 need,{MAX_NEED} -> no,15
+power,1,0 worth,1,5 -> ok
+need,0 need,1 need,5 -> need,0
+need,6 -> no,15
+{ALL_ON} -> ok
+need,0 need,1 -> no,9
+power,2,0 power,3,0 power,4,0 -> ok
+need,0 need,125 -> need,0
+need,126 -> no,15
+'''),
+    # "b is the least budget .. whose plan": the loads that are on hang together, and there are some. From 5, 7, 22 and 37 W on the worth is 30,
+    # 50, 90 and 120.
+    'no plan below some budget': session(f'''
+{TOGETHER} {CABINET} budget,40 -> ok
+need,0 need,1 need,30 -> need,5
+need,31 need,50 -> need,7
+need,51 need,90 -> need,22
+need,91 need,120 -> need,37
+need,121 -> no,15
+budget,5 -> ok
+need,0 need,30 -> need,5
+need,31 -> no,15
+budget,6 -> ok
+need,0 need,30 -> need,5
+need,31 -> no,15
+worth,3,0 -> ok
+need,0 -> need,5
+need,1 -> no,15
+'''),
+    # "15 .. tested after 9": where no set fits, no worth is too great but one out of its range.
+    'a need that no allowed set fits': session(f'''
+{TOGETHER} {CABINET} budget,4 -> ok
+need,0 need,1 need,30 need,120 need,121 need,{MAX_NEED} -> no,9
+need,{MAX_NEED + 1} -> no,5
+budget,5 -> ok
+need,0 -> need,5
+book,1,1 start,1 end,1 rule,1,0,1 -> ok
+need,0 need,{MAX_NEED} -> no,9
+row,1,1,1 -> ok
+need,0 -> need,0
+need,1 need,{MAX_NEED} -> no,15
+'''),
+    'a need with no book': session(f'''
+load,0,10,5 load,1,1,1 budget,30 -> ok
+need,0 need,5 need,{MAX_NEED} -> no,9
+need,{MAX_NEED + 1} -> no,5
+budget,0 -> ok
+need,0 -> no,9
+last -> no,12
+'''),
+    # Four loads, eight states and eight stages take all cells of the line program at a budget of 255. "meets .. 8": after 5, before 9 and 15.
+    'a need with too few cells, and with just enough': session(f'''
+book,8,8 start,1 end,1 rule,1,1,1 row,1,1,1 load,0,1,1 load,1,2,2 load,1,3,3 load,1,4,4 budget,255 -> ok
+need,0 need,10 -> need,10
+need,11 -> no,15
+budget,256 -> ok
+need,0 need,10 need,11 need,{MAX_NEED} -> no,8
+need,{MAX_NEED + 1} -> no,5
+need, -> no,3
+power,4,500 -> ok
+need,0 need,{MAX_NEED} -> no,8
+need,{MAX_NEED + 1} -> no,5
+budget,255 -> ok
+need,0 need,{MAX_NEED} -> no,9
+power,4,249 -> ok
+need,0 need,10 -> need,255
+last -> no,12
+'''),
+    # It stores nothing and wipes nothing.
+    'the last plan after a need': session(f'''
+{WORKED} budget,30 -> ok
+need,70 -> need,30
+last -> no,12
+need,0 -> need,0
+last -> no,12
+need,71 -> no,15
+last -> no,12
+plan last -> {PLAN_30}
+need,70 -> need,30
+last -> {PLAN_30}
+need,30 -> need,15
+last -> {PLAN_30}
+need,0 -> need,0
+last -> {PLAN_30}
+need,71 need,{MAX_NEED} -> no,15
+last -> {PLAN_30}
+need,{MAX_NEED + 1} -> no,5
+last -> {PLAN_30}
+need, -> no,3
+last -> {PLAN_30}
+budget,30 -> ok
+last -> no,12
+need,70 -> need,30
+last -> no,12
+'''),
+    'the last plan after a need that no set fits': session(f'''
+{TOGETHER} {CABINET} budget,4 -> ok
+need,0 -> no,9
+last -> no,12
+plan last -> no,9
+need,0 need,30 -> no,9
+last -> no,9
+budget,7 -> ok
+need,51 -> no,15
+last -> no,12
+plan last -> plan,50,7,1 1,0,1,1,0 2,0,1,1,4 3,0,3,5,1 4,1,1,2,4
+need,30 -> need,5
+need,51 -> no,15
+last -> plan,50,7,1 1,0,1,1,0 2,0,1,1,4 3,0,3,5,1 4,1,1,2,4
+'''),
+    'the tables after needs': session(f'''
+{WORKED} budget,30 -> ok
+need,30 -> need,15
+save -> clear {BELOW} {CABINET} budget,30
+need,70 need,70 -> need,30
+need,71 -> no,15
+save -> clear {BELOW} {CABINET} budget,30
+plan last -> {PLAN_30}
+need,40 -> need,25
+save -> clear {BELOW} {CABINET} budget,30
+save1 -> clear {BELOW} {CABINET} budget,30
+plan last -> {PLAN_30}
+'''),
+    'needs while figures change': session(f'''
+{WORKED} budget,30 -> ok
+need,70 -> need,30
+worth,3,29 -> ok
+need,70 -> no,15
+need,69 -> need,30
+power,3,4 -> ok
+need,69 -> need,29
+budget,29 -> ok
+need,69 -> need,29
+budget,28 -> ok
+need,69 -> no,15
+drop,3 -> ok
+need,40 -> need,25
+need,41 -> no,15
+load,1,5,30 budget,30 -> ok
+need,70 -> need,30
+'''),
+    # Of two cameras of worth 20 the cooler one draws 6 W.
+    'a need of equal sets': session(f'''
+{BELOW} load,0,0,0 load,1,9,20 load,1,6,20 budget,14 -> ok
+need,1 need,20 -> need,6
+need,21 need,40 -> no,15
+budget,15 -> ok
+need,21 need,40 -> need,15
+need,20 -> need,6
+power,3,9 -> ok
+need,20 -> need,9
+need,21 -> no,15
+'''),
+    # A set of less worth may draw more, and is not needed then.
+    'a richer set that draws less': session(f'''
+{BELOW} load,0,0,0 load,1,9,20 load,1,3,21 budget,9 -> ok
+need,1 need,20 need,21 -> need,3
+need,22 need,41 -> no,15
+budget,12 -> ok
+need,22 need,41 -> need,12
+'''),
+    'a need of the whole budget': session(f'''
+{ALL_ON} load,0,{MAX_BUDGET},0 budget,{MAX_BUDGET} -> ok
+need,0 -> need,{MAX_BUDGET}
+need,1 -> no,15
+worth,1,{MAX_WORTH} -> ok
+need,0 need,{MAX_WORTH} -> need,{MAX_BUDGET}
+need,{MAX_WORTH + 1} -> no,15
+budget,{MAX_BUDGET - 1} -> ok
+need,0 need,{MAX_WORTH} need,{MAX_WORTH + 1} -> no,9
+power,1,{MAX_BUDGET - 1} -> ok
+need,{MAX_WORTH} -> need,{MAX_BUDGET - 1}
+{ON_FIRST} -> ok
+need,0 -> need,0
+need,1 need,{MAX_WORTH} -> need,{MAX_BUDGET - 1}
+'''),
+    # The reader has to be on with its feed: cameras of worth 50 and 40 need 22 W and 37 W together with it.
+    'a need with kinds': session(f'''
+{READERS} {PLANT} budget,37 -> ok
+need,0 -> need,0
+need,1 need,50 -> need,22
+need,51 need,90 -> need,37
+need,91 -> no,15
+budget,36 -> ok
+need,51 -> no,15
+load,1,0,9,2 -> ok
+need,0 need,50 -> no,9
+save1 -> no,14
+rule,1,1,1,2 rule,2,0,2,2 -> ok
+need,1 need,9 -> need,15
+need,10 need,59 -> need,22
+need,60 -> no,15
+'''),
+}
+
 # As many loads as there may be, of the greatest worth, that draw nothing.
 RICHEST = ['load,0,0,%d' % MAX_WORTH] + ['load,1,0,%d' % MAX_WORTH] * (MAX_LOADS - 1)
 WORTH_OF_ALL = MAX_WORTH * MAX_LOADS
@@ -1078,7 +1357,7 @@ IN_TURN = ['load,0,0,1'] + ['load,1,0,%d,%d' % (k, k % 2) for k in range(1, MAX_
 IN_TURN_RUN = ['1,1,1,1,0'] + ['%d,1,1,%d,1' % (k + 1, k % 2 + 1) for k in range(1, MAX_LOADS)]
 IN_TURN_WORTH = 1 + sum(range(1, MAX_LOADS))
 
-# Of equal plans and of kinds too, but of trees so large that enumeration takes its time.
+# Of equal plans, of kinds and of needs too, but of trees so large that enumeration takes its time.
 LARGEST_EDGES = {
     'the whole budget over a long chain': session(f'''
 {ALL_ON} {' '.join(CHAIN)} budget,{MAX_BUDGET} -> ok
@@ -1119,7 +1398,31 @@ drop,{MAX_LOADS} load,1,0,0,2 -> ok
 plan last -> no,9
 save1 -> no,14
 '''),
+    # At the greatest budget for which the cells are enough, and a watt more.
+    'a need of the greatest worth': session(f'''
+{ALL_ON} {' '.join(RICHEST)} -> ok
+need,0 need,{MAX_NEED} -> need,0
+need,{MAX_NEED + 1} -> no,5
+power,2,{WIDE_BUDGET} -> ok
+need,0 need,{MAX_NEED} -> no,9
+budget,{WIDE_BUDGET} -> ok
+need,0 need,{MAX_NEED} -> need,{WIDE_BUDGET}
+budget,{WIDE_BUDGET + 1} -> ok
+need,0 need,{MAX_NEED} -> no,8
+need,{MAX_NEED + 1} -> no,5
+budget,{WIDE_BUDGET} worth,2,{MAX_WORTH - 1} -> ok
+need,{MAX_NEED} -> no,15
+need,{MAX_NEED - 1} -> need,{WIDE_BUDGET}
+'''),
+    'a need of the greatest worth, with one load that may be off': session(f'''
+{FIRST_FREE} {' '.join(RICHEST)} power,2,9 budget,9 -> ok
+need,0 need,1 need,{MAX_NEED - MAX_WORTH} -> need,0
+need,{MAX_NEED - MAX_WORTH + 1} need,{MAX_NEED} -> need,9
+budget,8 -> ok
+need,{MAX_NEED - MAX_WORTH} -> need,0
+need,{MAX_NEED - MAX_WORTH + 1} need,{MAX_NEED} -> no,15
+'''),
 }
-SORTS = DROP_EDGES, COOLER_EDGES, LAST_EDGES, KIND_EDGES, LARGEST_EDGES
+SORTS = DROP_EDGES, COOLER_EDGES, LAST_EDGES, KIND_EDGES, NEED_EDGES, LARGEST_EDGES
 EDGES = {name: case for edges in SORTS for name, case in edges.items()}
 assert len(EDGES) == sum(map(len, SORTS)), 'two sessions have one name'

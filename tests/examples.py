@@ -7,8 +7,10 @@ The input holds sessions of valid and damaged lines, lines of every length aroun
 buffer, bytes of every value, large cabinets of one kind and of two, and a last line with and without its line feed. Each program must also
 answer a line as soon as it is complete, while its input stays open, and print the same where every other read and write is interrupted (a library
 that is loaded before it: interrupted.c). A program that switches ports must have switched them as its plans and its drops say, and its display
-must have shown the latest plan, and none after a change. A program that prints its own lines, as that of a safety reader does, must print the
-answers that the oracle has, with a plan and with refusals 10 and 14 among them.
+must have shown the latest plan, and none after a change. Its energy manager must have been told how little supply would do for the worth of each
+plan, which is the plan's power, and for half of it, as the line program answers where it is asked in between; no other answer changes by that.
+A program that prints its own lines, as that of a safety reader does, must print the answers that the oracle has, with a plan and with refusals 10
+and 14 among them.
 The last line is 'N passed, M failed'.
 """
 import argparse
@@ -20,7 +22,7 @@ import sys
 from pathlib import Path
 
 from crosscheck import session
-from limits import CELLS, LINE_BYTES, MAX_BUDGET, MAX_LOADS, MAX_WORTH
+from limits import CELLS, LINE_BYTES, MAX_BUDGET, MAX_LOADS, MAX_NEED, MAX_WORTH
 from oracle import Oracle
 from texts import grouped
 
@@ -35,7 +37,7 @@ def joined(lines):
 def long_lines(rng):
     """Lines around the most bytes, and far beyond it."""
     lengths = [0, 1, *range(LINE_BYTES - 1, LINE_BYTES + 3), 2 * LINE_BYTES, 255, 256, 257, 4095, 4096, 4097, 20000]
-    lines = [word + b'1' * length for length in lengths for word in (b'check,', b'save', b'save1', b'drop,', b'last')]
+    lines = [word + b'1' * length for length in lengths for word in (b'check,', b'save', b'save1', b'drop,', b'last', b'need,')]
     lines += [bytes(rng.choice(b'01,plan\r\x00\xff') for _ in range(length)) for length in lengths]
     return joined(lines + [b'plan'])
 
@@ -43,7 +45,7 @@ def long_lines(rng):
 def every_byte():
     """Each byte alone, before and after a command, but for the line feed that ends a line."""
     bytes_but_feed = [bytes([b]) for b in range(256) if b != 10]
-    commands = (b'plan', b'save', b'save1', b'budget,1', b'drop,1', b'drop', b'last', b'load,0,1,1,', b'load,0,1,1,1')
+    commands = (b'plan', b'save', b'save1', b'budget,1', b'drop,1', b'drop', b'last', b'load,0,1,1,', b'load,0,1,1,1', b'need,1', b'need,')
     return joined([line for b in bytes_but_feed for line in (b, b + b'plan', *(command + b for command in commands))])
 
 
@@ -54,11 +56,16 @@ def any_load(rng, count, kinds):
     return line + b',%d' % kind if kind or rng.random() < 0.3 else line
 
 
+def any_need(rng):
+    """A need of a worth that a few of the loads may have, or of one that none has."""
+    return b'need,%d' % rng.choice((0, 1, rng.randint(0, 4 * MAX_WORTH), rng.randint(0, MAX_NEED), MAX_NEED, MAX_NEED + 1))
+
+
 def come_and_go(rng, kinds):
     """On the fullest cabinet: drops of any loads, of which those without children leave, more loads, and plans between them."""
     lines = []
     for _ in range(3):
-        lines += [b'drop,%d' % rng.randint(0, MAX_LOADS + 1) for _ in range(20)] + [b'last', b'plan', b'last', b'last']
+        lines += [b'drop,%d' % rng.randint(0, MAX_LOADS + 1) for _ in range(20)] + [b'last', any_need(rng), b'plan', b'last', any_need(rng), b'last']
         lines += [any_load(rng, MAX_LOADS - 20, kinds) for _ in range(20)]
         lines += [b'last', b'plan', b'drop,%d' % (MAX_LOADS - 20), b'last', b'save', b'save1', b'last']
     return lines
@@ -74,6 +81,7 @@ def large_cabinet(rng, kinds):
     last = CELLS // (4 * MAX_LOADS) - 1
     for budget in (0, 1, 20, last - 1, last, last + 1, MAX_BUDGET):
         lines += [b'budget,%d' % budget, b'last', b'plan', b'check,' + bytes(rng.choice(b'01') for _ in range(MAX_LOADS)), b'last']
+        lines += [any_need(rng), any_need(rng), b'last']
     lines += [b'check,' + b'0' * MAX_LOADS, b'check,' + b'1' * MAX_LOADS, b'save', b'save1', b'budget,%d' % last]
     return joined(lines + come_and_go(rng, kinds))
 
@@ -115,9 +123,42 @@ def endures(program, library, data, expected):
     return ended.returncode == 0 and ended.stdout == expected
 
 
+def answers_in(output):
+    """The answers that a program printed, each with its lines."""
+    return grouped(output.decode().split('\n')[:-1])
+
+
+def is_shown(line, answer):
+    """Is this a plan that was shown?"""
+    return line == b'plan' and answer[0].startswith('plan,')
+
+
+def figures(answer):
+    """The worth, the power and the number of loads on of a plan that was shown."""
+    return [int(figure) for figure in answer[0].split(',')[1:]]
+
+
+def with_needs(data, answers):
+    """The lines of an input, each with None, and after each plan that was shown a need of half its worth, with the plan's power."""
+    for line, answer in zip(data.split(b'\n'), answers):
+        yield line, None
+        if is_shown(line, answer):
+            yield b'need,%d' % ((figures(answer)[0] + 1) // 2), figures(answer)[1]
+
+
+def supplies(line_program, data, answers):
+    """The supply for each plan of an input and for half its worth, by the line program. It must answer all other lines as without the needs."""
+    said = list(with_needs(data, answers))
+    found = answers_in(printed(line_program, joined(line for line, _ in said)))
+    if [answer for (_, power), answer in zip(said, found) if power is None] != answers:
+        return []
+    return ['supply: %d W for this worth, %s W for half of it' % (power, answer[0].removeprefix('need,'))
+            for (_, power), answer in zip(said, found) if power is not None]
+
+
 def ports_after(line, answer, on):
     """The ports that are on after a plan or a drop, those before being these; None after any other line, `last` among them."""
-    if line == b'plan' and answer[0].startswith('plan,'):
+    if is_shown(line, answer):
         return [number for number, row in enumerate(answer[1:], 1) if row.split(',')[1] == '1']
     if line.startswith(b'drop,') and answer == ['ok']:
         load = int(line[len(b'drop,'):])
@@ -131,16 +172,14 @@ def display_after(line, answer, shown):
         return 'no current plan'
     if line == b'plan' and answer == ['no,9']:
         return 'no set fits'
-    if line == b'plan' and answer[0].startswith('plan,'):
-        return 'worth %s, %s W, %s on' % (*answer[0].split(',')[1:],)
-    return shown
+    return 'worth %d, %d W, %d on' % (*figures(answer),) if is_shown(line, answer) else shown
 
 
-def logged_for(data, output):
-    """What is to be logged for an input, by what was printed for it: the ports that are on after each plan and each drop, and what is new on
-    the display."""
-    on, shown, log = [], 'no current plan', []
-    for line, answer in zip(data.split(b'\n'), grouped(output.decode().split('\n')[:-1])):
+def logged_for(data, answers, told):
+    """What is to be logged for an input with these answers: the ports that are on after each plan and each drop, what is new on the display, and
+    what the energy manager is told after each plan."""
+    on, shown, log, told = [], 'no current plan', [], iter(told)
+    for line, answer in zip(data.split(b'\n'), answers):
         ports, display = ports_after(line, answer, on), display_after(line, answer, shown)
         if ports is not None:
             on = ports
@@ -148,13 +187,17 @@ def logged_for(data, output):
         if display != shown:
             shown = display
             log.append('display: ' + shown)
+        if is_shown(line, answer):
+            log.append(next(told, 'supply: another answer changed'))
     return log
 
 
-def switches_ports(program, data):
-    """Does a program log the ports of its plans and drops, and the latest plan on its display?"""
+def switches_ports(program, line_program, data):
+    """Does a program log the ports of its plans and drops, the latest plan on its display, and how little supply would do?"""
     ended = subprocess.run([program], input=data, capture_output=True, env={**os.environ, 'SWITCH_LOG': '1'})
-    return ended.returncode == 0 and ended.stderr.decode().splitlines() == logged_for(data, ended.stdout)
+    answers = answers_in(ended.stdout)
+    log = logged_for(data, answers, supplies(line_program, data, answers))
+    return ended.returncode == 0 and ended.stderr.decode().splitlines() == log
 
 
 def shows_kinds(program):
@@ -195,7 +238,7 @@ def main():
             ('goes on when interrupted', program, endures(program, args.interrupted, *worked)) for program in [args.line_program] + args.programs
         ]
     if args.ports:
-        tests += [('switches ports and shows plans, ' + name, args.ports, switches_ports(args.ports, data)) for name, data in made]
+        tests += [('switches ports and shows plans, ' + name, args.ports, switches_ports(args.ports, args.line_program, data)) for name, data in made]
     if args.reader:
         tests.append(('shows kinds', args.reader, shows_kinds(args.reader)))
     for what, program, held in tests:

@@ -2,8 +2,8 @@
  * The header against the archive: their versions; the layout, for which the planner's fields are read by their names after the lines of
  * paper 01's session, and the memory after the planner must be as it was; what the header's helpers answer; the outcome of the session's plan,
  * as it is stored, shown by `last`, wiped, and out of range; the pages of that plan, and the stretches of every set of rows that differ; the
- * session's saves, with the free bytes that the header names; kinds, in range and out of it; and the places of the loads when one leaves and
- * another comes. It is C99, C11 and C++11.
+ * session's saves, with the free bytes that the header names; kinds, in range and out of it; the least budgets for worths, with the cells and
+ * the free bytes that the header names; and the places of the loads when one leaves and another comes. It is C99, C11 and C++11.
  * The last line printed is 'N passed, M failed'.
  */
 #include "hulmeide.h"
@@ -335,6 +335,74 @@ static void expect_kinds(void)
     expect_save("save1", "");
 }
 
+/* How many cells of the work hold this? */
+static size_t cells_with(uint32_t value)
+{
+    size_t same = 0;
+    for (size_t i = 0; i < SESSION_CELLS; i++) {
+        same += work[i] == value;
+    }
+    return same;
+}
+
+/* Are two planners the same in every field? The padding between the fields may differ. */
+static int same_planner(const struct hulmeide_planner *one, const struct hulmeide_planner *other)
+{
+    const struct hulmeide_book *book = &one->book;
+    return memcmp(book, &other->book, offsetof(struct hulmeide_book, ends) + 1) == 0
+           && memcmp(&book->load_rules, &other->book.load_rules, sizeof book->load_rules) == 0
+           && memcmp(&book->row_rules, &other->book.row_rules, sizeof book->row_rules) == 0
+           && memcmp(&one->loads, &other->loads, sizeof one->loads) == 0 && one->budget == other->budget
+           && one->outcome.status == other->outcome.status
+           && memcmp(&one->outcome.run, &other->outcome.run, sizeof one->outcome.run) == 0;
+}
+
+/* A line on rubbish, with so many free bytes from a place on and so many cells: its number, its text, and how many cells are 0 then. Every other
+ * byte and cell, and every field of the planner, must be as it was. */
+static void expect_need(const char *line, size_t free_bytes, size_t cells, size_t number, const char *text, size_t zeros)
+{
+    const size_t place = 7;
+    struct hulmeide_planner before = kept.planner;
+    memset(out, GUARD_BYTE, sizeof out);
+    memset(work, GUARD_BYTE, sizeof work);
+    struct hulmeide_reply reply = hulmeide_call_text(&kept.planner, line, out, place + free_bytes, place, work, cells);
+    expect_reply(line, reply, number, strlen(text));
+    expect("the answer is another text", memcmp(out + place, text, strlen(text)) != 0, 0);
+    expect("bytes kept around it", bytes_kept(out, sizeof out), sizeof out - strlen(text));
+    expect("cells that are 0", cells_with(0), zeros);
+    expect("cells kept", cells_with(0x01010101u * GUARD_BYTE), SESSION_CELLS - zeros);
+    expect("a planner that differs", !same_planner(&kept.planner, &before), 0);
+}
+
+/* The session's plan has worth 70 and draws 30 W. Then its least budgets, each refusal before the one that is told after it, and the latest plan
+ * after all of them. */
+static void expect_needs(void)
+{
+    const size_t room = HULMEIDE_FREE_BYTES;
+    struct hulmeide_planner *planner = &kept.planner;
+    expect("the greatest worth", HULMEIDE_MAX_NEED, 64000);
+    expect_reply("plan", hulmeide_call_text(planner, "plan", out, sizeof out, 0, work, SESSION_CELLS), HULMEIDE_ACCEPTED, 53);
+    expect_need("need,70", room, SESSION_CELLS, HULMEIDE_ACCEPTED, "need,30\n", SESSION_CELLS);
+    expect_need("need,00030", room, SESSION_CELLS, HULMEIDE_ACCEPTED, "need,15\n", SESSION_CELLS);
+    expect_need("need,0", room, SESSION_CELLS, HULMEIDE_ACCEPTED, "need,0\n", SESSION_CELLS);
+    expect_need("need,71", room, SESSION_CELLS, HULMEIDE_TOO_POOR, "no,15\n", SESSION_CELLS);
+    expect_need("need,64000", room, SESSION_CELLS, HULMEIDE_TOO_POOR, "no,15\n", SESSION_CELLS);
+    expect_need("need,71", room, SESSION_CELLS - 1, HULMEIDE_FEW_CELLS, "no,8\n", 0);
+    expect_need("need,64001", room, 0, HULMEIDE_OUT_OF_RANGE, "no,5\n", 0);
+    expect_need("need,064000", room, 0, HULMEIDE_BAD_FORM, "no,3\n", 0);
+    expect_need("need,70", room - 1, SESSION_CELLS, HULMEIDE_TURNED_AWAY, "", 0);
+    expect_line("last", HULMEIDE_ACCEPTED, 53);
+    expect_plan("the plan after needs");
+    planner->book.starts = 0;
+    expect_need("need,64000", room, SESSION_CELLS, HULMEIDE_NONE_FITS, "no,9\n", SESSION_CELLS);
+    expect_need("need,0", room, SESSION_CELLS - 1, HULMEIDE_FEW_CELLS, "no,8\n", 0);
+    planner->book.starts = 3;
+    expect_plan("the plan after a need that no set fits");
+    expect_line("budget,30", HULMEIDE_ACCEPTED, 3);
+    expect_need("need,70", room, SESSION_CELLS, HULMEIDE_ACCEPTED, "need,30\n", SESSION_CELLS);
+    expect_no_run("nothing stored by a need", HULMEIDE_OUTCOME_NOTHING);
+}
+
 /* Load 3 leaves: load 4 has its place and number then, the last place is free, and the next load takes it. */
 static void expect_drop(void)
 {
@@ -381,6 +449,7 @@ int main(void)
     expect_outcome_tested();
     expect_pages();
     expect_stretches();
+    expect_needs();
     expect_helpers();
     expect_saves();
     expect_kinds();

@@ -4,11 +4,11 @@
   librarycheck.py LIBRARY.so [--sessions N] [--seed S]
 
 Each line of a random session is handed to the library with an output full of rubbish, of any length and with any place in it, and with a work
-full of rubbish, of any length. Compared are the number, the count, every byte of the output, every cell of the work and every field of the
-planner. The lines of the save that each session ends with, each with the free bytes that it needs, must make the planner that an
-earlier session left hold the same tables and no outcome. Then the planner is handed in with any outcome in the place of its own, and now and
-then with any kind, in range or not. Callers that are wrong on purpose are given the same lines, with the same output and work, and each must be
-told apart.
+full of rubbish, of any length. In half of the sessions no change is turned away by that, so that the cabinet is built as it was meant. Compared
+are the number, the count, every byte of the output, every cell of the work and every field of the planner. The lines of the save that each
+session ends with, each with the free bytes that it needs, must make the planner that an earlier session left hold the same tables and no outcome.
+Then the planner is handed in with any outcome in the place of its own, and now and then with any kind, in range or not. Callers that are wrong on
+purpose are given the same lines, with the same output and work, and each must be told apart.
 The sessions of edges.py, with what the line program lends, must have the answers that stand there, and planners that are wrong on purpose must
 be told apart in one of them. The last line is 'N passed, M failed'.
 """
@@ -21,14 +21,15 @@ import script
 from crosscheck import NAMED, sessions
 from edges import EDGES
 from library import Lent, Library, Planner, content_with, held
-from limits import FREE_BYTES, NO_SET, NOTHING, PLANNED, PLANNER_BYTES, SAVE_BYTES
+from limits import FREE_BYTES, MAX_BUDGET, MAX_NEED, NO_SET, NOTHING, PLANNED, PLANNER_BYTES, SAVE_BYTES
 from oracle import Oracle, bytes_needed
 from outcomes import with_any_kind, with_any_outcome
-from script import is_plan, number_of, stored
-from wrong_oracles import FewCellsWipe
+from script import is_plan, number_of, searches, stored, zero_cells
+from wrong_oracles import CellsOfLeast, FewCellsWipe, budget_in
 
 HANDED_IN = 3  # outcomes that a session's planner is handed in with
 FULLEST = 300  # and that of the fullest cabinet
+SHOWING = b'plan', b'need', b'check', b'last', b'save', b'save1'  # the words that change no table
 
 
 def rubbish(rng, count):
@@ -45,6 +46,11 @@ def lent(rng, line, cells):
     if rng.random() < 0.05:
         place = rng.choice((len(output) + 1, 2**64 - 1))
     return output, place, rubbish(rng, 4 * rng.choice((cells, cells, cells + 3, max(0, cells - 1))))
+
+
+def enough(rng, line):
+    """An output that is long enough for a change, a place in it, and no work."""
+    return rubbish(rng, bytes_needed(line)), 0, b''
 
 
 # ---- what the paper says of a call
@@ -72,7 +78,7 @@ class Caller(Oracle):
 
     def zero_cells(self, line, number):
         """How many cells are 0 after a line with this number, before which the tables were these."""
-        return self.cells() if is_plan(line) and number in (0, 9) else 0
+        return zero_cells(line, number, self.cells())
 
     def call(self, line, output, place, work):
         """Number, count, output and work after the call."""
@@ -171,9 +177,89 @@ class Save1FillsWork(Caller):
         return self.cells() if line == b'save1' else super().zero_cells(line, number)
 
 
+def is_need(line):
+    return searches(line) and not is_plan(line)
+
+
+class NeedNeedsRoomOfSave(Caller):
+    """`need` needs as many free bytes as a save."""
+
+    def needed(self, line):
+        return SAVE_BYTES if is_need(line) else super().needed(line)
+
+
+class NeedNeedsLittleRoom(Caller):
+    """`need` needs no more than the bytes of its longest answer."""
+
+    def needed(self, line):
+        return len('need,%d\n' % MAX_BUDGET) if is_need(line) else super().needed(line)
+
+
+class NeedKeepsWork(Caller):
+    """`need` that shows a budget leaves the work as it was."""
+
+    def zero_cells(self, line, number):
+        return 0 if is_need(line) and number == 0 else super().zero_cells(line, number)
+
+
+class PoorKeepsWork(Caller):
+    """`need` that is refused since the plan is worth less leaves the work as it was."""
+
+    def zero_cells(self, line, number):
+        return 0 if number == 15 else super().zero_cells(line, number)
+
+
+class NoneFitsNeedKeepsWork(Caller):
+    """`need` that no allowed set fits leaves the work as it was."""
+
+    def zero_cells(self, line, number):
+        return 0 if is_need(line) and number == 9 else super().zero_cells(line, number)
+
+
+class OutOfRangeZeroes(Caller):
+    """`need` of a worth out of its range leaves 0 in a plan's cells, if there are as many."""
+
+    def zero_cells(self, line, number):
+        return self.cells() if is_need(line) and number == 5 else super().zero_cells(line, number)
+
+
+class FewCellsZeroes(Caller):
+    """`need` with too few cells leaves 0 in those that there are."""
+
+    def zero_cells(self, line, number):
+        return max(0, self.cells() - 1) if is_need(line) and number == 8 else super().zero_cells(line, number)
+
+
+class CellsOfLeastZeroes(Caller):
+    """`need` leaves 0 only in the cells of a plan at the budget that it shows."""
+
+    def need(self, worth):
+        answer = super().need(worth)
+        self.shown_budget = budget_in(answer)
+        return answer
+
+    def zero_cells(self, line, number):
+        each = len(self.loads) * (self.states + self.stages)
+        return each * (self.shown_budget + 1) if is_need(line) and number == 0 else super().zero_cells(line, number)
+
+
+class NeedWithFewerCells(CellsOfLeast, Caller):
+    """`need` is refused only where there are too few cells for a plan at the budget that it shows."""
+
+
+class TurnedAwayNeedWipes(Caller):
+    """`need` with too few free bytes makes the last plan old."""
+
+    def turned_away(self, line):
+        if is_need(line):
+            self.wipe()
+
+
 WRONG = [
     FewCells, TurnedAwayWipes, TurnedAwayStores, LastFillsWork, LastNeedsCells, LastNeedsRoomOfSave, NoPlanNeedsLittleRoom, NineNeedsLittleRoom,
-    Save1NeedsLittleRoom, KindsNeedLittleRoom, BrokenSave1NeedsRoom, Save1FillsWork,
+    Save1NeedsLittleRoom, KindsNeedLittleRoom, BrokenSave1NeedsRoom, Save1FillsWork, NeedNeedsRoomOfSave, NeedNeedsLittleRoom,
+    NeedKeepsWork, PoorKeepsWork, NoneFitsNeedKeepsWork, OutOfRangeZeroes, FewCellsZeroes, CellsOfLeastZeroes,
+    NeedWithFewerCells, TurnedAwayNeedWipes,
 ]
 
 
@@ -183,10 +269,11 @@ Call = namedtuple('Call', 'line given got left')  # given: output, place and wor
 
 
 def calls_of(rng, planner, lines):
-    """The calls of a session. The tables as the paper has them say how many cells a plan needs."""
-    caller, made = Caller(), []
+    """The calls of a session. The tables as the paper has them say how many cells a plan needs. In half of the sessions a change is lent enough."""
+    caller, made, built = Caller(), [], rng.random() < 0.5
     for line in lines:
-        given = lent(rng, line, caller.cells())
+        is_change = line.split(b',')[0] not in SHOWING
+        given = enough(rng, line) if built and is_change else lent(rng, line, caller.cells())
         caller.call(line, *given)
         made.append(Call(line, given, planner.call(line, *given), held(planner.state.content())))
     return made
@@ -344,12 +431,13 @@ class Checked:
         self.faults.append(first_fault(Caller(), calls))
         self.untold = {caller for caller in self.untold if not first_fault(caller(), calls)}
         self.faults.append(None if rebuilds(planner, self.other) else 'the save after %r does not rebuild the planner' % lines)
-        asked = (b'last', b'plan', b'save', b'save1', b'clear', b'budget,501', b'last,', b'check,1')
+        asked = (b'last', b'plan', b'save', b'save1', b'clear', b'budget,501', b'last,', b'check,1', b'need,0', b'need,%d' % (MAX_NEED + 1))
         self.faults += outcome_faults(self.rng, self.library, calls[-1].left, asked, HANDED_IN, self.seen)
 
     def named(self):
         self.faults += edge_faults(Planner, self.library)
-        self.faults += outcome_faults(self.rng, self.library, fullest(self.library), (b'last', b'save', b'save1', b'drop,64'), FULLEST, self.seen)
+        asked = (b'last', b'save', b'save1', b'drop,64', b'need,0')
+        self.faults += outcome_faults(self.rng, self.library, fullest(self.library), asked, FULLEST, self.seen)
         untold = sorted(caller.__name__ for caller in self.untold)
         untold += [kind.__name__ for kind in WRONG_PLANNERS if not any(edge_faults(kind, self.library))]
         told = len(WRONG) + len(WRONG_PLANNERS) - len(untold)

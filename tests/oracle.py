@@ -1,4 +1,4 @@
-"""Paper 01 and requests One to Five and Eight of paper 02 by plain enumeration: every run of every set, straight from the text. It shares no
+"""Paper 01 and requests One to Five, Eight and Nine of paper 02 by plain enumeration: every run of every set, straight from the text. It shares no
 code with the product, and with the header of the product only the limits.
 
 It is slow on purpose. Trees of up to five or six loads and small books are what it is for.
@@ -6,11 +6,12 @@ It is slow on purpose. Trees of up to five or six loads and small books are what
 import re
 
 from limits import CELLS, FREE_BYTES, LINE_BYTES, SAVE_BYTES
-from limits import MAX_BUDGET, MAX_DIGITS, MAX_KIND, MAX_LOADS, MAX_POWER, MAX_RULES, MAX_STAGES, MAX_STATES, MAX_WORTH, NO_SET, NOTHING
+from limits import MAX_BUDGET, MAX_DIGITS, MAX_KIND, MAX_LOADS, MAX_NEED, MAX_POWER, MAX_RULES, MAX_STAGES, MAX_STATES, MAX_WORTH
+from limits import NO_SET, NOTHING
 
 WORDS = {
     'clear': 0, 'book': 2, 'start': 1, 'end': 1, 'rule': 4, 'row': 3, 'load': 4, 'power': 2, 'worth': 2, 'budget': 1, 'plan': 0, 'save': 0,
-    'save1': 0, 'drop': 1, 'last': 0,
+    'save1': 0, 'drop': 1, 'last': 0, 'need': 1,
 }
 WITH_KIND = 'rule', 'load'  # their last field is a kind, and may be left out
 NUMBER = re.compile(rb'[0-9]{1,%d}\Z' % MAX_DIGITS)
@@ -46,6 +47,7 @@ def bytes_needed(line):
 class Oracle:
     """The tables of a planner and the outcome that it stores, and what each line answers."""
     most_kind = MAX_KIND
+    most_need = MAX_NEED
 
     def __init__(self):
         self.clear()
@@ -208,6 +210,24 @@ class Oracle:
         self.choose_branch(1, q, 0, self.budget, out)
         return out
 
+    # ---- "the least budget, at most the one in force, whose plan has worth v or more": every budget is planned at, in turn
+
+    def does(self, best, worth):
+        """Has a plan "worth v or more"? Given is the best within its budget, None where there is no plan."""
+        return best is not None and best[0] >= worth
+
+    def least(self, bests, worth):
+        """The least budget that does, given the best within each from 0 on."""
+        return next(budget for budget, best in enumerate(bests) if self.does(best, worth))
+
+    def need(self, worth):
+        """The lines printed for `need`."""
+        runs = list(self.tree_runs())
+        bests = [self.best(runs, budget) for budget in range(self.budget + 1)]
+        if bests[-1] is None:
+            return ['no,9']
+        return ['need,%d' % self.least(bests, worth)] if self.does(bests[-1], worth) else ['no,15']
+
     # ---- the run of a checked set: the lowest from the top down that can be completed
 
     def check(self, bits):
@@ -284,14 +304,16 @@ class Oracle:
             return f[0] <= MAX_BUDGET
         if word == 'drop':
             return 1 <= f[0] <= n
+        if word == 'need':
+            return f[0] <= self.most_need
         return word != 'check' or len(f) == n
 
     def refusal(self, command, cells):
-        """The lowest number that applies, 0 for none, but for 9 and 10, which need enumeration or what is stored."""
+        """The lowest number that applies, 0 for none, but for 9, 10 and 15, which need enumeration or what is stored."""
         if command is None:
             return 3
         word, f = command
-        if word in ('plan', 'check') and not self.loads:
+        if word in ('plan', 'check', 'need') and not self.loads:
             return 4
         if not self.in_range(word, f):
             return 5
@@ -300,7 +322,7 @@ class Oracle:
             return 6
         if word in ('rule', 'row') and any(self.is_same(tuple(f), rule) for rule in kept):
             return 7
-        if word == 'plan' and cells < self.cells():
+        if word in ('plan', 'need') and cells < self.cells():
             return 8
         if word == 'drop' and self.children(f[0]):
             return 11
@@ -364,6 +386,8 @@ class Oracle:
         if word == 'check':
             run = self.check(f)
             return ['no,10'] if run is None else ['yes'] + self.lines_of(run)
+        if word == 'need':
+            return self.need(f[0])
         if word == 'save':
             return self.save()
         if word == 'save1':

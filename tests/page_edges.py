@@ -118,7 +118,7 @@ page 1: no,12
 page 4: no,12
 page 5: no,5
 page 0: no,5
-check,1110 save last budget,501
+check,1110 save last budget,501 need,70 need,71
 page 1: no,12
 ''',
     'a change makes it old, and what was refused does not': f'''
@@ -129,7 +129,7 @@ page 1: rows 1 to 8
 |002 on  015W        |
 |003 on  005W        |
 |004 off 007W        |
-budget,501 load,5,1,1 rule,1,0,2 drop,2 check,0100 check,1111 plan, save last
+budget,501 load,5,1,1 rule,1,0,2 drop,2 check,0100 check,1111 plan, save last need,30 need,71 need,64001
 page 1: no rows
 |worth 00070 030W    |
 |001 on  010W        |

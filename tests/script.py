@@ -28,7 +28,7 @@ import copy
 import re
 import sys
 
-from limits import LINE_BYTES, MAX_BUDGET, MAX_KIND, MAX_LOADS, MAX_POWER, MAX_RULES, MAX_STAGES, MAX_STATES, MAX_WORTH
+from limits import LINE_BYTES, MAX_BUDGET, MAX_KIND, MAX_LOADS, MAX_NEED, MAX_POWER, MAX_RULES, MAX_STAGES, MAX_STATES, MAX_WORTH
 from limits import NO_SET, NOTHING, PAGE_BYTES, PLANNED
 from oracle import Oracle, bytes_needed, parse
 from pages import Asked, Pages, put
@@ -36,7 +36,10 @@ from pages import Asked, Pages, put
 NONE = (0, 0, 0)  # what an unused place of a run holds
 UNUSED = (0, 0, 0, 0)  # and one of the rules or of the loads
 WORKED_RUN = [1, 2, 0, 1, 2, 1, 1, 2, 1, 1, 1, 1]
-HANDED_IN = (b'last', b'plan', b'', b'clear', b'check,1110', b'save', b'save1', b'drop,4', b'last,', b'x' * 99)
+HANDED_IN = (
+    b'last', b'plan', b'', b'clear', b'check,1110', b'save', b'save1', b'drop,4', b'last,', b'need,70', b'need,0', b'need,%d' % (MAX_NEED + 1),
+    b'need,', b'x' * 99,
+)
 HANDED_IN_PAGES = (1, PAGE_BYTES), (4, PAGE_BYTES), (5, PAGE_BYTES), (MAX_LOADS, PAGE_BYTES), (1, PAGE_BYTES - 1), (0, PAGE_BYTES + 1)
 RUBBISH_BYTE = b'\xaa'  # what an output, a page and a glass hold before: no byte of an answer and of a page is this one
 DARK = RUBBISH_BYTE * PAGE_BYTES
@@ -258,6 +261,17 @@ def is_plan(line):
     return len(line) <= LINE_BYTES and parse(line) == ('plan', [])
 
 
+def searches(line):
+    """Has a line the form of those that work in a plan's cells, `plan` and `need`?"""
+    command = parse(line) if len(line) <= LINE_BYTES else None
+    return command is not None and command[0] in ('plan', 'need')
+
+
+def zero_cells(line, number, cells):
+    """How many cells are 0 after a line with this number, where a plan needs so many."""
+    return cells if searches(line) and number in (0, 9, 15) else 0
+
+
 def reply(p, lent, line):
     if not keeps_limits(p) or not lent.has_room(line):
         return Reply(p, 1, [], 0)
@@ -265,7 +279,7 @@ def reply(p, lent, line):
     cells_of_plan = tables.cells()
     answer = tables.answer(line, lent.cells)
     number = number_of(answer)
-    return Reply(stored(tables), number, answer, cells_of_plan if is_plan(line) and number in (0, 9) else 0)
+    return Reply(stored(tables), number, answer, zero_cells(line, number, cells_of_plan))
 
 
 # ---- The judge

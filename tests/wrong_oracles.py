@@ -1,5 +1,5 @@
 """Oracles that are wrong on purpose, each in one place. A comparison that cannot tell them from the product would show nothing."""
-from limits import CELLS, MAX_BUDGET, MAX_KIND, MAX_LOADS, MAX_RULES, NO_SET, NOTHING
+from limits import CELLS, MAX_BUDGET, MAX_DIGITS, MAX_KIND, MAX_LOADS, MAX_NEED, MAX_RULES, MAX_WORTH, NO_SET, NOTHING
 from oracle import WITH_KIND, Oracle, parse
 
 
@@ -1066,8 +1066,458 @@ class BookForgetsKinds(Oracle):
             self.loads = [without_kind(load) for load in self.loads]
 
 
-# Those that are wrong in a drop that has its form, those that are wrong in `last`, those that are wrong in kinds, and all of them. FewCellsWipe is
-# not among them: with the line program's cells a plan that was stored is never refused with 8 (librarycheck.py).
+# ---- needs: which budget
+
+
+def needed(command):
+    """The worth that a command asks the least budget for, or None."""
+    return command[1][0] if command and command[0] == 'need' else None
+
+
+def budget_in(answer):
+    """The budget that the answer to a need shows, or None."""
+    return int(answer[0][len('need,'):]) if answer[0].startswith('need,') else None
+
+
+class MoreThanWorth(Oracle):
+    """A plan does only if it has more than the worth."""
+
+    def does(self, best, worth):
+        return best is not None and best[0] > worth
+
+
+class MoreBelowBudget(Oracle):
+    """Below the budget in force a plan does only if it has more than the worth."""
+
+    def least(self, bests, worth):
+        return next((budget for budget, best in enumerate(bests) if best is not None and best[0] > worth), self.budget)
+
+
+class ExactWorth(Oracle):
+    """A plan does only if it has just the worth."""
+
+    def does(self, best, worth):
+        return best is not None and best[0] == worth
+
+
+class GreatestBudget(Oracle):
+    """The greatest budget that does is shown, which is the one in force."""
+
+    def least(self, bests, worth):
+        return self.budget
+
+
+class FirstPlan(Oracle):
+    """The first budget that has a plan is shown, whatever the plan is worth."""
+
+    def least(self, bests, worth):
+        return next(budget for budget, best in enumerate(bests) if best is not None)
+
+
+class NothingForNothing(Oracle):
+    """For a worth of 0 the budget 0 is shown, though it may have no plan."""
+
+    def least(self, bests, worth):
+        return super().least(bests, worth) if worth else 0
+
+
+class WattLess(Oracle):
+    """The greatest budget that does not do is shown."""
+
+    def least(self, bests, worth):
+        return max(0, super().least(bests, worth) - 1)
+
+
+class WattMore(Oracle):
+    """The budget after the least is shown, if it is not above the one in force."""
+
+    def least(self, bests, worth):
+        return min(self.budget, super().least(bests, worth) + 1)
+
+
+class BudgetFromOne(Oracle):
+    """A budget of 0 is not tried, but where it is in force."""
+
+    def least(self, bests, worth):
+        return max(min(1, self.budget), super().least(bests, worth))
+
+
+class PowerOfPlan(Oracle):
+    """The power of the plan at the budget in force is shown."""
+
+    def least(self, bests, worth):
+        return -bests[-1][1]
+
+
+class HalfAndHalf(Oracle):
+    """The least budget is sought by halves, above one that is taken not to do: a budget of 0 is not tried."""
+
+    def least(self, bests, worth):
+        low, high = 0, self.budget
+        while high - low > 1:
+            middle = (low + high) // 2
+            low, high = (low, middle) if self.does(bests[middle], worth) else (middle, high)
+        return high
+
+
+class WarmestOfWorth(Oracle):
+    """The greatest power of a set that is worth just as much, or else the least budget, is shown."""
+
+    def need(self, worth):
+        answer = super().need(worth)
+        powers = [power for found, power, _ in self.tree_runs() if found == worth and power <= self.budget]
+        return ['need,%d' % max(powers)] if powers and budget_in(answer) is not None else answer
+
+
+class NeedBlind(PlanBlind):
+    """A need is met by rules of every kind."""
+
+    def plan(self):
+        return Oracle.plan(self)
+
+    def need(self, worth):
+        self.blind = True
+        answer = super().need(worth)
+        self.blind = False
+        return answer
+
+
+class BudgetsAbove(Oracle):
+    """Budgets above the one in force are tried too."""
+
+    def need(self, worth):
+        in_force, self.budget = self.budget, MAX_BUDGET
+        answer = super().need(worth)
+        self.budget = in_force
+        return answer
+
+
+# ---- needs: refusals
+
+
+class PoorBeforeNone(Oracle):
+    """That the plan is worth less is told before that no allowed set fits."""
+
+    def need(self, worth):
+        answer = super().need(worth)
+        return ['no,15'] if answer == ['no,9'] else answer
+
+
+class PoorBeforeNoneButOfNothing(Oracle):
+    """That no allowed set fits is told only for a worth of 0, and otherwise that the plan is worth less."""
+
+    def need(self, worth):
+        answer = super().need(worth)
+        return ['no,15'] if answer == ['no,9'] and worth else answer
+
+
+class PoorFirst(Oracle):
+    """That the plan is worth less is told before that there are too few cells."""
+
+    def refusal(self, command, cells):
+        number = super().refusal(command, cells)
+        return 15 if number == 8 and needed(command) is not None and self.need(needed(command)) == ['no,15'] else number
+
+
+class NoneBeforeCells(Oracle):
+    """That no allowed set fits is told before that there are too few cells."""
+
+    def refusal(self, command, cells):
+        number = super().refusal(command, cells)
+        return 9 if number == 8 and needed(command) is not None and self.need(0) == ['no,9'] else number
+
+
+class RangeAfterCells(Oracle):
+    """Too few cells are told before a worth out of its range."""
+
+    def refusal(self, command, cells):
+        number = super().refusal(command, cells)
+        return 8 if number == 5 and needed(command) is not None and cells < self.cells() else number
+
+
+class RangeAfterNone(Oracle):
+    """That no allowed set fits is told before a worth out of its range."""
+
+    def refusal(self, command, cells):
+        number = super().refusal(command, cells)
+        return 9 if number == 5 and needed(command) is not None and cells >= self.cells() and self.need(0) == ['no,9'] else number
+
+
+class RangeBeforeLoads(Oracle):
+    """A worth out of its range is told before that there are no loads."""
+
+    def refusal(self, command, cells):
+        number = super().refusal(command, cells)
+        return 5 if number == 4 and needed(command) is not None and not self.in_range(*command) else number
+
+
+class NeedNumber(Oracle):
+    """Where the plan is worth less the answer is another than 15. Those below name it."""
+    poor = 'no,15'
+
+    def need(self, worth):
+        answer = super().need(worth)
+        return [self.poor] if answer == ['no,15'] else answer
+
+
+class PoorIsNine(NeedNumber):
+    """That the plan is worth less is told as that no allowed set fits."""
+    poor = 'no,9'
+
+
+class PoorIsFive(NeedNumber):
+    """That the plan is worth less is told as a worth out of its range."""
+    poor = 'no,5'
+
+
+class PoorIsFourteen(NeedNumber):
+    """That the plan is worth less has the number before its own."""
+    poor = 'no,14'
+
+
+class PoorNotRefused(Oracle):
+    """Where the plan is worth less the budget in force is shown."""
+
+    def need(self, worth):
+        answer = super().need(worth)
+        return ['need,%d' % self.budget] if answer == ['no,15'] else answer
+
+
+class NoneIsNothing(Oracle):
+    """Where no allowed set fits a worth of 0 needs a budget of 0."""
+
+    def need(self, worth):
+        answer = super().need(worth)
+        return ['need,0'] if answer == ['no,9'] and worth == 0 else answer
+
+
+class NeedMore(Oracle):
+    """A worth may be one greater."""
+    most_need = MAX_NEED + 1
+
+
+class NeedLess(Oracle):
+    """A worth may be only one less than the greatest."""
+    most_need = MAX_NEED - 1
+
+
+class NeedOfOneLoad(Oracle):
+    """A worth may be as great as that of a load."""
+    most_need = MAX_WORTH
+
+
+class NeedNotTested(Oracle):
+    """A worth may be any number."""
+    most_need = 10**MAX_DIGITS - 1
+
+
+class NeedOfLoadsThere(Oracle):
+    """A worth may be as great as so many loads as there are can have."""
+
+    def in_range(self, word, f):
+        return super().in_range(word, f) and (word != 'need' or f[0] <= MAX_WORTH * len(self.loads))
+
+
+class NeedOfWorthThere(Oracle):
+    """A worth may be as great as that of all loads together."""
+
+    def in_range(self, word, f):
+        return super().in_range(word, f) and (word != 'need' or f[0] <= sum(load[2] for load in self.loads))
+
+
+class NeedInTwoBytes(Oracle):
+    """Of a worth the last 16 binary digits count."""
+
+    def answer(self, line, cells=CELLS):
+        worth = needed(parse(line))
+        return super().answer(line if worth is None else b'need,%d' % (worth % 2**16), cells)
+
+
+class NeedOfNoLoads(Oracle):
+    """With no loads a worth of 0 needs a budget of 0."""
+
+    def answer(self, line, cells=CELLS):
+        return ['need,0'] if needed(parse(line)) == 0 and not self.loads else super().answer(line, cells)
+
+
+class NeedWithoutCells(Oracle):
+    """A need has cells of its own, and is not refused for want of them."""
+
+    def refusal(self, command, cells):
+        number = super().refusal(command, cells)
+        return 0 if number == 8 and needed(command) is not None else number
+
+
+class CellsOfLeast(Oracle):
+    """A need is refused only where there are too few cells for a plan at the budget that it shows."""
+
+    def refusal(self, command, cells):
+        number = super().refusal(command, cells)
+        found = budget_in(self.need(needed(command))) if number == 8 and needed(command) is not None else None
+        return number if found is None or len(self.loads) * (self.states + self.stages) * (found + 1) > cells else 0
+
+
+# ---- needs: lines
+
+
+class NeedUnknown(Oracle):
+    """`need` is no command, as it was before request Nine."""
+
+    def answer(self, line, cells=CELLS):
+        return super().answer(line if needed(parse(line)) is None else b'', cells)
+
+
+class NeedTakesMore(Oracle):
+    """A need may have further fields."""
+
+    def answer(self, line, cells=CELLS):
+        return super().answer(b','.join(line.split(b',')[:2]) if line.startswith(b'need,') else line, cells)
+
+
+class NeedOfNoField(Oracle):
+    """A need without a field, or with an empty one, is of worth 0."""
+
+    def answer(self, line, cells=CELLS):
+        return super().answer(b'need,0' if line in (b'need', b'need,') else line, cells)
+
+
+class NeedInSixDigits(Oracle):
+    """A worth may have six digits."""
+
+    def answer(self, line, cells=CELLS):
+        digits = line[len(b'need,'):]
+        six = line.startswith(b'need,') and digits.isdigit() and len(digits) == MAX_DIGITS + 1
+        return super().answer(b'need,%d' % min(int(digits), 10**MAX_DIGITS - 1) if six else line, cells)
+
+
+class NeedShowsWorth(Oracle):
+    """The worth that was asked for is shown too."""
+
+    def need(self, worth):
+        answer = super().need(worth)
+        return answer if budget_in(answer) is None else ['%s,%d' % (answer[0], worth)]
+
+
+class NeedShowsPlan(Oracle):
+    """The plan at the least budget is shown in the place of that."""
+
+    def need(self, worth):
+        answer = super().need(worth)
+        return answer if budget_in(answer) is None else self.planned_at(budget_in(answer))
+
+    def planned_at(self, budget):
+        before, outcome, self.budget = self.budget, self.outcome, budget
+        self.store(self.plan())
+        shown, self.budget, self.outcome = self.shown(), before, outcome
+        return shown
+
+
+class NeedPadded(Oracle):
+    """The budget is shown in three digits."""
+
+    def need(self, worth):
+        answer = super().need(worth)
+        return answer if budget_in(answer) is None else ['need,%03d' % budget_in(answer)]
+
+
+# ---- needs: what they leave
+
+
+class NeedLeaves(Oracle):
+    """A need leaves something else than it found, where it shows a budget. Those below say what."""
+
+    def leave(self, budget):
+        """Changes what is left."""
+
+    def need(self, worth):
+        answer = super().need(worth)
+        if budget_in(answer) is not None:
+            self.leave(budget_in(answer))
+        return answer
+
+
+class BudgetSet(NeedLeaves):
+    """The budget that is shown is in force then."""
+
+    def leave(self, budget):
+        self.budget = budget
+
+
+class BudgetTried(NeedLeaves):
+    """The budget that was tried before the last is in force then."""
+
+    def leave(self, budget):
+        self.budget = max(0, budget - 1)
+
+
+class NeedWipes(NeedLeaves):
+    """A need wipes the outcome."""
+
+    def leave(self, budget):
+        self.wipe()
+
+
+class NeedStores(NeedLeaves):
+    """A need stores the plan at the budget that it shows."""
+
+    def leave(self, budget):
+        in_force, self.budget = self.budget, budget
+        self.store(self.plan())
+        self.budget = in_force
+
+
+class NeedStoresInForce(NeedLeaves):
+    """A need stores the plan at the budget in force."""
+
+    def leave(self, budget):
+        self.store(self.plan())
+
+
+class PoorWipes(NumberWipes):
+    """A need that is refused since the plan is worth less wipes the outcome."""
+    number = 15
+
+
+class PoorStores(Oracle):
+    """A need that is refused since the plan is worth less stores that plan."""
+
+    def need(self, worth):
+        answer = super().need(worth)
+        if answer == ['no,15']:
+            self.store(self.plan())
+        return answer
+
+
+class NoneFitsNeedStores(Oracle):
+    """A need that no allowed set fits is stored as a plan's is."""
+
+    def need(self, worth):
+        answer = super().need(worth)
+        if answer == ['no,9']:
+            self.store(None)
+        return answer
+
+
+class NoneFitsNeedWipes(Oracle):
+    """A need that no allowed set fits wipes the outcome."""
+
+    def need(self, worth):
+        answer = super().need(worth)
+        if answer == ['no,9']:
+            self.wipe()
+        return answer
+
+
+class NeedOfLast(Oracle):
+    """A need with no current plan is refused as `last` is."""
+
+    def refusal(self, command, cells):
+        number = super().refusal(command, cells)
+        return 12 if number == 0 and needed(command) is not None and self.outcome == NOTHING else number
+
+
+# Those that are wrong in a drop that has its form, in `last`, in kinds and in needs, and all of them. FewCellsWipe is not among them: with the
+# line program's cells a plan that was stored is never refused with 8 (librarycheck.py).
 WRONG_DROPS = [
     ParentsStay, OwnNumberFalls, NextNumberFalls, LowerNumberFalls, LastIntoGap, ParentDropped, RootDropped, RefusedDropTaken, ChildrenFirst,
     OutOfRangeWithChildren, NoDropOfNoLoads, PlaceLost, PlaceNotCleared, DropForgetsKinds, DropForgetsLater, KindsStay,
@@ -1088,9 +1538,17 @@ WRONG_KINDS = [
     Save1TakesFields, Save1AsField, Save1Unknown, Save1OfNoLoads, Save1Wipes, KindsWipe, Save1ForgetsKinds, *map(forgetting, ('power', 'worth')),
     BookForgetsKinds,
 ]
+WRONG_NEEDS = [
+    MoreThanWorth, MoreBelowBudget, ExactWorth, GreatestBudget, FirstPlan, NothingForNothing, WattLess, WattMore, BudgetFromOne, PowerOfPlan,
+    HalfAndHalf, WarmestOfWorth, NeedBlind, BudgetsAbove, PoorBeforeNone, PoorBeforeNoneButOfNothing, PoorFirst, NoneBeforeCells, RangeAfterCells,
+    RangeAfterNone, RangeBeforeLoads, PoorIsNine, PoorIsFive, PoorIsFourteen, PoorNotRefused, NoneIsNothing, NeedMore, NeedLess, NeedOfOneLoad,
+    NeedNotTested, NeedOfLoadsThere, NeedOfWorthThere, NeedInTwoBytes, NeedOfNoLoads, NeedWithoutCells, CellsOfLeast, NeedUnknown, NeedTakesMore,
+    NeedOfNoField, NeedInSixDigits, NeedShowsWorth, NeedShowsPlan, NeedPadded, BudgetSet, BudgetTried, NeedWipes, NeedStores, NeedStoresInForce,
+    PoorWipes, PoorStores, NoneFitsNeedStores, NoneFitsNeedWipes, NeedOfLast,
+]
 WRONG = [
     StageRestarts, LeafAlwaysEnds, HighestFirst, PowerKept, FirstBudget, StoresNothing, ZerosBarred, ZerosNotCounted,
     EndsFirst, RowsFirst, MarksDescend, BookOfNone, NoBudgetOfNone, PaddedSave, NoSaveOfNoLoads, SaveTakesFields, DropTakesMore, *WRONG_DROPS,
     WorthAlone, PowerAtRootAlone, BranchesByWorth, RowsByWorth, WarmerOfEquals, PowerBeforeWorth, FewerLoads, OffDraws, WholeBudgetIsNone,
-    PowerIntoWorth, *WRONG_LASTS, *WRONG_KINDS,
+    PowerIntoWorth, *WRONG_LASTS, *WRONG_KINDS, *WRONG_NEEDS,
 ]

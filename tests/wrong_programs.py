@@ -16,6 +16,9 @@ need that fails in a batch fails alone too, and no edit breaks the function of a
 fails in the function's own proof is taken from a batch, and only if no function fails by itself but those
 of the batch; all else is tried alone.
 
+Whole sessions and marked cases by computation cost more time than all laws beside them, and few edits name them.
+They are left out where an edit is to be refused at another law.
+
 Usage: wrong_programs.py [NAME[/LABEL]..]   from the root of the repository, after `rt check`
 """
 
@@ -32,6 +35,9 @@ from queue import Queue
 
 ROOT = Path.cwd()
 WORKERS = max(1, min(4, os.cpu_count() or 1))
+
+# The file of a crate's proofs/ that computes whole sessions or marked cases.
+COMPUTED = {"calls": "Session", "meaning": "Cases"}
 
 # An error of one of these kinds says that a proof no longer fits the code, and not that a fact fails.
 MISFITS = re.compile(r"not in scope(?! here)|has no field|that can be named from here|unknown name|expects? \d+ arguments?|unused premise")
@@ -82,6 +88,15 @@ class Edit:
             if text.count(old) != 1:
                 raise ValueError(f"{file} does not have the old text once")
             path.write_text(text.replace(old, new))
+
+    def leave_out_computed(self, folder):
+        """Takes what is computed out of the crate's proofs, but where this edit is to be refused there."""
+        module = COMPUTED.get(self.crate)
+        path = folder / "proofs" / f"{module}.antt"
+        if module and not re.search(rf"^(pub )?{re.escape(self.need())} :", path.read_text(), re.M):
+            path.unlink()
+            lib = folder / "proofs" / "Lib.antt"
+            lib.write_text(lib.read_text().replace(f"pub mod {module}\n", ""))
 
 
 def crates():
@@ -268,6 +283,7 @@ def try_edit(edit, scratch, store):
     began = time.monotonic()
     try:
         edit.apply(scratch / "crates" / edit.crate)
+        edit.leave_out_computed(scratch / "crates" / edit.crate)
         status, report = check(scratch, edit.crate)
         fault = fault_in(edit, status, report)
     except ValueError as error:

@@ -7,9 +7,9 @@ use mathlib.Core.Logic.{_⊎_, inl, inr}
 use native.Mathlib.Omega.{arith}
 use borrow.Author.Tests.{lt-ltb, ltb-true, not-true}
 use lib.ListN.{length}
+use Rattle.lists.specs.Tests.{pick}
 use Rattle.lines.specs.declared.Command.{Command}
 use Rattle.lines.specs.declared.Command.the-variants as line
-use Rattle.lines.specs.Length.{tooLong}
 use Rattle.lines.specs.Grammar.{parse, lineCommand}
 use Rattle.lines.specs.Saved.{saveBytes}
 use Rattle.lines.specs.Answers.{freeBytes}
@@ -17,15 +17,15 @@ use Rattle.lines.proofs.Sizes.{numbers-short}
 use Rattle.tables.specs.Refusals as no
 use Rattle.meaning.specs.Cells.{cellsOf}
 use Rattle.calls.specs.State.{State, StoredState, fresh, stateOf, keeps}
-use Rattle.calls.specs.Rows.{Cause, Row, row, lineRow, bytesOf, causesOf, isChange, isShow, cellsFor}
+use Rattle.calls.specs.Rows.{Cause, row, lineRow, bytesOf, causesOf, isChange, isShow, cellsFor}
 use Rattle.calls.specs.Causes.{Applies, here, there, allCauses}
 use Rattle.calls.specs.Printing.{zeroed, searched}
 use Rattle.calls.specs.Calls.{Call, Done, rowFor}
 use Rattle.calls.specs.Demand1 as demand
-use Rattle.calls.specs.Demand1.{bytesFor, bytesNeeded, onlyShows, Demand1, ByCommand}
+use Rattle.calls.specs.Demand1.{bytesFor, bytesNeeded, onlyShows, looks, Demand1, ByCommand}
 use Rattle.calls.proofs.Numbers.{Ascending, lowest-least}
-use Rattle.calls.proofs.Answers.{command-long, row-is}
-use Rattle.calls.proofs.Rows.{line-right, works-plan}
+use Rattle.calls.proofs.Answers.{row-is}
+use Rattle.calls.proofs.Rows.{line-right}
 
 -- ---- the bytes that a line needs
 -- they go by the command, and so by the line, alone
@@ -36,6 +36,7 @@ row-bytes s line.Plan = refl
 row-bytes s (line.Check σ n) = refl
 row-bytes s (line.Save f) = refl
 row-bytes s line.Last = refl
+row-bytes s (line.Need v) = refl
 row-bytes s line.Broken = refl
 row-bytes s line.TooLong = refl
 
@@ -47,8 +48,21 @@ row-shows s line.Plan = refl
 row-shows s (line.Check σ n) = refl
 row-shows s (line.Save f) = refl
 row-shows s line.Last = refl
+row-shows s (line.Need v) = refl
 row-shows s line.Broken = refl
 row-shows s line.TooLong = refl
+
+-- and the cells that it works in
+row-cells : (s : State) (c : Command) → cellsFor (row s c) ≡ pick (looks c) (cellsOf (s .tables)) 0
+unfolding row
+row-cells s (line.Change x) = refl
+row-cells s line.Plan = refl
+row-cells s (line.Check σ n) = refl
+row-cells s (line.Save f) = refl
+row-cells s line.Last = refl
+row-cells s (line.Need v) = refl
+row-cells s line.Broken = refl
+row-cells s line.TooLong = refl
 
 pub bytes-needed : (s : State) (l : List ℕ) → bytesOf (lineRow s l) ≡ bytesNeeded l
 unfolding lineRow bytesNeeded
@@ -57,15 +71,6 @@ bytes-needed s l = row-bytes s (lineCommand l)
 -- "1,024 bytes must be free from there"; "3,000 free bytes, which the line program now lends"
 pub needed-range : (l : List ℕ) → (freeBytes ≤ bytesNeeded l) × (bytesNeeded l ≤ saveBytes)
 needed-range l = let x = line-right (fresh 0) 0 l in rw (← (bytes-needed (fresh 0) l)) (x .room, x .most)
-
--- ---- a line asks for a plan exactly if it is read as one
-plan-read : (l : List ℕ) → lineCommand l ≡ line.Plan → parse l ≡ line.Plan
-unfolding lineCommand
-plan-read l e = go (tooLong l) refl
-  where
-    go : (b : Bool) → tooLong l ≡ b → parse l ≡ line.Plan
-    go true h = absurd (let z : _≡_ {A = ℕ} 0 1 = cc (command-long l h) in omega arith)
-    go false h = rw h at e
 
 -- no number of a row is 1
 not-of-row : (cs : List Cause) → Ascending 2 cs → Applies no.unusable cs → ⊥
@@ -93,30 +98,25 @@ module _ (p : StoredState) (c : Call) (d : Done) (x : Demand1 p c d) where
   too-few l = there (here refl (lt-ltb (length (c .output)) (c .place + bytesOf (rowFor s c)) (rw room-needed l)))
 
   -- ---- the work
-  -- a row that works in no cells
-  still : cellsFor (rowFor s c) ≡ 0 → d .reply .work ≡ c .work
-  unfolding zeroed
-  still e = go (searched (d .reply .number)) refl
-    where
-      go : (b : Bool) → searched (d .reply .number) ≡ b → d .reply .work ≡ c .work
-      go true h = x .cleared h ∙ rw e
-      go false h = x .unchanged h
+  -- the cells that its row works in
+  abbrev looked : Bool
+  looked = looks (lineCommand (c .line))
 
-  cleared : parse (c .line) ≡ line.Plan → searched (d .reply .number) ≡ true → d .reply .work ≡ zeroed (cellsOf (s .tables)) (c .work)
-  unfolding row
-  cleared q h = x .cleared h ∙ ap (λ (r : Row). zeroed (cellsFor r) (c .work)) (row-is s c line.Plan q (numbers-short (c .line) line.Plan q refl))
-
-  unchanged : (parse (c .line) ≡ line.Plan → searched (d .reply .number) ≡ true → ⊥) → d .reply .work ≡ c .work
+  cells-are : (b : Bool) → looked ≡ b → cellsFor (rowFor s c) ≡ pick b (cellsOf (s .tables)) 0
   unfolding lineRow
-  unchanged h = go (works-plan s (lineCommand (c .line)))
-    where
-      none : (b : Bool) → searched (d .reply .number) ≡ b → (b ≡ true → ⊥) → d .reply .work ≡ c .work
-      none true e f = absurd (f refl)
-      none false e f = x .unchanged e
+  cells-are b e = row-cells s (lineCommand (c .line)) ∙ rw e
 
-      go : (lineCommand (c .line) ≡ line.Plan) ⊎ (cellsFor (row s (lineCommand (c .line))) ≡ 0) → d .reply .work ≡ c .work
-      go (inl q) = none (searched (d .reply .number)) refl (h (plan-read (c .line) q))
-      go (inr z) = still z
+  cleared : looked ≡ true → searched (d .reply .number) ≡ true → d .reply .work ≡ zeroed (cellsOf (s .tables)) (c .work)
+  cleared q h = x .cleared h ∙ ap (λ (n : ℕ). zeroed n (c .work)) (cells-are true q)
+
+  unchanged : (looked ≡ true → searched (d .reply .number) ≡ true → ⊥) → d .reply .work ≡ c .work
+  unfolding zeroed
+  unchanged f = go (searched (d .reply .number)) refl looked refl
+    where
+      go : (b : Bool) → searched (d .reply .number) ≡ b → (l : Bool) → looked ≡ l → d .reply .work ≡ c .work
+      go false h l q = x .unchanged h
+      go true h true q = absurd (f q h)
+      go true h false q = x .cleared h ∙ ap (λ (n : ℕ). zeroed n (c .work)) (cells-are false q)
 
   -- ---- what the planner keeps
   plans : parse (c .line) ≡ line.Plan → d .state .tables ≡ p .tables

@@ -20,7 +20,7 @@ use Rattle.calls.specs.Calls.{Call, Reply, writtenBy, rowFor, numberFor,
 use Rattle.calls.specs.Demand1.{Demand1}
 use Rattle.calls.proofs.State.{state-stored, keeps-stored, keeps-kept, kept-within, kept-stored}
 use Rattle.calls.proofs.Rows.{Right, line-right}
-use Rattle.calls.proofs.Refusals.{causes-lowest, refusal-most, after-number, refused-tables, still-tables, still-state, refused-keeps}
+use Rattle.calls.proofs.Refusals.{causes-lowest, refusal-most, after-number, refused-tables, still-tables, shown-keeps, refused-keeps}
 use Rattle.calls.proofs.Answers.{called-stored, answer-at}
 use Rattle.calls.proofs.Work.{clash, unsearched, row-zeroed}
 use Rattle.calls.proofs.Keeps.{answer-fits}
@@ -117,7 +117,7 @@ module _ (s : State) (h : Within s) (c : Call) where
         tables = λ l. ap stored (refused-tables s c l);
         state = λ l e. ap storedState (refused-keeps s c l e);
         still = λ e. ap (λ (x : State). stored (x .tables)) (after-number s c) ∙ ap stored (still-tables s n r (rw (state-stored s h) at e));
-        shows = λ e. ap storedState (after-number s c ∙ still-state s n r (rw (state-stored s h) at e));
+        shows = λ e. ap storedState (shown-keeps s c (rw (state-stored s h) at e));
         one = one;
         prints = λ l. written-is (c .output) bs (c .place) (room (λ e. absurd (omega (arith, l, e)))) ∙ refusal-text n r l;
         fits = rw (state-stored s h) (answer-fits s h c);

@@ -24,6 +24,7 @@ use Rattle.meaning.specs.Sets.{counted, power, worth, numberOn}
 use Rattle.meaning.specs.Best.{bestPlan}
 use Rattle.tables.specs.declared.entry.Entry.{Entry}
 use Rattle.meaning.specs.Choice.{noEntry, find, inOrder, plan, check, planEntries, checkEntries, shownSet}
+use Rattle.meaning.specs.Need.{noneFits}
 use Rattle.meaning.proofs.Ranges.{Bounded, plan-bounded, check-bounded}
 use Rattle.meaning.proofs.Entries.{Listed, plan-listed, check-listed}
 use Rattle.meaning.proofs.InOrder.{listed-length}
@@ -32,7 +33,7 @@ use Rattle.meaning.proofs.Claims.{claims}
 use Rattle.runs.specs.Outcome.{planned, rangeOf, outcomeIn}
 use Rattle.runs.proofs.Entries.{number-at}
 use Rattle.runs.proofs.Stored.{LinesIn, lines-in, named-in, run-in}
-use Rattle.calls.specs.Rows.{noneFits, showingPlan, showingCheck, shownText}
+use Rattle.calls.specs.Rows.{showingPlan, showingCheck, shownText}
 use Rattle.calls.proofs.Answers.{positive}
 
 -- ---- load lines

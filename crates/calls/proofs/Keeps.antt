@@ -17,7 +17,7 @@ use Rattle.calls.specs.Printing.{text}
 use Rattle.calls.specs.Calls.{Call, rowFor, numberFor, after, answer}
 use Rattle.calls.proofs.Numbers.{passed}
 use Rattle.calls.proofs.Rows.{Right, line-right}
-use Rattle.calls.proofs.Refusals.{refusal-most, after-number}
+use Rattle.calls.proofs.Refusals.{refusal-most, after-number, still-state}
 
 -- no cause at all: none of the row
 pub none-of-row : (n room place : ℕ) (r : Row) → refusal n room place r ≡ 0 → lowest (causesOf n r) ≡ 0
@@ -41,10 +41,10 @@ left-within : (s : State) → Within s → (cells n : ℕ) (r : Row) → Right s
 unfolding outcomeIn
 left-within s h m zero (changes x) a e = record { tables = a .keeps h (e refl); outcome = refl }
 left-within s h m (suc n) (changes x) a e = record { tables = h .tables; outcome = h .outcome }
-left-within s h m zero (shows b cs x) a e = record { tables = h .tables; outcome = h .outcome }
-left-within s h m (suc n) (shows b cs x) a e = record { tables = h .tables; outcome = h .outcome }
-left-within s h m zero (works b k before after x) a e = record { tables = h .tables; outcome = a .finds h (e refl) }
-left-within s h m (suc n) (works b k before after x) a e = record { tables = h .tables; outcome = go (eqb (suc n) no.noneFits) }
+left-within s h m n (shows b cs x) a e = subst Within (sym (still-state s n (shows b cs x) refl)) h
+left-within s h m n (works false b k before after x) a e = subst Within (sym (still-state s n (works false b k before after x) refl)) h
+left-within s h m zero (works true b k before after x) a e = record { tables = h .tables; outcome = a .finds h (e refl) refl }
+left-within s h m (suc n) (works true b k before after x) a e = record { tables = h .tables; outcome = go (eqb (suc n) no.noneFits) }
   where
     go : (b : Bool) → outcomeIn (rangeOf (s .tables)) (pick b noSet (s .outcome)) ≡ true
     go true = refl

@@ -15,28 +15,29 @@ use Rattle.lines.specs.Text.{same}
 use Rattle.lines.specs.Grammar.{lineCommand, lineOf}
 use Rattle.lines.specs.Written.{parted}
 use Rattle.lines.specs.Saved.{saved, changesText}
-use Rattle.lines.specs.Answers.{ok, refused, planLine}
+use Rattle.lines.specs.Answers.{ok, refused, planLine, needLine}
 use Rattle.lines.proofs.Sizes.{numbers-short}
 use Rattle.tables.specs.Refusals as no
 use Rattle.tables.specs.Tables.{Tables}
 use Rattle.meaning.specs.Best.{bestPlan}
 use Rattle.meaning.specs.Choice.{planEntries}
 use Rattle.meaning.specs.Cells.{cellsOf}
+use Rattle.meaning.specs.Need.{noneFits}
 use Rattle.runs.specs.Outcome.{Outcome, nothing, noSet, planned, found, isNothing, isNoSet, entriesOf}
 use Rattle.runs.proofs.Stored.{found-none, found-some}
 use Rattle.calls.specs.State.{State, StoredState, storedState, stateOf, Within, Kept}
-use Rattle.calls.specs.Rows.{_if_, Row, planText, noneFits, showingPlan, shownText, row, lineRow, bytesOf, causesOf, isChange, isShow}
+use Rattle.calls.specs.Rows.{_if_, Row, planText, showingPlan, shownText, row, lineRow, bytesOf, causesOf, isChange, isShow}
 use Rattle.calls.specs.Causes.{lowest, allCauses, refusal}
 use Rattle.calls.specs.Effects.{stateBy}
-use Rattle.calls.specs.Printing.{text, searched, workAfter}
+use Rattle.calls.specs.Printing.{text, hasOutcome, workAfter}
 use Rattle.calls.specs.Calls.{Call, Reply, Exchange, writtenBy, rowFor, numberFor, after, reply, answer, called}
 use Rattle.calls.specs.Demand2.{Enough, PlanCall}
 use Rattle.calls.specs.Last.{printedOk, asksPlan, currentAfter, keptOutcome, LastCall, shownAs, StoredShown, LastRight}
-use Rattle.calls.proofs.State.{kept-within, kept-stored}
+use Rattle.calls.proofs.State.{kept-stored}
 use Rattle.calls.proofs.Numbers.{passed}
-use Rattle.calls.proofs.Answers.{positive, refusedIf, roomy, row-is, called-stored, answer-at}
+use Rattle.calls.proofs.Answers.{positive, refusedIf, roomy, row-is, answer-at, called-kept}
 use Rattle.calls.proofs.Work.{clash, no-cells}
-use Rattle.calls.proofs.Refusals.{after-number, still-state}
+use Rattle.calls.proofs.Refusals.{after-number, still-state, shown-keeps}
 use Rattle.calls.proofs.Keeps.{none-of-row}
 use Rattle.calls.proofs.Demand1.{wrote}
 use Rattle.calls.proofs.Plans.{plan-row, plan-number}
@@ -54,7 +55,7 @@ save-not f t = refl
 
 -- a row prints it exactly if it is a change and its number is 0
 prints-ok : (s : State) (m : ℕ) (c : Command) (n : ℕ) → (n ≡ 0 → lowest (causesOf m (row s c)) ≡ 0) → same (text n (row s c)) ok ≡ isChange (row s c) && eqb n 0
-unfolding row text same planLine lowest
+unfolding row text same planLine needLine lowest
 prints-ok s m (line.Change c) zero e = refl
 prints-ok s m (line.Change c) (suc n) e = not-ok n (row s (line.Change c)) ∙ sym (ne-eqb (suc n) 0 (λ z. absurd (omega arith)))
 prints-ok s m line.Plan zero e = refl
@@ -65,6 +66,8 @@ prints-ok s m (line.Save f) zero e = save-not f (s .tables)
 prints-ok s m (line.Save f) (suc n) e = not-ok n (row s (line.Save f))
 prints-ok s m line.Last zero e = refl
 prints-ok s m line.Last (suc n) e = not-ok n (row s line.Last)
+prints-ok s m (line.Need v) zero e = refl
+prints-ok s m (line.Need v) (suc n) e = not-ok n (row s (line.Need v))
 prints-ok s m line.Broken zero e = absurd (omega (arith, e refl))
 prints-ok s m line.Broken (suc n) e = not-ok n (row s line.Broken)
 prints-ok s m line.TooLong zero e = absurd (omega (arith, e refl))
@@ -93,7 +96,7 @@ nine-of-row n room place r e = go (ltb room (place + bytesOf r)) e
 
 -- the current plan after a row, by its command and its number
 abbrev currentBy : Bool → Command → (changes : Bool) (number : ℕ) → Bool
-currentBy b c x n = pick (x && eqb n 0) false (pick (asksPlan c && searched n) true b)
+currentBy b c x n = pick (x && eqb n 0) false (pick (asksPlan c && hasOutcome n) true b)
 
 module _ (b : Bool) (s : State) (h : Current b s) (m : ℕ) where
   none-left : {x : State} → x .outcome ≡ nothing → Current false x
@@ -101,7 +104,7 @@ module _ (b : Bool) (s : State) (h : Current b s) (m : ℕ) where
 
   -- a plan with this number
   plan-left : (n : ℕ) → (n ≡ 0 → lowest (causesOf m (row s line.Plan)) ≡ 0) → (n ≡ no.noneFits → lowest (causesOf m (row s line.Plan)) ≡ no.noneFits)
-      → Current (pick (searched n) true b) (stateBy s n (row s line.Plan))
+      → Current (pick (hasOutcome n) true b) (stateBy s n (row s line.Plan))
   unfolding row noneFits
   plan-left zero e f =
       let t = s .tables in
@@ -130,6 +133,7 @@ module _ (b : Bool) (s : State) (h : Current b s) (m : ℕ) where
   row-left (line.Check σ k) n e f = shown-left n (row s (line.Check σ k)) refl
   row-left (line.Save x) n e f = shown-left n (row s (line.Save x)) refl
   row-left line.Last n e f = shown-left n (row s line.Last) refl
+  row-left (line.Need v) n e f = shown-left n (row s (line.Need v)) refl
   row-left line.Broken n e f = shown-left n (row s line.Broken) refl
   row-left line.TooLong n e f = shown-left n (row s line.TooLong) refl
 
@@ -156,7 +160,7 @@ module _ (s : State) (c : Call) (k : LastCall c) where
 
   last-after : after s c ≡ s
   unfolding row
-  last-after = after-number s c ∙ still-state s (numberFor s c) (rowFor s c) (ap isShow last-row)
+  last-after = shown-keeps s c (ap isShow last-row)
 
   -- it shows what is stored
   last-shown : answer s c ≡ shownAs (s .tables) (s .outcome) c
@@ -176,7 +180,7 @@ last-stored p h c k =
     let s = stateOf p in
     let shown = last-shown s c k in
     let left = ap storedState (last-after s c k) ∙ sym (kept-stored p h) in
-    ap (λ (x : StoredState). called x c) (kept-stored p h) ∙ called-stored s (kept-within p h) c ∙ (λ i. record { state = left i; reply = shown i })
+    called-kept p h c ∙ (λ i. record { state = left i; reply = shown i })
 
 -- ---- a call
 module _ (s : State) (h : Within s) (x : Exchange) (is : x .done .reply ≡ answer s (x .call)) where

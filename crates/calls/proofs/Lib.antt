@@ -1,5 +1,6 @@
 -- The theorems on calls, from the ground up: Demand1, Demand2 and Demand3 have the last ones of paper 01, Padding, Saves, SaveProgram and Drops
--- those of requests One, Two and Three of paper 02; Last has what demand 3 says of request Five.
+-- those of requests One, Two and Three of paper 02; Last and Need have what demand 3 says of requests
+-- Five and Nine.
 pub mod State
 pub mod Numbers
 pub mod Answers
@@ -15,6 +16,7 @@ pub mod ByCommand
 pub mod Demand2
 pub mod Plans
 pub mod Last
+pub mod Need
 pub mod Demand3
 pub mod Full
 pub mod Steps

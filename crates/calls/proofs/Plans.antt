@@ -1,20 +1,23 @@
 -- Demand 2: a plan shows the lowest run of a best set, with that set's own figures, and 9 is said exactly where none fits. Assumes nothing.
 use mathlib.Core.Path.{_≡_, refl, ap, _∙_}
 use mathlib.Core.Bool.{Bool, true, false}
-use mathlib.Core.Logic.{inl, inr}
+use mathlib.Core.Logic.{inl, inr, _↔_}
 use native.Mathlib.Omega.{arith}
-use borrow.Author.Tests.{eqb-true, eqb-false, ne-eqb, le-ltb}
+use borrow.Author.Tests.{eqb-true, eqb-false, eq-eqb, ne-eqb, le-ltb}
 use lib.ListN.{length}
 use Rattle.lines.specs.declared.Command.the-variants.{Plan}
 use Rattle.lines.proofs.Sizes.{numbers-short}
 use Rattle.tables.specs.Refusals as no
 use Rattle.tables.specs.Tables.{Tables}
+use Rattle.tables.specs.Limits.{Limits}
+use Rattle.meaning.specs.Sets.{NoneFits}
 use Rattle.meaning.specs.Best.{bestPlan}
 use Rattle.meaning.specs.Choice.{planEntries, shownSet}
-use Rattle.meaning.proofs.Claims.{claims}
 use Rattle.meaning.specs.Cells.{cellsOf}
+use Rattle.meaning.specs.Need.{noneFits}
+use Rattle.meaning.proofs.Claims.{claims}
 use Rattle.calls.specs.State.{State, Within}
-use Rattle.calls.specs.Rows.{Row, planText, noneFits, row}
+use Rattle.calls.specs.Rows.{Row, planText, row}
 use Rattle.calls.specs.Causes.{lowest, refusal}
 use Rattle.calls.specs.Printing.{text, workAfter, zeroed}
 use Rattle.calls.specs.Calls.{Call, Reply, rowFor, numberFor, answer}
@@ -23,9 +26,10 @@ use Rattle.calls.proofs.Fits.{planned-fits}
 use Rattle.calls.proofs.Printed.{plan-set}
 use Rattle.calls.proofs.Answers.{positive, refusedIf, last-cause, roomy, row-is, answer-at}
 
-none-cell : (t : Tables) → noneFits t ≡ true → bestPlan t ≡ 0
+-- the test for 9
+pub none-fits : (t : Tables) → Limits t → (noneFits t ≡ true) ↔ NoneFits t
 unfolding noneFits
-none-cell t e = eqb-true (bestPlan t) 0 e
+none-fits t h = let r = claims t h .refused in (λ e. r .0 (eqb-true (bestPlan t) 0 e), λ z. eq-eqb (bestPlan t) 0 (r .1 z))
 
 module _ (s : State) (c : Call) (k : PlanCall (s .tables) c) where
   abbrev r : Row
@@ -62,7 +66,7 @@ module _ (s : State) (c : Call) (k : PlanCall (s .tables) c) where
     plan-right = go (noneFits (s .tables)) refl
       where
         go : (b : Bool) → noneFits (s .tables) ≡ b → PlanRight (s .tables) c (answer s c)
-        go true e = record { answered = inl (number-is true e); nine = (λ n. claims (s .tables) (h .tables) .refused .0 (none-cell (s .tables) e), λ z. number-is true e) }
+        go true e = record { answered = inl (number-is true e); nine = (λ n. none-fits (s .tables) (h .tables) .0 e, λ z. number-is true e) }
         go false e =
             let f = found e in
             record {

@@ -19,7 +19,7 @@ use Rattle.calls.specs.State.{State, plain}
 use Rattle.calls.specs.Rows.{_if_, Row, changes, shows, works, changing, row, lineRow, causesOf, effectOf, isChange, isShow}
 use Rattle.calls.specs.Causes.{lowest, allCauses, refusal, Lowest}
 use Rattle.calls.specs.Effects.{acted, changed, outcomeBy, stateBy}
-use Rattle.calls.specs.Printing.{searched}
+use Rattle.calls.specs.Printing.{hasOutcome}
 use Rattle.calls.specs.Calls.{Call, rowFor, after, numberFor}
 use Rattle.calls.proofs.Numbers.{ascending-from, lowest-given, lowest-least, lowest-range}
 use Rattle.calls.proofs.Work.{clash}
@@ -53,8 +53,8 @@ acts-alike : (t : Tables) (m n room place : ℕ) (r : Row) → acted t (refusal 
 unfolding refusal allCauses
 acts-alike t m n room place (changes x) = refl
 acts-alike t m n room place (shows b cs x) = refl
-acts-alike t m n room place (works b k before after x) =
-    let r = works b k before after x in
+acts-alike t m n room place (works k b cells before after x) =
+    let r = works k b cells before after x in
     idle t (refusal m room place r) r refl ∙ sym (idle t (refusal n room place r) r refl)
 
 -- no row that acts looks beside the tables
@@ -70,6 +70,7 @@ acts-plain s room place line.Last =
     let p = row (plain t) line.Last in
     let r = row s line.Last in
     idle t (refusal 0 room place p) p refl ∙ sym (idle t (refusal 0 room place r) r refl)
+acts-plain s room place (line.Need v) = refl
 acts-plain s room place line.Broken = refl
 acts-plain s room place line.TooLong = refl
 
@@ -98,24 +99,30 @@ refused-tables s c h = ap (λ (x : State). x .tables) (after-number s c) ∙ go 
     go zero l = absurd (omega arith)
     go (suc n) l = refl
 
--- a row that is no change leaves the tables, and one that shows the outcome too
+-- a row that is no change leaves the tables, and one that does not store the outcome too
 pub still-tables : (s : State) (n : ℕ) (r : Row) → isChange r ≡ false → stateBy s n r .tables ≡ s .tables
 still-tables s n (changes x) e = absurd (clash e)
 still-tables s n (shows b cs x) e = idle (s .tables) n (shows b cs x) refl
-still-tables s n (works b m before after x) e = idle (s .tables) n (works b m before after x) refl
+still-tables s n (works k b m before after x) e = idle (s .tables) n (works k b m before after x) refl
 
 pub still-state : (s : State) (n : ℕ) (r : Row) → isShow r ≡ true → stateBy s n r ≡ s
 still-state s n (changes x) e = absurd (clash (sym e))
 still-state s zero (shows b cs x) e = refl
 still-state s (suc n) (shows b cs x) e = refl
-still-state s n (works b m before after x) e = absurd (clash (sym e))
+still-state s n (works true b m before after x) e = absurd (clash (sym e))
+still-state s zero (works false b m before after x) e = refl
+still-state s (suc n) (works false b m before after x) e = refl
 
--- what did not search leaves the outcome too
-pub unsearched-state : (s : State) (n : ℕ) (r : Row) → 0 < n → searched n ≡ false → stateBy s n r ≡ s
-unsearched-state s zero r l e = absurd (omega arith)
-unsearched-state s (suc n) (changes x) l e = refl
-unsearched-state s (suc n) (shows b cs x) l e = refl
-unsearched-state s (suc n) (works b m before after x) l e = rw (or-right (eqb (suc n) 0) (eqb (suc n) no.noneFits) e)
+pub shown-keeps : (s : State) (c : Call) → isShow (rowFor s c) ≡ true → after s c ≡ s
+shown-keeps s c e = after-number s c ∙ still-state s (numberFor s c) (rowFor s c) e
 
-pub refused-keeps : (s : State) (c : Call) → 0 < numberFor s c → searched (numberFor s c) ≡ false → after s c ≡ s
-refused-keeps s c h e = after-number s c ∙ unsearched-state s (numberFor s c) (rowFor s c) h e
+-- and so does a refusal that is no outcome
+pub refused-state : (s : State) (n : ℕ) (r : Row) → 0 < n → hasOutcome n ≡ false → stateBy s n r ≡ s
+refused-state s zero r l e = absurd (omega arith)
+refused-state s (suc n) (changes x) l e = refl
+refused-state s (suc n) (shows b cs x) l e = refl
+refused-state s (suc n) (works true b m before after x) l e = rw (or-right (eqb (suc n) 0) (eqb (suc n) no.noneFits) e)
+refused-state s (suc n) (works false b m before after x) l e = refl
+
+pub refused-keeps : (s : State) (c : Call) → 0 < numberFor s c → hasOutcome (numberFor s c) ≡ false → after s c ≡ s
+refused-keeps s c h e = after-number s c ∙ refused-state s (numberFor s c) (rowFor s c) h e

@@ -1,7 +1,7 @@
 -- Every row of the table is right: its causes ascend, its change keeps the limits and the places, and its text fits the bytes that it needs.
 -- Assumes nothing.
 use Prim.Native.Nat.{ℕ, suc, _≤_, _<_}
-use mathlib.Core.Path.{_≡_, refl}
+use mathlib.Core.Path.{_≡_, refl, sym, _∙_}
 use mathlib.Core.Bool.{Bool, true, false, _&&_}
 use mathlib.Core.List.{List, [], _∷_}
 use mathlib.Core.Logic.{_⊎_, inl, inr}
@@ -16,10 +16,10 @@ use Rattle.lines.specs.declared.Change.{Change}
 use Rattle.lines.specs.declared.Change.the-variants as to
 use Rattle.lines.specs.declared.Command.{Command}
 use Rattle.lines.specs.declared.Command.the-variants as line
-use Rattle.lines.specs.declared.answer.Answer.the-variants.{Accepted}
 use Rattle.lines.specs.Grammar.{lineCommand}
 use Rattle.lines.specs.Saved.{saved}
 use Rattle.lines.specs.Answers.{freeBytes, AllRanged, numberOf, textOf}
+use Rattle.lines.proofs.Answers.{need-fits}
 use Rattle.lines.proofs.SaveText.{save-fits}
 use Rattle.tables.specs.declared.rule.Sort.{Sort}
 use Rattle.tables.specs.declared.rule.Sort.the-variants as sort
@@ -38,14 +38,17 @@ use Rattle.tables.specs.declared.entry.Entry.{Entry}
 use Rattle.meaning.specs.Claims.{EachLoad}
 use Rattle.meaning.specs.Cells.{cellsOf}
 use Rattle.meaning.specs.Choice.{planEntries}
+use Rattle.meaning.specs.Need.{noneFits, leastBudget}
 use Rattle.meaning.proofs.Claims.{claims}
+use Rattle.meaning.proofs.Need.{least-most}
 use Rattle.runs.specs.Outcome.{Outcome, nothing, noSet, planned, isNothing, isNoSet, entriesOf, rangeOf, outcomeIn}
 use Rattle.runs.proofs.Stored.{lines-in}
 use Rattle.calls.specs.State.{State, Within}
-use Rattle.calls.specs.Rows.{_if_, Changing, Shown, alone, showingPlan, shownText, Row, changes, shows, works, rule, load, isLoad, noneFits, notAllowed, marking, ruleCauses, adding, setting, changing, refuses, row, lineRow, bytesOf, mostBytes, causesOf, effectOf, shownOf, cellsFor}
+use Rattle.calls.specs.Rows.{_if_, Changing, Shown, showingPlan, shownText, Row, changes, shows, works, rule, load, isLoad, notAllowed, marking, ruleCauses, adding, setting, changing, refuses, row, lineRow, bytesOf, mostBytes, causesOf, effectOf, shownOf}
 use Rattle.calls.specs.Causes.{lowest}
 use Rattle.calls.proofs.Numbers.{passed, passed-not, Ascending}
 use Rattle.calls.proofs.Answers.{positive}
+use Rattle.calls.proofs.Work.{clash}
 use Rattle.calls.proofs.Fits.{lines-ranged, lines-fit, plan-in, check-ranged, checked-fits}
 
 -- ---- changes
@@ -117,11 +120,11 @@ pub record Showing (t : Tables) (bytes : ℕ) (x : Shown) : Type 0 where
   pub fits : length (shownText x) ≤ bytes
   pub lists : Listing t x
 
--- what a row that works stores is in range
+-- what a row stores is in range
 abbrev Finds : Tables → Row → Type 0
 Finds t (changes x) = Unit {0}
 Finds t (shows b cs x) = Unit {0}
-Finds t (works b m before after x) = outcomeIn (rangeOf t) (planned (x .entries)) ≡ true
+Finds t (works k b m before after x) = k ≡ true → outcomeIn (rangeOf t) (planned (x .entries)) ≡ true
 
 pub record Right (s : State) (cells : ℕ) (r : Row) : Type 0 where
   pub ordered : Ascending 2 (causesOf cells r)
@@ -133,8 +136,8 @@ pub record Right (s : State) (cells : ℕ) (r : Row) : Type 0 where
   pub shown : Within s → lowest (causesOf cells r) ≡ 0 → Showing (s .tables) (bytesOf r) (shownOf r)
   pub finds : Within s → lowest (causesOf cells r) ≡ 0 → Finds (s .tables) r
 
-no-lines : {t : Tables} → Listing t (alone Accepted)
-no-lines = record { entries = inl (λ es cs. refl); changes = inl (λ cs. refl) }
+no-lines : {t : Tables} (x : Shown) → ((es : List Entry) (cs : List Change) → textOf (x .answer) es cs ≡ shownText x) → Listing t x
+no-lines x e = record { entries = inl (λ es cs. e es cs ∙ sym (e (x .entries) cs)); changes = inl (e (x .entries)) }
 
 run-lines : {t : Tables} (x : Shown) → OneEach t (x .entries) → ((cs : List Change) → textOf (x .answer) (x .entries) cs ≡ shownText x) → Listing t x
 run-lines x o e = record { entries = inr o; changes = inl e }
@@ -164,7 +167,7 @@ refuses-right s cells n a b = record {
   accepts = refl;
   keeps = λ h e. h .tables;
   places = refl;
-  shown = λ h e. record { fits = lit≤ tt; lists = no-lines };
+  shown = λ h e. record { fits = lit≤ tt; lists = no-lines _ (λ es cs. refl) };
   finds = λ h e. tt;
 }
 
@@ -179,7 +182,7 @@ right s n (line.Change c) =
       accepts = refl;
       keeps = λ h. x .keeps (h .tables);
       places = x .places;
-      shown = λ h e. record { fits = lit≤ tt; lists = no-lines };
+      shown = λ h e. record { fits = lit≤ tt; lists = no-lines _ (λ es cs. refl) };
       finds = λ h e. tt;
     }
 right s n line.Plan =
@@ -194,7 +197,7 @@ right s n line.Plan =
       keeps = λ h e. h .tables;
       places = refl;
       shown = λ h e. plan-showing t (h .tables) (planEntries t) (in-range h e);
-      finds = in-range;
+      finds = λ h e k. in-range h e;
     }
 right s n (line.Check σ k) =
     let t = s .tables in
@@ -231,20 +234,21 @@ right s n line.Last = record {
   shown = λ h e. last-showing (s .tables) (h .tables) (s .outcome) (h .outcome) e;
   finds = λ h e. tt;
 }
+right s n (line.Need v) =
+    let t = s .tables in
+    record {
+      ordered = (lit≤ tt, (lit≤ tt, (lit≤ tt, (lit≤ tt, (lit≤ tt, lit≤ tt)))));
+      room = lit≤ tt;
+      most = lit≤ tt;
+      accepts = refl;
+      keeps = λ h e. h .tables;
+      places = refl;
+      shown = λ h e. record { fits = need-fits (leastBudget t v) (omega (arith, least-most t v, lawful t (h .tables) .budget)); lists = no-lines _ (λ es cs. refl) };
+      finds = λ h e k. absurd (clash (sym k));
+    }
 right s n line.Broken = refuses-right s n no.broken (lit≤ tt) (lit≤ tt)
 right s n line.TooLong = refuses-right s n no.tooLong (lit≤ tt) (lit≤ tt)
 
 pub line-right : (s : State) (n : ℕ) (l : List ℕ) → Right s n (lineRow s l)
 unfolding lineRow
 line-right s n l = right s n (lineCommand l)
-
--- of all commands only a plan works in cells
-pub works-plan : (s : State) (c : Command) → (c ≡ line.Plan) ⊎ (cellsFor (row s c) ≡ 0)
-unfolding row
-works-plan s (line.Change c) = inr refl
-works-plan s line.Plan = inl refl
-works-plan s (line.Check σ n) = inr refl
-works-plan s (line.Save f) = inr refl
-works-plan s line.Last = inr refl
-works-plan s line.Broken = inr refl
-works-plan s line.TooLong = inr refl

@@ -20,7 +20,7 @@ use Rattle.meaning.specs.Cells.{cellsOf}
 use Rattle.calls.specs.State.{StoredState, stateOf, keeps}
 use Rattle.calls.specs.Rows.{Cause, _if_, bytesOf, isChange, isShow, cellsFor}
 use Rattle.calls.specs.Causes.{allCauses, Lowest}
-use Rattle.calls.specs.Printing.{zeroed, searched}
+use Rattle.calls.specs.Printing.{zeroed, hasOutcome, searched}
 use Rattle.calls.specs.Calls.{Call, rowFor, Done, writtenBy, turnedAway}
 
 -- every cause of the table, in its order: "a planner handed in that breaks a limit", then those of its state
@@ -33,7 +33,7 @@ pub record Demand1 (p : StoredState) (c : Call) (d : Done) : Type 0 where
   pub most : d .reply .number ≤ no.greatest
   -- a refusal changes no table, and but for 9 nothing that the planner keeps
   pub tables : 0 < d .reply .number → d .state .tables ≡ p .tables
-  pub state : 0 < d .reply .number → searched (d .reply .number) ≡ false → d .state ≡ p
+  pub state : 0 < d .reply .number → hasOutcome (d .reply .number) ≡ false → d .state ≡ p
   -- nor does what is no change, accepted or not; and what only shows leaves the planner as it was
   pub still : isChange (rowFor (stateOf p) c) ≡ false → d .state .tables ≡ p .tables
   pub shows : isShow (rowFor (stateOf p) c) ≡ true → d .state ≡ p
@@ -59,6 +59,7 @@ bytesFor (line.Check σ n) = freeBytes
 -- "It needs 3,000 free bytes, which the line program now lends, and fewer is refusal 1."
 bytesFor (line.Save f) = saveBytes
 bytesFor line.Last = freeBytes
+bytesFor (line.Need v) = freeBytes
 -- "A line that breaks its form or is too long needs 1,024, its command word notwithstanding."
 bytesFor line.Broken = freeBytes
 bytesFor line.TooLong = freeBytes
@@ -73,8 +74,21 @@ onlyShows line.Plan = false
 onlyShows (line.Check σ n) = true
 onlyShows (line.Save f) = true
 onlyShows line.Last = true
+-- "It needs a plan's cells", and stores nothing
+onlyShows (line.Need v) = true
 onlyShows line.Broken = true
 onlyShows line.TooLong = true
+
+-- does it work in cells?
+abbrev pub looks : Command → Bool
+looks (line.Change c) = false
+looks line.Plan = true
+looks (line.Check σ n) = false
+looks (line.Save f) = false
+looks line.Last = false
+looks (line.Need v) = true
+looks line.Broken = false
+looks line.TooLong = false
 
 -- the same of tables, output and work, by the command and not by its row
 pub record ByCommand (p : StoredState) (c : Call) (d : Done) : Type 0 where
@@ -88,7 +102,7 @@ pub record ByCommand (p : StoredState) (c : Call) (d : Done) : Type 0 where
   pub one : (d .reply .number ≡ no.unusable) ↔ ((keeps p ≡ false) ⊎ (length (c .output) < c .place + bytesNeeded (c .line)))
   -- no answer is longer than the bytes that its line needs
   pub fits : d .reply .count ≤ bytesNeeded (c .line)
-  -- "After a plan or refusal 9 those cells are 0"
-  pub cleared : parse (c .line) ≡ line.Plan → searched (d .reply .number) ≡ true → d .reply .work ≡ zeroed (cellsOf (stateOf p .tables)) (c .work)
+  -- "After a plan or refusal 9 those cells are 0", and `need` "leaves the cells 0 as a plan does", at 15 too
+  pub cleared : looks (lineCommand (c .line)) ≡ true → searched (d .reply .number) ≡ true → d .reply .work ≡ zeroed (cellsOf (stateOf p .tables)) (c .work)
   -- ".. and all cells after any other call, are unchanged"
-  pub unchanged : (parse (c .line) ≡ line.Plan → searched (d .reply .number) ≡ true → ⊥) → d .reply .work ≡ c .work
+  pub unchanged : (looks (lineCommand (c .line)) ≡ true → searched (d .reply .number) ≡ true → ⊥) → d .reply .work ≡ c .work

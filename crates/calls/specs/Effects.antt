@@ -30,11 +30,11 @@ foundBy zero es o = planned es
 foundBy (suc n) es o = pick (eqb (suc n) no.noneFits) noSet o
 
 -- the outcome after a row with this number: wiped by "any line that printed `ok`", and stored by a plan and its refusal 9. "Refused commands don't
--- make it old."
+-- make it old." What works without storing leaves it.
 abbrev pub outcomeBy : (number : ℕ) → Row → Outcome → Outcome
 outcomeBy n (changes x) o = accepted n nothing o
 outcomeBy n (shows b cs x) o = o
-outcomeBy n (works b m before after x) o = foundBy n (x .entries) o
+outcomeBy n (works k b m before after x) o = pick k (foundBy n (x .entries) o) o
 
 -- the state after it
 abbrev pub stateBy : State → (number : ℕ) → Row → State

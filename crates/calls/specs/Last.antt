@@ -20,7 +20,7 @@ use Rattle.meaning.specs.Choice.{planEntries}
 use Rattle.runs.specs.Outcome.{Outcome, nothing, noSet, planned, found}
 use Rattle.calls.specs.State.{State, StoredState, storedState, stateOf}
 use Rattle.calls.specs.Rows.{planText}
-use Rattle.calls.specs.Printing.{searched}
+use Rattle.calls.specs.Printing.{hasOutcome}
 use Rattle.calls.specs.Calls.{Call, Reply, Done, Exchange, writtenBy, reply, after, answer}
 use Rattle.calls.specs.Demand2.{Enough}
 
@@ -36,12 +36,13 @@ asksPlan line.Plan = true
 asksPlan (line.Check σ n) = false
 asksPlan (line.Save f) = false
 asksPlan line.Last = false
+asksPlan (line.Need v) = false
 asksPlan line.Broken = false
 asksPlan line.TooLong = false
 
 -- "A plan, or its refusal 9, stores its outcome"
 abbrev pub isOutcome : Exchange → Bool
-isOutcome x = asksPlan (lineCommand (x .call .line)) && searched (x .done .reply .number)
+isOutcome x = asksPlan (lineCommand (x .call .line)) && hasOutcome (x .done .reply .number)
 
 -- after a call, and after a list of calls: "It is shown only while no accepted change has come since". "Refused commands don't make it old."
 abbrev pub currentAfter : Bool → Exchange → Bool

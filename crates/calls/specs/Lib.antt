@@ -1,6 +1,6 @@
 -- What every call answers: the state, the rows of the table, the causes of a refusal, the effect of a line, what is printed, a call, and lists of calls.
--- In the order of paper 01; Demand1, Demand2 and Demand3 have what is proved of them, Program what the line program prints, Padding, Saves, Drops
--- and Last what requests One, Two, Three and Five of paper 02 promise.
+-- In the order of paper 01; Demand1, Demand2 and Demand3 have what is proved of them, Program what the line program prints, Padding, Saves, Drops,
+-- Last and Need what requests One, Two, Three, Five and Nine of paper 02 promise.
 pub mod State
 pub mod Rows
 pub mod Causes
@@ -10,6 +10,7 @@ pub mod Calls
 pub mod Demand1
 pub mod Demand2
 pub mod Last
+pub mod Need
 pub mod Demand3
 pub mod Full
 pub mod Padding

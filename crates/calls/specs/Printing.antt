@@ -1,5 +1,6 @@
 -- What is printed, and what is left in the work.
--- It stands for "A refusal prints `no,N`" and for "After a plan or refusal 9 those cells are 0" of paper 01. Assumes nothing.
+-- It stands for "A refusal prints `no,N`" and for "After a plan or refusal 9 those cells are 0" of paper 01, and for what request Nine of paper 02 says
+-- of the cells. Assumes nothing.
 use Prim.Native.Nat.{ℕ, zero, suc}
 use mathlib.Core.Bool.{Bool, _||_}
 use mathlib.Core.List.{List, [], _++_}
@@ -25,9 +26,13 @@ text (suc (suc n)) r = shownText (shownBy (suc (suc n)) r)
 unfoldable pub zeroed : ℕ → List ℕ → List ℕ
 zeroed n w = replicate n 0 ++ drop n w
 
--- does a row with this number look for a set?
+-- is it the number of an outcome: "A plan, or its refusal 9"?
+abbrev pub hasOutcome : ℕ → Bool
+hasOutcome n = eqb n 0 || eqb n no.noneFits
+
+-- does a row with this number look for a set? At 15 "its work cells are left 0" too.
 abbrev pub searched : ℕ → Bool
-searched n = eqb n 0 || eqb n no.noneFits
+searched n = hasOutcome n || eqb n no.tooPoor
 
 -- ".. and all cells after any other call, are unchanged"
 unfoldable pub workAfter : (number : ℕ) → Row → List ℕ → List ℕ

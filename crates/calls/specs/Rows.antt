@@ -1,7 +1,7 @@
 -- What each line of the table asks for: a row a line, with the bytes that it needs, its causes in the order of their numbers, and what it does
 -- where none applies. What a call returns and leaves is read off its row.
 -- It stands for the table of "Lines" and rows 2 to 10 of "Causes and numbers" of paper 01, and for the commands `save`, `drop`, `last` and `save1` of
--- requests Two, Three, Five and Eight of paper 02.
+-- requests Two, Three, Five and Eight of paper 02, and `need` of its request Nine.
 -- Assumes nothing.
 use Prim.Native.Nat.{ℕ, suc}
 use mathlib.Core.Bool.{Bool, true, false, _&&_, not}
@@ -16,7 +16,7 @@ use Rattle.lines.specs.declared.Change.the-variants as to
 use Rattle.lines.specs.declared.Command.{Command}
 use Rattle.lines.specs.declared.Command.the-variants as line
 use Rattle.lines.specs.declared.answer.Answer.{Answer}
-use Rattle.lines.specs.declared.answer.Answer.the-variants.{Accepted, Planned, Allowed, Saved}
+use Rattle.lines.specs.declared.answer.Answer.the-variants.{Accepted, Planned, Allowed, Saved, Needed}
 use Rattle.lines.specs.Grammar.{lineCommand}
 use Rattle.lines.specs.Saved.{saved, losesKinds, saveBytes}
 use Rattle.lines.specs.Answers.{freeBytes, textOf}
@@ -29,13 +29,14 @@ use Rattle.tables.specs.declared.load.Load.{Load}
 use Rattle.tables.specs.Refusals as no
 use Rattle.tables.specs.Tables as on-paper
 use Rattle.tables.specs.Tables.{Tables, sizeFor, rulesFor}
-use Rattle.tables.specs.Limits.{between, bookSize, ruleIn, rangeFor, sameRule, maxRules, loadIn, figureIn, budgetIn}
+use Rattle.tables.specs.Limits.{between, bookSize, ruleIn, rangeFor, sameRule, maxRules, loadIn, figureIn, budgetIn, needIn}
 use Rattle.tables.specs.Changes.{newBook, mark, addRule, addLoad, setFigure, hasChildren, dropLoad, setBudget}
 use Rattle.meaning.specs.Sets.{power, worth, numberOn}
-use Rattle.meaning.specs.Best.{bestPlan, bestCheck}
+use Rattle.meaning.specs.Best.{bestCheck}
 use Rattle.tables.specs.declared.entry.Entry.{Entry}
 use Rattle.meaning.specs.Choice.{planEntries, checkEntries, shownSet}
 use Rattle.meaning.specs.Cells.{cellsOf}
+use Rattle.meaning.specs.Need.{noneFits, poorer, leastBudget}
 use Rattle.runs.specs.Outcome.{isNothing, isNoSet, entriesOf}
 use Rattle.calls.specs.State.{State}
 
@@ -58,12 +59,12 @@ pub record Shown : Type 0 where
   pub entries : List Entry
   pub changes : List Change
 
--- a row: a change prints `ok`; what shows changes nothing; what works needs cells (8) besides, and if it looked leaves them 0 and stores what it
--- found
+-- a row: a change prints `ok`; what shows changes nothing; what works needs cells (8) besides, and if it looked leaves them 0 and, where it stores,
+-- stores what it found
 pub data Row : Type 0 where
   changes : Changing → Row
   shows : (bytes : ℕ) (causes : List Cause) (shown : Shown) → Row
-  works : (bytes cells : ℕ) (before after : List Cause) (shown : Shown) → Row
+  works : (stores : Bool) (bytes cells : ℕ) (before after : List Cause) (shown : Shown) → Row
 
 -- ---- what is shown
 abbrev pub alone : Answer → Shown
@@ -102,10 +103,7 @@ load p w v k = record { parent = p; kind = k; power = w; worth = v }
 abbrev pub isLoad : Tables → ℕ → Bool
 isLoad t k = between 1 (length (t .loads)) k
 
--- "no allowed set fits"; "checked set not allowed"
-unfoldable pub noneFits : Tables → Bool
-noneFits t = eqb (bestPlan t) 0
-
+-- "checked set not allowed"
 unfoldable pub notAllowed : Tables → (ℕ → ℕ) → Bool
 notAllowed t σ = eqb (bestCheck t σ) 0
 
@@ -158,7 +156,7 @@ row s (line.Change c) = changes (changing (s .tables) c)
 -- "plan: shows the plan"
 row s line.Plan =
     let t = s .tables in
-    works freeBytes (cellsOf t) ((no.noLoads if eqb (length (t .loads)) 0) ∷ []) ((no.noneFits if noneFits t) ∷ []) (showingPlan t (planEntries t))
+    works true freeBytes (cellsOf t) ((no.noLoads if eqb (length (t .loads)) 0) ∷ []) ((no.noneFits if noneFits t) ∷ []) (showingPlan t (planEntries t))
 -- "check,bits: one 0 or 1 for each load: is this set allowed?"
 row s (line.Check σ n) =
     let t = s .tables in
@@ -172,6 +170,14 @@ row s (line.Save f) = let t = s .tables in shows saveBytes ((no.kindsInUse if lo
 row s line.Last =
     let o = s .outcome in
     shows freeBytes ((no.noneFits if isNoSet o) ∷ (no.noPlan if isNothing o) ∷ []) (showingPlan (s .tables) (entriesOf o))
+-- "`need,v` prints `need,b`"; "v is 0 to 64,000. It needs a plan's cells, meets 4 and 8 .., and says 9 when no allowed set fits the budget in force";
+-- "15, the plan at the budget in force has worth below v, tested after 9"
+row s (line.Need v) =
+    let t = s .tables in
+    works false freeBytes (cellsOf t)
+    ((no.noLoads if eqb (length (t .loads)) 0) ∷ (no.outOfRange if not (needIn (t .places) v)) ∷ [])
+    ((no.noneFits if noneFits t) ∷ (no.tooPoor if poorer t v) ∷ [])
+    (alone (Needed (leastBudget t v)))
 -- "no command of the table, wrong field count or form"
 row s line.Broken = refuses no.broken
 -- "line over 80 bytes"
@@ -185,7 +191,7 @@ lineRow s l = row s (lineCommand l)
 abbrev pub bytesOf : Row → ℕ
 bytesOf (changes x) = freeBytes
 bytesOf (shows b cs x) = b
-bytesOf (works b m before after x) = b
+bytesOf (works k b m before after x) = b
 
 -- no row needs more
 abbrev pub mostBytes : ℕ
@@ -195,33 +201,33 @@ mostBytes = saveBytes
 abbrev pub causesOf : (cells : ℕ) → Row → List Cause
 causesOf n (changes x) = x .causes
 causesOf n (shows b cs x) = cs
-causesOf n (works b m before after x) = before ++ ((no.tooFewCells if ltb n m) ∷ after)
+causesOf n (works k b m before after x) = before ++ ((no.tooFewCells if ltb n m) ∷ after)
 
 -- the tables after it
 abbrev pub effectOf : Tables → Row → Tables
 effectOf t (changes x) = x .after
 effectOf t (shows b cs x) = t
-effectOf t (works b m before after x) = t
+effectOf t (works k b m before after x) = t
 
--- can it change the tables, and does it only show?
+-- can it change the tables, and does it leave all that the planner keeps?
 abbrev pub isChange : Row → Bool
 isChange (changes x) = true
 isChange (shows b cs x) = false
-isChange (works b m before after x) = false
+isChange (works k b m before after x) = false
 
 abbrev pub isShow : Row → Bool
 isShow (changes x) = false
 isShow (shows b cs x) = true
-isShow (works b m before after x) = false
+isShow (works k b m before after x) = not k
 
 -- "An accepted change prints `ok`."
 abbrev pub shownOf : Row → Shown
 shownOf (changes x) = alone Accepted
 shownOf (shows b cs x) = x
-shownOf (works b m before after x) = x
+shownOf (works k b m before after x) = x
 
 -- the cells that it works in
 abbrev pub cellsFor : Row → ℕ
 cellsFor (changes x) = 0
 cellsFor (shows b cs x) = 0
-cellsFor (works b m before after x) = m
+cellsFor (works k b m before after x) = m

@@ -1,8 +1,8 @@
 // Cells as 32-bit numbers. A request that changes what is best changes this file.
 ghost use mathlib.Core.Path.{_≡_};
-ghost use Prim.Native.Nat.{max, _%_, _≤_, _<_};
-ghost use Rattle.meaning.specs.Cell.{cell, powerLimit, _⊕_};
-ghost use Rattle.tables.specs.Limits.{maxWorth};
+ghost use Prim.Native.Nat.{max, _*_, _%_, _≤_, _<_};
+ghost use Rattle.meaning.specs.Cell.{cell, floor, powerLimit, _⊕_};
+ghost use Rattle.tables.specs.Limits.{maxLoads, maxWorth};
 ghost use Rattle.cells.specs.Work.{cellLimit, heldIn};
 ghost use Rattle.cells.specs.Strip.{stripLimit};
 
@@ -66,4 +66,12 @@ pub(crate) fn cell_of(power: usize, worth: u32) -> u32
     ensures { λ r. ⌜ (r ≡ cell power worth) × (r ≤ cellLimit) ⌝ }
 {
     worth * EMPTY + EMPTY - power as u32
+}
+
+// The cells of sets that are worth so much, and of no others, exceed this.
+pub fn floor_of(worth: u32) -> u32
+    requires { ⌜ worth ≤ maxLoads * maxWorth ⌝ }
+    ensures { λ r. ⌜ r ≡ floor worth ⌝ }
+{
+    EMPTY * worth
 }

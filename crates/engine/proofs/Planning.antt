@@ -1,9 +1,9 @@
 -- The problems of a plan and of a check are the tables' own: their best cells, their entries and the number of cells. Assumes nothing.
 use Prim.Native.Nat.{ℕ, _+_, _*_, _≤_, _<_}
 use mathlib.Core.Path.{_≡_, sym, ap, _∙_, subst}
-use mathlib.Core.List.{List}
+use mathlib.Core.List.{List, _++_}
 use native.Mathlib.Omega.{arith}
-use lib.ListN.{length, drop}
+use lib.ListN.{length, drop, replicate}
 use Rattle.marks.specs.declared.LoadSet.{LoadSet}
 use Rattle.tables.specs.Limits.{maxLoads}
 use Rattle.tables.specs.declared.tables.StoredTables.{StoredTables}
@@ -43,6 +43,10 @@ module _ (p : Problem) (sh : Shape) (e : sh ≡ shapeOf p) (o : List ℕ) (d : O
 
     pub rest-kept : drop (cellsNeeded (shapeOf p)) v ≡ drop (cellsNeeded (shapeOf p)) w
     rest-kept = subst (λ i. drop i v ≡ drop i w) (en ∙ ap cellsNeeded e) (filled-rest p (f p outlined) l)
+
+-- the first cells become 0, and the others are as they came
+pub all-cleared : (w v u : List ℕ) (n m : ℕ) → u ≡ replicate n 0 ++ drop n v → n ≡ m → drop m v ≡ drop m w → u ≡ replicate m 0 ++ drop m w
+all-cleared w v u n m e en ev = e ∙ ap (λ i. replicate i 0 ++ drop i v) en ∙ ap (λ z. replicate m 0 ++ z) ev
 
 module _ (t : StoredTables) (p : Problem) (ok : Lawful p) where
   pub plan-is : p ≡ planProblem t → answerTo p ≡ storedOutcome (found (bestPlan (tablesOf t)) (planEntries (tablesOf t)))

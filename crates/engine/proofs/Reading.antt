@@ -1,7 +1,7 @@
 -- What the searches find in cells that hold what they are to hold is what the definitions choose. Assumes nothing.
 use Prim.Native.Nat.{ℕ, zero, suc, _+_, _-_, _≤_, _<_}
 use mathlib.Core.Path.{_≡_, sym, ap, ap₂, _∙_, subst}
-use mathlib.Core.Bool.{Bool, true, false}
+use mathlib.Core.Bool.{Bool}
 use mathlib.Core.List.{List}
 use mathlib.Core.Logic.{_⊎_, inl, inr}
 use native.Mathlib.Omega.{arith}
@@ -11,23 +11,22 @@ use native.Mathlib.Decide.{decLe}
 use borrow.Author.Tests.{lt-leb, le-leb}
 use lib.ListN.{length, getD}
 use Rattle.lists.specs.Tests.{pick}
-use Rattle.lists.specs.Argmax.{guard, Greatest, argmax}
+use Rattle.lists.specs.Argmax.{guard, Greatest}
 use Rattle.lists.proofs.Argmax.{argmax-agree}
 use Rattle.marks.specs.Bits.{hasMark}
 use Rattle.tables.specs.declared.rule.Transition.{Transition}
 use Rattle.tables.specs.Stored.{rulesOf, bookOf}
 use Rattle.meaning.specs.Forest.{Item}
-use Rattle.meaning.specs.Runs.{ruleAt}
 use Rattle.meaning.specs.Cell.{draw}
 use Rattle.meaning.specs.Best.{shares}
-use Rattle.meaning.specs.Cells.{loadAt, firstChild, nextSibling}
+use Rattle.meaning.specs.Cells.{loadAt, nextSibling}
 use Rattle.meaning.proofs.Agree.{shares-agree}
 use Rattle.meaning.proofs.Rows.{after-above}
 use Rattle.cells.specs.declared.problem.Problem.{Problem}
 use Rattle.cells.specs.declared.problem.Shape.{Shape}
 use Rattle.cells.specs.declared.outline.Rules.{Rules}
-use Rattle.cells.specs.Problem.{bookFor, loadsFor, itemsFor, itemOf, shapeOf}
-use Rattle.cells.specs.Outline.{loadRulesAt, rowRulesAt, countsAt, childIn, siblingIn, itemIn, ruleIn, rulesIn, jointIn, Outlines}
+use Rattle.cells.specs.Problem.{bookFor, loadsFor, itemsFor, shapeOf}
+use Rattle.cells.specs.Outline.{loadRulesAt, rowRulesAt, countsAt, childIn, siblingIn, itemIn, ruleIn, rulesIn, jointIn}
 use Rattle.cells.specs.Work.{placeOf, heldIn, cellsFrom, heldBranch, heldRow, branchFor, rowFor, cellOf, FilledTo}
 use Rattle.cells.specs.Stretch.{reached}
 use Rattle.cells.proofs.Numbers.{held-same}
@@ -37,9 +36,9 @@ use Rattle.cells.proofs.Filling.{holds-less}
 use Rattle.cells.proofs.Tables.{rule-at, rules-length, rule-to, rule-label}
 use Rattle.engine.specs.declared.best.Best.{Best}
 use Rattle.engine.specs.declared.choice.Choice.{Choice}
-use Rattle.engine.specs.Search.{greatestOf, choiceBy, choiceIn}
+use Rattle.engine.specs.Search.{greatestOf, rootBest, choiceBy, choiceIn}
 use Rattle.engine.specs.Parts.{startBest, loadBest, loadRule, rowBest, rowRule, shareBest}
-use Rattle.engine.specs.Pass.{bestFor, Complete, loadChoice, rowChoice}
+use Rattle.engine.specs.Pass.{bestAt, bestFor, Complete, loadChoice, rowChoice}
 use Rattle.engine.proofs.Parts.{load-reached, row-found, tree-cell, start-found, root-part}
 
 -- of the problem's own shape
@@ -56,23 +55,29 @@ module _ (p : Problem) (o w : List ℕ) (all : Complete p (shapeOf p) o w) where
   branch-held (suc j) q c u l m n b =
       stretches.branch-held p (all .outlined .lawful) w _ (all .holds) j l q c m n b (omega (arith, place-room (shapeOf p) (suc j) (q - 1) u l (omega arith)))
 
+  -- ---- the root's best at an allowance
+  root-best : (c : ℕ) → c ≤ p .tables .budget → rootBest (shapeOf p) w c ≡ startBest (bookFor p) (itemsFor p) (loadsFor p) c
+  unfolding bookOf
+  root-best c fits =
+      argmax-agree _ _ (p .tables .book .states)
+      (λ s m. ap (guard (hasMark (p .tables .book .starts .0) (suc s))) (branch-held 1 (suc s) c (omega arith) (all .some) (omega arith) m fits))
+
+  -- is that of the tree
+  pub root-cell : (c : ℕ) → c ≤ p .tables .budget → rootBest (shapeOf p) w c .value ≡ bestAt p c
+  root-cell c fits =
+      ap (λ (g : Greatest). g .value) (root-best c fits)
+      ∙ sym (tree-cell (bookFor p) (itemsFor p) (loadsFor p) c (omega (arith, all .some, stretches.loads-long p (all .outlined .lawful))))
+
   -- ---- the root's state
-  module _ (b : Best)
-      (eb : greatestOf b ≡ argmax (λ s. guard (hasMark (p .tables .book .starts .0) (suc s)) (heldBranch (shapeOf p) w 1 (suc s) (p .tables .budget))) (p .tables .book .states)) where
+  module _ (b : Best) (eb : greatestOf b ≡ rootBest (shapeOf p) w (p .tables .budget)) where
     start-best : greatestOf b ≡ startBest (bookFor p) (itemsFor p) (loadsFor p) (p .tables .budget)
-    unfolding bookOf
-    start-best =
-        eb
-        ∙ argmax-agree _ _ (p .tables .book .states)
-        (λ s m. ap (guard (hasMark (p .tables .book .starts .0) (suc s))) (branch-held 1 (suc s) (p .tables .budget) (omega arith) (all .some) (omega arith) m (le-refl _)))
+    start-best = eb ∙ root-best (p .tables .budget) (le-refl _)
 
     pub start-index : b .index ≡ startBest (bookFor p) (itemsFor p) (loadsFor p) (p .tables .budget) .index
     start-index = ap (λ (g : Greatest). g .index) start-best
 
     pub start-value : b .value ≡ bestFor p
-    start-value =
-        ap (λ (g : Greatest). g .value) start-best
-        ∙ sym (tree-cell (bookFor p) (itemsFor p) (loadsFor p) (p .tables .budget) (omega (arith, all .some, stretches.loads-long p (all .outlined .lawful))))
+    start-value = ap (λ (g : Greatest). g .value) eb ∙ root-cell (p .tables .budget) (le-refl _)
 
     module _ (found : b .value ≡ 0 → ⊥) where
       pub start-pos : 0 < startBest (bookFor p) (itemsFor p) (loadsFor p) (p .tables .budget) .value

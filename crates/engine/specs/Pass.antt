@@ -27,9 +27,12 @@ use Rattle.engine.specs.declared.choice.Choice.{Choice}
 use Rattle.runs.specs.Runs.{runOf, withEntry}
 use Rattle.engine.specs.Parts.{loadBest, loadRule, belowLeft, rowBest, rowRule, shareBest, BranchPart, RowPart}
 
--- the best cell and the entries of a problem
+-- the best cell of a problem at an allowance, that at its budget, and its entries
+abbrev pub bestAt : Problem → (c : ℕ) → ℕ
+bestAt p c = bestTree (bookFor p) (tree (itemsFor p) (loadsFor p)) c
+
 abbrev pub bestFor : Problem → ℕ
-bestFor p = bestTree (bookFor p) (tree (itemsFor p) (loadsFor p)) (p .tables .budget)
+bestFor p = bestAt p (p .tables .budget)
 
 abbrev pub entriesFor : Problem → List Entry
 entriesFor p = chooseTree (bookFor p) (tree (itemsFor p) (loadsFor p)) (p .tables .budget)

@@ -5,7 +5,8 @@ use Prim.Native.Nat.{ℕ, suc, _-_, _≤_, _<_}
 use mathlib.Core.Path.{_≡_}
 use mathlib.Core.Bool.{Bool, true, false}
 use mathlib.Core.List.{List}
-use Rattle.lists.specs.Argmax.{Greatest}
+use Rattle.lists.specs.Argmax.{guard, Greatest, argmax}
+use Rattle.marks.specs.Bits.{hasMark}
 use Rattle.tables.specs.declared.rule.Transition.{Transition}
 use Rattle.meaning.specs.Cell.{_⊕_, draw}
 use Rattle.meaning.specs.Best.{shares}
@@ -21,6 +22,10 @@ use Rattle.engine.specs.declared.choice.Choice.{Choice}
 
 abbrev pub greatestOf : Best → Greatest
 greatestOf b = record { value = b .value; index = b .index }
+
+-- the best of the root's cells at an allowance, and its start state, less 1
+abbrev pub rootBest : Shape → List ℕ → (c : ℕ) → Greatest
+rootBest sh w c = argmax (λ s. guard (hasMark (sh .starts .0) (suc s)) (heldBranch sh w 1 (suc s) c)) (sh .states)
 
 -- r is the first of the numbers below n at which f says the goal, or n
 pub record FirstAt (f : ℕ → ℕ) (goal n r : ℕ) : Type 0 where

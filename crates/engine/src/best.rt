@@ -4,10 +4,10 @@ use cells::problem::Shape;
 use cells::work::place;
 ghost use mathlib.Core.Path.{_≡_};
 ghost use Prim.Native.Nat.{suc, _≤_, _<_};
-ghost use Rattle.lists.specs.Argmax.{guard, argmax, improve};
+ghost use Rattle.lists.specs.Argmax.{guard, improve};
 ghost use Rattle.marks.specs.Bits.{hasMark};
 ghost use Rattle.cells.specs.Work.{cellLimit, Ready, heldBranch, heldRow};
-ghost use Rattle.engine.specs.Search.{greatestOf};
+ghost use Rattle.engine.specs.Search.{greatestOf, rootBest};
 
 // A greatest value, and the lowest number that has it. Where nothing exceeds 0, both are 0.
 pub struct Best {
@@ -73,7 +73,7 @@ fn start_at(sh: Shape, work: &[u32], s: usize, c: usize) -> u32
 pub(crate) fn best_start(sh: Shape, work: &[u32], c: usize) -> Best
     requires { ⌜ Ready sh (now work) ⌝ }
     requires { ⌜ (0 < sh .loads) × (c ≤ sh .budget) ⌝ }
-    ensures { λ r. ⌜ greatestOf r ≡ argmax (λ s. guard (hasMark (sh .starts .0) (suc s)) (heldBranch sh (now (work .entry)) 1 (suc s) c)) (sh .states) ⌝ }
+    ensures { λ r. ⌜ greatestOf r ≡ rootBest sh (now (work .entry)) c ⌝ }
 {
     let n = sh.states;
     let mut best = Best::NONE;

@@ -1,6 +1,7 @@
-// Planning and checking: the cells of a search are filled, the run is read back from them, and the cells are cleared.
+// Planning, checking and `need`: the cells of a search are filled, the run or the least budget is read from them, and the cells are cleared.
 mod best;
 mod choice;
 pub mod figures;
+pub mod need;
 mod pass;
 pub mod plan;

@@ -4,6 +4,7 @@ use cells::fill::fill;
 use cells::outline::OUTLINE;
 use cells::outline::put_outline;
 use cells::problem::Problem;
+use cells::problem::Shape;
 use cells::problem::check_problem;
 use cells::problem::plan_problem;
 use cells::problem::shape_of;
@@ -25,11 +26,27 @@ ghost use Rattle.marks.specs.Sets.{markIn};
 ghost use Rattle.runs.specs.Outcome.{found, storedOutcome};
 ghost use Rattle.meaning.specs.Cells.{cellsOf};
 ghost use Rattle.cells.specs.Problem.{shapeOf, Lawful};
+ghost use Rattle.cells.specs.Outline.{outlineSize};
 ghost use Rattle.cells.specs.Work.{cellsNeeded};
-ghost use Rattle.engine.specs.Pass.{answerTo};
+ghost use Rattle.engine.specs.Pass.{answerTo, Complete};
 
 // The cells of a check: every load with 8 states and 8 stages, one allowance.
 const CHECK_CELLS: usize = MAX_LOADS * 16;
+
+// The cells of a problem are filled, over the outline that is written for it. Its shape is that of both.
+pub(crate) fn fill_cells(p: Problem, outline: &mut [u16], work: &mut [u32]) -> Shape
+    requires { ⌜ Lawful p × (now outline ≡ replicate outlineSize 0) ⌝ }
+    requires { ⌜ (0 < p .tables .loads .count) × (cellsNeeded (shapeOf p) ≤ length (now work)) ⌝ }
+    ensures shape { λ r. ⌜ r ≡ shapeOf p ⌝ }
+    ensures filled { λ r. ⌜ Complete p r (now (outline .exit)) (now (work .exit)) ⌝ }
+    ensures rest { λ _. ⌜ drop (cellsNeeded (shapeOf p)) (now (work .exit)) ≡ drop (cellsNeeded (shapeOf p)) (now (work .entry)) ⌝ }
+{
+    let sh = shape_of(p);
+    put_outline(&mut *outline, p);
+    let n = cells_needed(sh);
+    fill(sh, &outline[..], work, 0, n);
+    sh
+}
 
 // A problem is searched: its cells are filled, the run is read back from them, and they are cleared.
 fn search(p: Problem, work: &mut [u32]) -> StoredOutcome
@@ -38,12 +55,10 @@ fn search(p: Problem, work: &mut [u32]) -> StoredOutcome
     ensures answer { λ r. ⌜ r ≡ answerTo p ⌝ }
     ensures cleared { λ _. ⌜ now (work .exit) ≡ replicate (cellsNeeded (shapeOf p)) 0 ++ drop (cellsNeeded (shapeOf p)) (now (work .entry)) ⌝ }
 {
-    let sh = shape_of(p);
-    let n = cells_needed(sh);
     let mut outline = [0u16; OUTLINE];
-    put_outline(&mut outline[..], p);
-    fill(sh, &outline[..], &mut *work, 0, n);
+    let sh = fill_cells(p, &mut outline[..], &mut *work);
     let found = trace(sh, &outline[..], &work[..]);
+    let n = cells_needed(sh);
     clear(work, n);
     found
 }

@@ -8,7 +8,7 @@ use lib.ListN.{length, length-append}
 use Rattle.lists.specs.Each.{none, more}
 use Rattle.tables.specs.declared.entry.Entry.{Entry}
 use Rattle.lines.specs.Text.{comma, lineFeed, decimal, field}
-use Rattle.lines.specs.Answers.{yes, refused, planLine, entryLine, entryLines, freeBytes, Ranged, AllRanged}
+use Rattle.lines.specs.Answers.{yes, refused, planLine, needLine, entryLine, entryLines, freeBytes, Ranged, AllRanged}
 use Rattle.lines.proofs.Decimal.{decimal-length}
 
 pub field-length : (n after : ℕ) → length (field n after) ≡ length (decimal n) + 1
@@ -18,6 +18,10 @@ field-length n after = length-append (decimal n) (after ∷ [])
 pub refused-length : (n : ℕ) → length (refused n) ≡ 3 + length (field n lineFeed)
 unfolding refused
 refused-length n = simp length-append
+
+pub need-length : (b : ℕ) → length (needLine b) ≡ 5 + length (field b lineFeed)
+unfolding needLine
+need-length b = simp length-append
 
 pub plan-length : (v w n : ℕ) → length (planLine v w n) ≡ 5 + length (field v comma) + length (field w comma) + length (field n lineFeed)
 unfolding planLine
@@ -71,3 +75,6 @@ module _ (ls : List Entry) (r : AllRanged ls) (few : 14 * length ls + 23 ≤ fre
 
 pub refused-fits : (n : ℕ) → n < 100 → length (refused n) ≤ freeBytes
 refused-fits n h = omega (arith, refused-length n, field-fits 2 n lineFeed (lit≤ tt) h)
+
+pub need-fits : (b : ℕ) → b < 1000 → length (needLine b) ≤ freeBytes
+need-fits b h = omega (arith, need-length b, field-fits 3 b lineFeed (lit≤ tt) h)

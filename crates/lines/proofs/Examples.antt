@@ -13,12 +13,12 @@ use Rattle.marks.specs.Bits.{withMark}
 use Rattle.marks.specs.Sets.{joined}
 use Rattle.lines.specs.declared.SaveForm.the-variants.{Kinds, Plain}
 use Rattle.lines.specs.declared.Command.{Command}
-use Rattle.lines.specs.declared.Command.the-variants.{Change, Plan, Check, Save, Broken}
+use Rattle.lines.specs.declared.Command.the-variants.{Change, Plan, Check, Save, Last, Need, Broken}
 use Rattle.lines.specs.declared.Change.the-variants.{Clear, Book, Start, End, Rule, Row, Load, Power, Worth, Budget, Drop}
 use Rattle.lines.specs.Text.{bytes, same, decimalTo, decimal, field}
 use Rattle.lines.specs.Length.{tooLong}
 use Rattle.lines.specs.Grammar.{fields, isNumber, valueFrom, isBits, joinedFrom, findForm, parse}
-use Rattle.lines.specs.Answers.{refused, planLine, entryLine}
+use Rattle.lines.specs.Answers.{refused, planLine, needLine, entryLine}
 use Rattle.lines.specs.Padding.{unpadded, padded, OnlyZeros}
 use Rattle.lines.specs.Input.{lines, feed, feedAll}
 use Rattle.lines.specs.Shown.{entryIn, entriesIn, shown}
@@ -31,8 +31,8 @@ session : map reads ("book,2,2" ∷ "start,1" ∷ "end,2" ∷ "rule,1,0,2" ∷ "
 unfolding same fields isNumber valueFrom isBits joinedFrom findForm parse every withMark joined
 session = refl
 
-others : map reads ("clear" ∷ "power,64,99999" ∷ "worth,0,1000" ∷ "check,1" ∷ "save" ∷ "save1" ∷ "drop,3" ∷ "drop,00000" ∷ [])
-    ≡ Change Clear ∷ Change (Power 64 99999) ∷ Change (Worth 0 1000) ∷ Check (record { 0 = 1 }) 1 ∷ Save Kinds ∷ Save Plain ∷ Change (Drop 3) ∷ Change (Drop 0) ∷ []
+others : map reads ("clear" ∷ "power,64,99999" ∷ "worth,0,1000" ∷ "check,1" ∷ "save" ∷ "save1" ∷ "drop,3" ∷ "drop,00000" ∷ "last" ∷ "need,70" ∷ "need,00070" ∷ "need,99999" ∷ [])
+    ≡ Change Clear ∷ Change (Power 64 99999) ∷ Change (Worth 0 1000) ∷ Check (record { 0 = 1 }) 1 ∷ Save Kinds ∷ Save Plain ∷ Change (Drop 3) ∷ Change (Drop 0) ∷ Last ∷ Need 70 ∷ Need 70 ∷ Need 99999 ∷ []
 unfolding same fields isNumber valueFrom isBits joinedFrom findForm parse every withMark joined
 others = refl
 
@@ -64,7 +64,8 @@ unsound =
     ∷ "budget" ∷ "budget," ∷ "budget,100000" ∷ "budget,000000" ∷ "budget,000001" ∷ "budget,-1" ∷ "budget,+1" ∷ "budget,1.0" ∷ "budget,1a" ∷ "budget, 1"
     ∷ "budget,1 " ∷ "budget,501," ∷ "budget,1,2" ∷ "book,1" ∷ "book,1,2,3" ∷ "book,,2" ∷ "load,0,501,x" ∷ "load,0,1" ∷ "load,0,1,1," ∷ "load,0,1,1,0,0" ∷ "load,0,1,1,000000"
     ∷ "rule,1,0" ∷ "rule,1,0,1," ∷ "rule,1,0,1,," ∷ "rule,1,0,1,0,0" ∷ "row,1,1,1,0" ∷ "row,1,1,1," ∷ "save1," ∷ "save1,0" ∷ "save2" ∷ "save01" ∷ "save 1"
-    ∷ "drop" ∷ "drop," ∷ "drop,1,2" ∷ "drop,-1" ∷ "drop,100000" ∷ "Drop,1" ∷ "drops,1" ∷ "dro,1" ∷ "check" ∷ "check," ∷ "check,012" ∷ "check,0,1" ∷ "check,01," ∷ "check,,01" ∷ []
+    ∷ "drop" ∷ "drop," ∷ "drop,1,2" ∷ "drop,-1" ∷ "drop,100000" ∷ "Drop,1" ∷ "drops,1" ∷ "dro,1"
+    ∷ "need" ∷ "need," ∷ "need,1,2" ∷ "need,-1" ∷ "need,000001" ∷ "Need,1" ∷ "needs,1" ∷ "nee,1" ∷ "last," ∷ "last,1" ∷ "check" ∷ "check," ∷ "check,012" ∷ "check,0,1" ∷ "check,01," ∷ "check,,01" ∷ []
 
 all-broken : map reads unsound ≡ replicate (length unsound) Broken
 unfolding unsound same fields isNumber valueFrom isBits joinedFrom findForm parse every withMark joined
@@ -85,8 +86,8 @@ eighty : map tooLong ((bytes "check," ++ replicate 74 49) ∷ (bytes "check," ++
 eighty = refl
 
 -- ---- answers
-printed : planLine 70 30 3 ++ entryLine (record { number = 1; mark = 1; state = 1; rule = 2; row = 0 }) ++ entryLine (record { number = 4; mark = 0; state = 1; rule = 1; row = 1 }) ++ refused 10 ≡ bytes "plan,70,30,3\n1,1,1,2,0\n4,0,1,1,1\nno,10\n"
-unfolding planLine entryLine refused field decimal decimalTo
+printed : planLine 70 30 3 ++ entryLine (record { number = 1; mark = 1; state = 1; rule = 2; row = 0 }) ++ entryLine (record { number = 4; mark = 0; state = 1; rule = 1; row = 1 }) ++ refused 10 ++ needLine 30 ≡ bytes "plan,70,30,3\n1,1,1,2,0\n4,0,1,1,1\nno,10\nneed,30\n"
+unfolding planLine entryLine refused needLine field decimal decimalTo
 printed = refl
 
 -- the loads on are those printed with mark 1

@@ -14,7 +14,7 @@ use Rattle.lists.proofs.Bools.{and-left, and-right}
 use Rattle.marks.specs.declared.LoadSet.{LoadSet}
 use Rattle.marks.specs.Sets.{setWidth}
 use Rattle.lines.specs.declared.Command.{Command}
-use Rattle.lines.specs.declared.Command.the-variants.{Change, Plan, Check, Save, Last, Broken, TooLong}
+use Rattle.lines.specs.declared.Command.the-variants.{Change, Plan, Check, Save, Last, Need, Broken, TooLong}
 use Rattle.lines.specs.Text.{comma, same}
 use Rattle.lines.specs.Length.{mostBytes, tooLong}
 use Rattle.lines.specs.Grammar.{onFirst, fields, mostDigits, isDigit, isNumber, isBits, loadsOf, Form, numbers, bits, table, findForm, command, parse}
@@ -139,6 +139,7 @@ withNumbers Plan = true
 withNumbers (Check σ n) = false
 withNumbers (Save f) = true
 withNumbers Last = true
+withNumbers (Need v) = true
 withNumbers Broken = false
 withNumbers TooLong = false
 

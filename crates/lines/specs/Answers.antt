@@ -8,7 +8,7 @@ use Rattle.lists.specs.Each.{Each}
 use Rattle.tables.specs.declared.entry.Entry.{Entry}
 use Rattle.tables.specs.Limits.{maxStates, maxRules}
 use Rattle.lines.specs.declared.answer.Answer.{Answer}
-use Rattle.lines.specs.declared.answer.Answer.the-variants.{Accepted, Planned, Allowed, Saved, Refused}
+use Rattle.lines.specs.declared.answer.Answer.the-variants.{Accepted, Planned, Allowed, Saved, Needed, Refused}
 use Rattle.lines.specs.declared.Change.{Change}
 use Rattle.lines.specs.Text.{bytes, comma, lineFeed, field}
 use Rattle.lines.specs.Saved.{changesText}
@@ -29,6 +29,10 @@ refused n = bytes "no," ++ field n lineFeed
 unfoldable pub planLine : (worth power n : ℕ) → List ℕ
 planLine v w n = bytes "plan," ++ field v comma ++ field w comma ++ field n lineFeed
 
+-- "`need,v` prints `need,b`" of request Nine of paper 02
+unfoldable pub needLine : (budget : ℕ) → List ℕ
+needLine b = bytes "need," ++ field b lineFeed
+
 -- "and then for each load `number,mark,state,load rule,row rule`"
 unfoldable pub entryLine : Entry → List ℕ
 entryLine e = field (e .number) comma ++ field (e .mark) comma ++ field (e .state) comma ++ field (e .rule) comma ++ field (e .row) lineFeed
@@ -43,6 +47,7 @@ numberOf Accepted = 0
 numberOf (Planned v w n) = 0
 numberOf Allowed = 0
 numberOf (Saved f) = 0
+numberOf (Needed b) = 0
 numberOf (Refused n) = n
 
 -- its text: with the lines of the run beside it, or of the changes that a save writes
@@ -51,6 +56,7 @@ textOf Accepted es cs = ok
 textOf (Planned v w n) es cs = planLine v w n ++ entryLines es
 textOf Allowed es cs = yes ++ entryLines es
 textOf (Saved f) es cs = changesText f cs
+textOf (Needed b) es cs = needLine b
 textOf (Refused n) es cs = refused n
 
 -- the answer of a change with this number

@@ -1,4 +1,4 @@
--- The commands, and how a line is read: paper 01, "Lines", with `save`, `drop`, `last` and `save1` of requests Two, Three, Five and Eight of paper 02. `parse` gives every
+-- The commands, and how a line is read: paper 01, "Lines", with `save`, `drop`, `last`, `save1` and `need` of requests Two, Three, Five, Eight and Nine of paper 02. `parse` gives every
 -- line of bytes its command, and `Broken` to each that is "no command of the table, wrong field count or form". The length of a line is judged
 -- apart (`Length`), and first: `lineCommand`. `lineOf` gives every change its line, in each form of a save. Assumes nothing.
 use Prim.Native.Nat.{ℕ, suc, _+_, _-_, _*_}
@@ -12,7 +12,7 @@ use Rattle.lists.specs.Tests.{pick, every}
 use Rattle.marks.specs.declared.LoadSet.{LoadSet}
 use Rattle.marks.specs.Sets.{noLoads, joined}
 use Rattle.lines.specs.declared.Command.{Command}
-use Rattle.lines.specs.declared.Command.the-variants.{Change, Plan, Check, Save, Last, Broken, TooLong}
+use Rattle.lines.specs.declared.Command.the-variants.{Change, Plan, Check, Save, Last, Need, Broken, TooLong}
 use Rattle.lines.specs.declared.SaveForm.{SaveForm}
 use Rattle.lines.specs.declared.SaveForm.the-variants.{Kinds, Plain}
 use Rattle.lines.specs.declared.Change as change
@@ -91,6 +91,7 @@ table =
     ∷ numbers (bytes "save1") 0 (λ n. Save Plain)
     ∷ numbers (bytes "drop") 1 (λ n. Change (Drop (n 1)))
     ∷ numbers (bytes "last") 0 (λ n. Last)
+    ∷ numbers (bytes "need") 1 (λ n. Need (n 1))
     ∷ []
 
 -- has a line with this word and these fields the form?

@@ -9,6 +9,7 @@ pub enum Answer {
     Planned { worth: u32, power: u32, on: u32 },
     Allowed,
     Saved { form: SaveForm },
+    Needed { budget: u32 },
     Refused { number: u8 },
 }
 
@@ -36,6 +37,7 @@ impl Answer {
             } => 0,
             Answer::Allowed => 0,
             Answer::Saved { form: _ } => 0,
+            Answer::Needed { budget: _ } => 0,
             Answer::Refused { number } => number,
         }
     }

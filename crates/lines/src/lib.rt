@@ -60,6 +60,8 @@ pub enum Command {
     Check { set: LoadSet, count: usize },
     Save(SaveForm),
     Last,
+    // A worth.
+    Need(u32),
     Broken,
     TooLong,
 }

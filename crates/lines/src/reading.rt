@@ -19,7 +19,7 @@ const MOST_DIGITS: u32 = 5;
 
 // The rows of the table with numbers, each as one number: the bytes of its word in base 256 after a 1, and as one byte more the count of
 // its numbers.
-const ROWS: [u64; 17] = [
+const ROWS: [u64; 18] = [
     0x1_636c656172_00, // clear
     0x1_626f6f6b_02, // book
     0x1_7374617274_01, // start
@@ -37,6 +37,7 @@ const ROWS: [u64; 17] = [
     0x1_7361766531_00, // save1
     0x1_64726f70_01, // drop
     0x1_6c617374_00, // last
+    0x1_6e656564_01, // need
 ];
 
 // The word before bits.
@@ -235,6 +236,7 @@ fn command_of(row: usize, v: [u32; MOST_NUMBERS]) -> Command
         14 => Command::Save(SaveForm::Plain),
         15 => Command::Change(Change::Drop(a)),
         16 => Command::Last,
+        17 => Command::Need(a),
         _ => Command::Broken,
     }
 }

@@ -11,7 +11,7 @@ ghost use lib.ListN.{length, take};
 ghost use Rattle.lines.specs.Text.{comma, lineFeed, decimal, field};
 ghost use Rattle.lines.specs.Reading.{mostNumbers};
 ghost use Rattle.lines.specs.Written.{line};
-ghost use Rattle.lines.specs.Answers.{Wrote, ok, yes, refused, planLine, entryLine};
+ghost use Rattle.lines.specs.Answers.{Wrote, ok, yes, refused, planLine, needLine, entryLine};
 
 // One byte.
 pub fn put(out: &mut [u8], at: usize, b: u8) -> usize
@@ -90,6 +90,15 @@ pub fn write_plan(out: &mut [u8], at: usize, worth: u32, power: u32, n: u32) -> 
     let b = put_field(&mut *out, a, worth, COMMA);
     let c = put_field(&mut *out, b, power, COMMA);
     put_field(&mut *out, c, n, LINE_FEED)
+}
+
+// The answer to a need: the least budget.
+pub fn write_need(out: &mut [u8], at: usize, budget: u32) -> usize
+    requires { ⌜ at + length (needLine budget) ≤ length (now out) ⌝ }
+    ensures { λ r. ⌜ Wrote (now (out .entry)) (now (out .exit)) at r (needLine budget) ⌝ }
+{
+    let next = put_text(&mut *out, at, b"need,");
+    put_field(&mut *out, next, budget, LINE_FEED)
 }
 
 // The line of one load.

@@ -10,7 +10,7 @@ use native.Mathlib.Omega.{arith}
 use borrow.Author.Tests.{not-true}
 use lib.ListN.{length, take, drop, getD, set, length-drop}
 use lib.Seq.{getD-drop}
-use Rattle.lists.specs.Tests.{some, every, everyFrom, distinct, allBelow}
+use Rattle.lists.specs.Tests.{pick, some, every, everyFrom, distinct, firstFrom, allBelow}
 use Rattle.lists.specs.Arrays.{rest}
 use Rattle.lists.proofs.Bools.{and-true, and-left, and-right, and-false, or-left, or-right}
 use Rattle.lists.proofs.Arrays.{rest-end, rest-past, rest-cons}
@@ -220,3 +220,42 @@ pub none-drop : {A : Type 0} (p : A → Bool) (xs : List A) → some p xs ≡ fa
 none-drop p xs h zero = h
 none-drop p [] h (suc j) = h
 none-drop p (x ∷ xs) h (suc j) = none-drop p xs (none-first p x xs h .1) j
+
+-- ---- the first number that passes a test
+-- what it is: of the n numbers from k on those before it do not pass, and it passes where it is one of them
+pub record First (p : ℕ → Bool) (k n r : ℕ) : Type 0 where
+  pub low : k ≤ r
+  pub high : r ≤ k + n
+  pub passed : (m : ℕ) → k ≤ m → m < r → p m ≡ false
+  pub found : r < k + n → p r ≡ true
+
+pub first-is : (p : ℕ → Bool) (k n : ℕ) → First p k n (firstFrom p k n)
+unfolding firstFrom
+first-is p k zero = record { low = omega arith; high = omega arith; passed = λ m l h. absurd (omega arith); found = λ h. absurd (omega arith) }
+first-is p k (suc n) = go (p k) refl (first-is p (suc k) n)
+  where
+    go : (b : Bool) → p k ≡ b → First p (suc k) n (firstFrom p (suc k) n) → First p k (suc n) (pick b k (firstFrom p (suc k) n))
+    go true e f = record { low = omega arith; high = omega arith; passed = λ m l h. absurd (omega arith); found = λ h. e }
+    go false e f = record {
+      low = omega (arith, f .low);
+      high = omega (arith, f .high);
+      passed = λ m l h. ⊎-elim (λ q. ap p (sym q) ∙ e) (λ q. f .passed m q h) (eq-or-lt-of-le l);
+      found = λ h. f .found (omega arith);
+    }
+
+-- a loop that looks for it: it is here, or among the numbers after this one
+pub first-here : (p : ℕ → Bool) (k n : ℕ) → p k ≡ true → firstFrom p k n ≡ k
+unfolding firstFrom
+first-here p k zero e = refl
+first-here p k (suc n) e = rw e
+
+pub first-later : (p : ℕ → Bool) (k n : ℕ) → 0 < n → p k ≡ false → firstFrom p k n ≡ firstFrom p (k + 1) (n - 1)
+unfolding firstFrom
+first-later p k zero l e = absurd (omega arith)
+first-later p k (suc n) l e = let h : suc n - 1 ≡ n = omega arith in rw (e, add-one k, h)
+
+-- tests that agree on these numbers
+pub first-agree : (p q : ℕ → Bool) (k n : ℕ) → ((m : ℕ) → m < k + n → p m ≡ q m) → firstFrom p k n ≡ firstFrom q k n
+unfolding firstFrom
+first-agree p q k zero h = refl
+first-agree p q k (suc n) h = rw (h k (omega arith), first-agree p q (suc k) n (λ m l. h m (omega arith)))

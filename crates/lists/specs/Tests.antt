@@ -1,5 +1,5 @@
 -- Tests of lists and of the numbers below a limit, for any element type.
--- They stand for the words "each", "some", "no .. twice" of paper 01. Assumes nothing.
+-- They stand for the words "each", "some", "no .. twice" of paper 01, and "the least" of paper 02. Assumes nothing.
 use Prim.Native.Nat.{ℕ, zero, suc}
 use mathlib.Core.Bool.{Bool, true, false, _&&_, _||_, not}
 use mathlib.Core.List.{List, [], _∷_}
@@ -28,6 +28,11 @@ everyFrom p k (x ∷ xs) = p k x && everyFrom p (suc k) xs
 unfoldable pub distinct : {A : Type 0} → (A → A → Bool) → List A → Bool
 distinct r [] = true
 distinct r (x ∷ xs) = not (some (r x) xs) && distinct r xs
+
+-- the first of the n numbers from k on that passes the test; the one after them where none does
+unfoldable pub firstFrom : (ℕ → Bool) → (k n : ℕ) → ℕ
+firstFrom p k zero = k
+firstFrom p k (suc n) = pick (p k) k (firstFrom p (suc k) n)
 
 -- does every number below n pass the test?
 unfoldable pub allBelow : (ℕ → Bool) → ℕ → Bool

@@ -1,10 +1,13 @@
 -- What the search needs of cells.
 -- Assumes nothing.
-use Prim.Native.Nat.{ℕ, zero, suc, _+_, _-_, _≤_, _<_, zero-le}
+use Prim.Native.Nat.{ℕ, zero, suc, _+_, _-_, _*_, _≤_, _<_, zero-le}
 use mathlib.Core.Path.{_≡_, refl, _∙_}
 use native.Mathlib.Nat.{not-suc-le-zero}
 use native.Mathlib.Omega.{arith}
-use Rattle.meaning.specs.Cell.{cell, powerLimit, empty, _⊕_}
+use borrow.Author.Tests.{leb-true, ltb-true, le-leb, lt-ltb}
+use lib.Dec.{leb, ltb}
+use Rattle.lists.proofs.Bools.{same-test}
+use Rattle.meaning.specs.Cell.{cell, floor, powerLimit, empty, _⊕_}
 
 pub ⊕-mono : (x x′ y y′ : ℕ) → x ≤ x′ → y ≤ y′ → x ⊕ y ≤ x′ ⊕ y′
 unfolding _⊕_ cell
@@ -86,3 +89,10 @@ cell-le p v p′ v′ h h′ l = omega arith
 pub cell-cooler : (p v p′ v′ : ℕ) → p < powerLimit → v ≡ v′ → cell p v ≤ cell p′ v′ → p′ ≤ p
 unfolding cell
 cell-cooler p v p′ v′ h e l = omega arith
+
+-- a cell exceeds the floor of a worth exactly where its set is worth so much
+pub cell-below : (p w v : ℕ) → p < powerLimit → ltb w v ≡ leb (cell p w) (floor v)
+unfolding cell floor
+cell-below p w v h =
+    let c = w * powerLimit + powerLimit - p in
+    same-test (ltb w v) (leb c (v * powerLimit)) (λ e. le-leb c _ (omega (arith, ltb-true w v e))) (λ e. lt-ltb w v (omega (arith, leb-true c (v * powerLimit) e)))

@@ -1,5 +1,5 @@
--- The theorems on the definitions of specs/, from the ground up; Claims has what the demands rest on, Leaving what request Three does, Kindless what
--- request Eight does.
+-- The theorems on the definitions of specs/, from the ground up; Claims has what the demands rest on, Need what request Nine does, Leaving what
+-- request Three does, Kindless what request Eight does.
 pub mod Cell
 pub mod Tree
 pub mod Ordered
@@ -18,6 +18,7 @@ pub mod Bound
 pub mod Cells
 pub mod SameRows
 pub mod Claims
+pub mod Need
 pub mod Leaving
 pub mod Kindless
 pub mod Cases

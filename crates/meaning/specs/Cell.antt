@@ -14,6 +14,10 @@ powerLimit = 512
 unfoldable pub cell : (power worth : ℕ) → ℕ
 cell p v = v * powerLimit + powerLimit - p
 
+-- the cells of sets that are worth v or more, and of no others, exceed this
+unfoldable pub floor : (worth : ℕ) → ℕ
+floor v = v * powerLimit
+
 abbrev pub empty : ℕ
 empty = cell 0 0
 

@@ -1,6 +1,6 @@
 -- What the tables of paper 01 mean: runs, acceptance, the best set, the choice among equals, the check and the judge.
--- In the order of the papers; Claims has what is proved of them, Leaving what is of a tree that a load has left, Kindless what is of
--- tables with all kinds 0.
+-- In the order of the papers; Claims has what is proved of them, Need the least budget for a worth, Leaving what is proved of a tree that a load has
+-- left, Kindless what is of tables with all kinds 0.
 pub mod Forest
 pub mod Runs
 pub mod Acceptance
@@ -13,6 +13,7 @@ pub mod Judge
 pub mod Cells
 pub mod Agree
 pub mod Claims
+pub mod Need
 pub mod Leaving
 pub mod Kindless
 pub mod Cases

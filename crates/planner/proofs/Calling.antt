@@ -21,7 +21,7 @@ use Rattle.calls.specs.Printing.{text, workAfter}
 use Rattle.calls.specs.Calls.{Call, rowFor, numberFor, answerBy, handled, calledIf, called}
 use Rattle.calls.proofs.State.{places, kept-within, kept-stored}
 use Rattle.calls.proofs.Rows.{Right, line-right}
-use Rattle.calls.proofs.Refusals.{past-one, after-number, unsearched-state}
+use Rattle.calls.proofs.Refusals.{past-one, after-number, refused-state}
 use Rattle.calls.proofs.Answers.{no-room, roomy, called-stored, answer-at}
 use Rattle.calls.proofs.Work.{unsearched}
 use Rattle.calls.proofs.Keeps.{text-fits}
@@ -61,7 +61,7 @@ module _ (p : Planner) (h : Lawful p) (c : Call) where
   unfolding text
   turned less =
       let one = numbered no.unusable (no-room (length (c .work)) (length (c .output)) (c .place) r less) in
-      let state = kept-stored (held p) h ∙ ap storedState (sym (unsearched-state (stateIn p) no.unusable r (omega arith) refl)) in
+      let state = kept-stored (held p) h ∙ ap storedState (sym (refused-state (stateIn p) no.unusable r (omega arith) refl)) in
       let work = sym (unsearched no.unusable r (c .work) refl) in
       (λ i. record { state = state i; reply = record { number = no.unusable; count = 0; output = c .output; work = work i } }) ∙ sym one
 

@@ -24,6 +24,7 @@ use Rattle.calls.specs.Padding.{SameCalls, SameTreatment}
 use Rattle.calls.specs.Saves.{SaveCall, SaveRight, linesOf, AllFree, Restored}
 use Rattle.calls.specs.Drops.{DropCall, Dropped}
 use Rattle.calls.specs.Last.{LastCall, StoredShown}
+use Rattle.calls.specs.Need.{NeedCall, NeedRight}
 use Rattle.calls.proofs.State.{kept-within}
 use Rattle.calls.proofs.Demand1 as paper1
 use Rattle.calls.proofs.Demand2.{check-right}
@@ -33,6 +34,7 @@ use Rattle.calls.proofs.Padding.{same-treatment}
 use Rattle.calls.proofs.Saves.{save-right, restores}
 use Rattle.calls.proofs.Drops.{drops}
 use Rattle.calls.proofs.Last.{last-stored}
+use Rattle.calls.proofs.Need.{need-called}
 use Rattle.planner.specs.declared.Planner.{Planner}
 use Rattle.judge.specs.declared.Verdict.{Verdict}
 use Rattle.planner.specs.Planner.{held, stateIn, fresh, Lawful}
@@ -58,7 +60,7 @@ demand2-plan p h c k d is =
 
 -- demand 3: after every list of calls from a fresh planner it holds exactly the state that the accepted lines built, and every plan is the
 -- paper's for it: the lowest run of a best set. Request Five: beside the tables it holds the outcome of the latest plan, if no line since printed
--- `ok`, else none, and every `last` shows it as `plan` would print it there
+-- `ok`, else none, and every `last` shows it as `plan` would print it there. Request Nine: every `need` gives the least budget for its worth
 pub demand3 : (xs : List Exchange) → History (held fresh) xs → Demand3 maxLoads xs
 demand3 = paper3.demand3 maxLoads (lit≤ tt)
 
@@ -105,3 +107,8 @@ rows p q = rows-agree (p .tables) (q .tables)
 -- the tables without kinds
 pub kindless : (p : Planner) → hasKinds (stateIn p .tables) ≡ false → AsBefore (stateIn p .tables)
 kindless p = as-before (stateIn p .tables)
+
+-- request Nine, of a planner within the limits: a `need,v` with output and work as counted gives the least budget whose plan has worth v or more, or 9 or
+-- 15 exactly in their cases, and leaves the planner as it was. (Every `need` after a list of lines from a fresh planner stands in demand 3.)
+pub need : (p : Planner) → Lawful p → (v : ℕ) (c : Call) → NeedCall (stateIn p .tables) v c → (d : Done) → d ≡ called (held p) c → NeedRight (stateIn p .tables) v (held p) c d
+need p h v c k d is = subst (NeedRight (stateIn p .tables) v (held p) c) (sym is) (need-called (held p) h v c k)

@@ -3,6 +3,7 @@ pub mod Commands
 pub mod RunLines
 pub mod Writing
 pub mod Searching
+pub mod Budgets
 pub mod Deciding
 pub mod Calling
 pub mod Judging

@@ -5,7 +5,9 @@ use mathlib.Core.Bool.{true, false}
 use mathlib.Core.List.{List, [], _∷_}
 use native.Mathlib.Omega.{arith}
 use borrow.Author.Tests.{eq-eqb, ne-eqb, lt-ltb, le-ltb}
+use lib.Dec.{eqb}
 use lib.ListN.{length}
+use Rattle.lists.proofs.Bools.{or-left}
 use Rattle.marks.specs.declared.LoadSet.{LoadSet}
 use Rattle.marks.specs.Sets.{sizeOf, markIn}
 use Rattle.lines.specs.declared.Command.the-variants.{Plan, Check, Last}
@@ -23,20 +25,21 @@ use Rattle.tables.specs.declared.entry.Entry.{Entry}
 use Rattle.meaning.specs.Choice.{planEntries, checkEntries, shownSet}
 use Rattle.meaning.specs.Claims.{EachLoad}
 use Rattle.meaning.specs.Cells.{cellsOf}
+use Rattle.meaning.specs.Need.{noneFits}
 use Rattle.runs.specs.declared.run.Run.{Run}
 use Rattle.runs.specs.declared.outcome.StoredOutcome.{StoredOutcome}
 use Rattle.runs.specs.Runs.{runOf, entriesTo}
 use Rattle.runs.specs.Outcome.{Outcome, planned, isNothing, isNoSet, entriesOf, found, storedOutcome, ofStatus, outcomeOf, rangeOf, outcomeIn}
 use Rattle.runs.proofs.Stored.{lines-in, outcome-stored}
 use Rattle.calls.specs.State.{State, StoredState, storedState}
-use Rattle.calls.specs.Rows.{_if_, Row, showingPlan, noneFits, notAllowed, row, causesOf, cellsFor}
+use Rattle.calls.specs.Rows.{_if_, Row, showingPlan, notAllowed, row, causesOf, cellsFor}
 use Rattle.calls.specs.Causes.{lowest}
 use Rattle.calls.specs.Effects.{stateBy}
-use Rattle.calls.specs.Printing.{zeroed, searched}
+use Rattle.calls.specs.Printing.{zeroed, hasOutcome, searched}
 use Rattle.calls.proofs.State.{few-loads, kept-within, kept-stored}
 use Rattle.calls.proofs.Work.{unsearched, row-zeroed}
 use Rattle.calls.proofs.Fits.{plan-in}
-use Rattle.calls.proofs.Refusals.{unsearched-state}
+use Rattle.calls.proofs.Refusals.{refused-state}
 use Rattle.cells.specs.Problem.{planProblem, shapeOf}
 use Rattle.cells.specs.Work.{cellsNeeded}
 use Rattle.engine.proofs.Answers.{lines-set, lines-size}
@@ -103,10 +106,10 @@ module _ (s : StoredTables) (h : Holds maxLoads s) where
   cells-needed = ap (λ (n : ℕ). n * (s .book .states + s .book .stages) * (s .budget + 1)) (tables-count s h)
 
 module _ (p : Planner) (h : Lawful p) where
-  is-held : p ≡ plannerOf (storedState (stateIn p))
+  pub is-held : p ≡ plannerOf (storedState (stateIn p))
   is-held = ap plannerOf (kept-stored (held p) h)
 
-  -- refused, where the state is as it was, and so where nothing was searched
+  -- refused, where the state is as it was, and so with a number that is no outcome's
   pub refuses-so : (r : Row) (n k : ℕ) {d : Decided} → 0 < k → stateBy (stateIn p) k r ≡ stateIn p → d ≡ unshown (Refused k) p → n ≡ k → d ≡ decidedBy (stateIn p) n r
   unfolding decidedBy
   refuses-so r n zero l same is e = absurd (omega arith)
@@ -114,14 +117,14 @@ module _ (p : Planner) (h : Lawful p) where
       let left = is-held ∙ ap (λ (x : State). plannerOf (storedState x)) (sym same) in
       is ∙ rw e (λ i. record { answer = Refused (suc m); run = runOf []; planner = left i })
 
-  pub refuses : (r : Row) (n k : ℕ) {d : Decided} → 0 < k → searched k ≡ false → d ≡ unshown (Refused k) p → n ≡ k → d ≡ decidedBy (stateIn p) n r
-  refuses r n k l e = refuses-so r n k l (unsearched-state (stateIn p) k r l e)
+  pub refuses : (r : Row) (n k : ℕ) {d : Decided} → 0 < k → hasOutcome k ≡ false → d ≡ unshown (Refused k) p → n ≡ k → d ≡ decidedBy (stateIn p) n r
+  refuses r n k l e = refuses-so r n k l (refused-state (stateIn p) k r l e)
 
-  -- the work is as it was too
+  -- and where nothing was searched the work is as it was too
   pub turns-down : (r : Row) (k : ℕ) (w : List ℕ) {d : Decided} → 0 < k → searched k ≡ false → d ≡ unshown (Refused k) p
       → lowest (causesOf (length w) r) ≡ k → Decides (stateIn p) r w w d
   turns-down r k w l e is n = record {
-    answer = refuses r (lowest (causesOf (length w) r)) k l e is n;
+    answer = refuses r (lowest (causesOf (length w) r)) k l (or-left (hasOutcome k) (eqb k no.tooPoor) e) is n;
     work = sym (unsearched _ r w (ap (λ (d : Decided). searched (numberOf (d .answer))) is ∙ e));
   }
 

@@ -1,6 +1,7 @@
 -- What a row is answered, the run that it shows and the planner after it.
 -- It stands for "An accepted change prints `ok`. A plan prints .. An allowed check prints `yes` and the same load lines." of paper 01, and for "14,
--- `save1` while some load or load rule has a kind other than 0" of request Eight of paper 02.
+-- `save1` while some load or load rule has a kind other than 0" and "15, the plan at the budget in force has worth below v" of requests Eight and Nine
+-- of paper 02.
 -- Assumes nothing.
 use Prim.Native.Nat.{ℕ}
 use mathlib.Core.Path.{_≡_}
@@ -10,7 +11,7 @@ use lib.ListN.{length}
 use Rattle.lists.specs.Tests.{pick}
 use Rattle.lines.specs.declared.SaveForm.{SaveForm}
 use Rattle.lines.specs.declared.answer.Answer.{Answer}
-use Rattle.lines.specs.declared.answer.Answer.the-variants.{Saved, Refused}
+use Rattle.lines.specs.declared.answer.Answer.the-variants.{Saved, Needed, Refused}
 use Rattle.lines.specs.Saved.{loses}
 use Rattle.tables.specs.Refusals as no
 use Rattle.lines.specs.Answers.{numberOf}
@@ -20,6 +21,8 @@ use Rattle.calls.specs.Causes.{lowest}
 use Rattle.calls.specs.Effects.{stateBy}
 use Rattle.calls.specs.Printing.{shownBy, workAfter}
 use Rattle.runs.specs.Runs.{runOf}
+use Rattle.engine.specs.declared.need.Need.{Need}
+use Rattle.engine.specs.declared.need.Need.the-variants.{NoneFits, Poorer, Least}
 use Rattle.planner.specs.declared.Planner.{Planner}
 use Rattle.planner.specs.declared.search.Decided.{Decided}
 use Rattle.planner.specs.Planner.{plannerOf}
@@ -27,6 +30,12 @@ use Rattle.planner.specs.Planner.{plannerOf}
 -- what a save in a form is answered, where kinds are in use or not: 14 where a kind would be lost
 unfoldable pub saveAnswer : SaveForm → (inUse : Bool) → Answer
 saveAnswer f b = pick (loses f b) (Refused no.kindsInUse) (Saved f)
+
+-- what `need` is answered, by what the cells say
+unfoldable pub needAnswer : Need → Answer
+needAnswer NoneFits = Refused no.noneFits
+needAnswer Poorer = Refused no.tooPoor
+needAnswer (Least b) = Needed b
 
 -- an answer that shows no run
 abbrev pub unshown : Answer → Planner → Decided

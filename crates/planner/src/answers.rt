@@ -2,6 +2,7 @@
 use lines::answer::Answer;
 use lines::saving::write_save;
 use lines::writing::write_entry;
+use lines::writing::write_need;
 use lines::writing::write_no;
 use lines::writing::write_ok;
 use lines::writing::write_plan;
@@ -45,6 +46,7 @@ pub(crate) fn write_answer(out: &mut [u8], a: Answer, run: Run, tables: StoredTa
             write_run(&mut *out, at, run, n)
         }
         Answer::Saved { form } => write_save(out, form, tables),
+        Answer::Needed { budget } => write_need(out, 0, budget),
         Answer::Refused { number } => write_no(out, 0, number as u32),
     }
 }

@@ -46,6 +46,7 @@ fn bytes_for(c: Command) -> usize
         Command::Check { set: _, count: _ } => FREE_BYTES,
         Command::Save(_) => SAVE_BYTES,
         Command::Last => FREE_BYTES,
+        Command::Need(_) => FREE_BYTES,
         Command::Broken => FREE_BYTES,
         Command::TooLong => FREE_BYTES,
     }
@@ -94,6 +95,7 @@ impl Planner {
             Command::Check { set, count } => self.check(set, count),
             Command::Save(form) => unshown(save_answer(form, self.tables.has_kinds()), self),
             Command::Last => self.last(),
+            Command::Need(worth) => self.need(worth, work),
             Command::Broken => self.refused(BROKEN),
             Command::TooLong => self.refused(TOO_LONG),
         }
@@ -118,7 +120,8 @@ impl Planner {
         }
     }
 
-    // A line handed to a planner: the answer is written from a place in the output on, and a plan works in the lent cells.
+    // A line handed to a planner: the answer is written from a place in the output on, and `plan` and `need` work in the lent
+    // cells.
     pub fn call(self, line: &[u8], out: &mut [u8], place: usize, work: &mut [u32]) -> Called
         ensures { λ r. ⌜ doneOf r (now (out .exit)) (now (work .exit)) ≡ called (held self) (callOf (now (line .entry)) (now (out .entry)) place (now (work .entry))) ⌝ }
     {

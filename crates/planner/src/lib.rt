@@ -14,6 +14,7 @@ ghost use Rattle.planner.specs.Verdict.{judgedBy};
 mod answers;
 pub mod call;
 mod changes;
+mod need;
 mod search;
 
 // A planner. It goes in and comes back by value.

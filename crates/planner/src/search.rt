@@ -44,7 +44,7 @@ pub(crate) fn unshown(answer: Answer, planner: Planner) -> Decided
 }
 
 // How many cells a plan needs.
-fn cells_of(tables: StoredTables) -> usize
+pub(crate) fn cells_of(tables: StoredTables) -> usize
     requires { ⌜ Holds maxLoads tables ⌝ }
     ensures { λ r. ⌜ r ≡ cellsOf (tablesOf tables) ⌝ }
 {

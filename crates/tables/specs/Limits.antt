@@ -1,6 +1,6 @@
 -- The limits of "Loads and book" of paper 01, as one test of the tables. Each clause quotes its sentence.
 -- Assumes nothing.
-use Prim.Native.Nat.{ℕ, zero, suc}
+use Prim.Native.Nat.{ℕ, zero, suc, _*_}
 use mathlib.Core.Path.{_≡_}
 use mathlib.Core.Bool.{Bool, true, false, _&&_, _||_}
 use mathlib.Core.List.{List}
@@ -110,6 +110,10 @@ maxLoads = 64
 
 abbrev pub mostPlaces : ℕ
 mostPlaces = setWidth
+
+-- "v is 0 to 64,000" of request Nine of paper 02: no set of as many loads as there are places for is worth more
+abbrev pub needIn : (places : ℕ) → ℕ → Bool
+needIn n v = leb v (n * maxWorth)
 
 unfoldable pub loadsIn : (places : ℕ) → List Load → Bool
 loadsIn n ls = leb (length ls) n && everyFrom loadIn 1 ls

@@ -57,6 +57,10 @@ notAPage = 13
 abbrev pub kindsInUse : ℕ
 kindsInUse = 14
 
+-- request Nine: "15, the plan at the budget in force has worth below v"
+abbrev pub tooPoor : ℕ
+tooPoor = 15
+
 -- no refusal of a line has a greater number
 abbrev pub greatest : ℕ
-greatest = kindsInUse
+greatest = tooPoor

@@ -26,3 +26,5 @@ pub const NO_PLAN: u8 = 12;
 pub const NOT_A_PAGE: u8 = 13;
 
 pub const KINDS_IN_USE: u8 = 14;
+
+pub const TOO_POOR: u8 = 15;

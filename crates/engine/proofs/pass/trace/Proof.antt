@@ -5,28 +5,24 @@ use mathlib.Core.List.{List, []}
 use native.Mathlib.Nat.{le-refl}
 use native.Mathlib.Numerals.{add-one}
 use native.Mathlib.Omega.{arith}
-use borrow.Author.Needs.{needs}
 use Rattle.lists.specs.Arrays.{laid}
-use Rattle.lists.specs.Argmax.{guard, argmax}
-use Rattle.marks.specs.Bits.{hasMark}
 use Rattle.tables.specs.Limits.{maxStates, maxLoads}
 use Rattle.meaning.specs.Cell.{powerLimit}
 use Rattle.meaning.specs.Choice.{inOrder}
 use Rattle.cells.specs.declared.problem.Problem.{Problem}
 use Rattle.cells.specs.declared.problem.Shape.{Shape}
 use Rattle.cells.specs.Problem.{bookFor, loadsFor, itemsFor, shapeOf}
-use Rattle.cells.specs.Work.{heldBranch, branchFor}
+use Rattle.cells.specs.Work.{branchFor}
 use Rattle.cells.proofs.InRange.{outline-fits}
 use Rattle.cells.proofs.Stretches.{loads-long}
 use Rattle.runs.specs.declared.run.Run.{Run}
-use Rattle.runs.specs.declared.outcome.StoredOutcome.{StoredOutcome}
 use Rattle.runs.specs.Runs.{markAll, runOf}
 use Rattle.runs.specs.Outcome.{storedOutcome}
 use Rattle.runs.proofs.Stored.{found-none, found-some}
 use Rattle.engine.specs.declared.best.Best.{Best}
 use Rattle.engine.specs.declared.choice.Choice.{Choice}
 use Rattle.engine.specs.declared.pass.Pass.{Pass}
-use Rattle.engine.specs.Search.{greatestOf}
+use Rattle.engine.specs.Search.{greatestOf, rootBest}
 use Rattle.engine.specs.Parts.{startBest}
 use Rattle.engine.specs.Pass.{bestFor, entriesFor, answerTo, Complete, loadChoice, passedLoad, BranchEntered, Passed}
 use Rattle.engine.proofs.Parts.{root-part}
@@ -40,7 +36,7 @@ start = record { run = runOf []; rows = record { stages = laid 0 maxLoads []; le
 
 -- the best start state of an outline
 abbrev BestStart : Shape → List ℕ → Best → Type 0
-BestStart sh w b = greatestOf b ≡ argmax (λ s. guard (hasMark (sh .starts .0) (suc s)) (heldBranch sh w 1 (suc s) (sh .budget))) (sh .states)
+BestStart sh w b = greatestOf b ≡ rootBest sh w (sh .budget)
 
 -- whatever problem the outline is of
 module _ (p : Problem) (sh : Shape) (o w : List ℕ) (all : Complete p sh o w) (b : Best) (eb : BestStart sh w b) where

@@ -29,4 +29,5 @@ command-of-spec =
     (λ c. rw (c .match .keys15))
     (λ c. rw (c .match .keys16))
     (λ c. rw (c .match .keys17))
+    (λ c. rw (c .match .keys18))
     (λ c. command-rest _ _ (c .match .rest)))

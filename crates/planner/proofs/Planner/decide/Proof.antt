@@ -43,15 +43,18 @@ unfolding row
 returns-5 x = rw (x .before .enum-told2 .given .1) (works-in-none _ _ _ refl (x .last .ensures))
 
 returns-6 : tie.Need-returns-6
-unfolding row lowest
-returns-6 x =
-    let e = x .before .before .before .before in
-    let p = e .args .self in
-    rw (x .before .enum-told3 .given .1) (turns-down p (e .pre) (row (stateIn p) Broken) no.broken (e .args .work .now) (lit< tt) refl (x .refused .ensures) refl)
+returns-6 x = let n = x .before .before in rw (n .before .before .before .c4 .given .1) (n .need .ensures)
 
 returns-7 : tie.Need-returns-7
 unfolding row lowest
 returns-7 x =
+    let e = x .before .before .before .before in
+    let p = e .args .self in
+    rw (x .before .enum-told3 .given .1) (turns-down p (e .pre) (row (stateIn p) Broken) no.broken (e .args .work .now) (lit< tt) refl (x .refused .ensures) refl)
+
+returns-8 : tie.Need-returns-8
+unfolding row lowest
+returns-8 x =
     let e = x .before .before .before .before in
     let p = e .args .self in
     rw (x .before .enum-told4 .given .1) (turns-down p (e .pre) (row (stateIn p) TooLong) no.tooLong (e .args .work .now) (lit< tt) refl (x .refused2 .ensures) refl)
@@ -77,11 +80,15 @@ decide-spec =
     (λ c κs. search needs)
     (λ c. search needs)
     (λ c κs. search needs)
+    (λ c. search needs)
+    (λ c κs. search needs)
     returns
     (λ c. search needs)
     returns-2
     returns-3
     returns-4
     returns-5
+    (λ c. search needs)
     returns-6
-    returns-7)
+    returns-7
+    returns-8)

@@ -54,11 +54,17 @@ write-save-requires c κs =
     let e = k .before .before .before in
     (e .pre .0, rw (k .a2 .given .1) at (e .pre .1))
 
+write-need-requires : tie.Need-write-need-requires
+write-need-requires c κs =
+    let k = c .before .before in
+    let e = k .before .before .before in
+    omega (arith, rw (k .a3 .given .1) at (e .pre .1))
+
 write-no-requires : tie.Need-write-no-requires
 write-no-requires c κs =
     let k = c .before .before in
     let e = k .before .before .before in
-    omega (arith, rw (k .a3 .given .1) at (e .pre .1))
+    omega (arith, rw (k .a4 .given .1) at (e .pre .1))
 
 returns : tie.Need-returns
 returns c = let w = c .before .before in rw (w .before .before .enum-told .given .1) (w .write-ok .ensures)
@@ -83,7 +89,10 @@ returns-4 : tie.Need-returns-4
 returns-4 c = let w = c .before .before in rw (w .before .before .before .a2 .given .1) (w .write-save .ensures)
 
 returns-5 : tie.Need-returns-5
-returns-5 c = let w = c .before .before in rw (w .before .before .before .a3 .given .1) (w .write-no .ensures)
+returns-5 c = let w = c .before .before in rw (w .before .before .before .a3 .given .1) (w .write-need .ensures)
+
+returns-6 : tie.Need-returns-6
+returns-6 c = let w = c .before .before in rw (w .before .before .before .a4 .given .1) (w .write-no .ensures)
 
 pub write-answer-spec : {M : Type 1} → statement M
 write-answer-spec =
@@ -100,6 +109,8 @@ write-answer-spec =
     (λ c. search needs)
     write-save-requires
     (λ c. search needs)
+    write-need-requires
+    (λ c. search needs)
     (λ c. search needs)
     write-no-requires
     (λ c. search needs)
@@ -111,4 +122,6 @@ write-answer-spec =
     (λ c. search needs)
     returns-4
     (λ c. search needs)
-    returns-5)
+    returns-5
+    (λ c. search needs)
+    returns-6)
