@@ -1,71 +1,77 @@
--- What the root's cells say of a worth is what the tables say of it: the bridge from the cell of the root at an allowance to the plan at that budget.
--- Assumes nothing.
-use Prim.Native.Nat.{ℕ, _≤_, _<_}
+-- What a plan and its root's cells say of a worth is what the tables say of it: the bridge from the cell of the root at an allowance to the plan at that
+-- budget. Assumes nothing.
+use Prim.Native.Nat.{ℕ, zero, suc, _≤_}
 use mathlib.Core.Path.{_≡_, refl, sym, ap, ap₂, _∙_}
-use mathlib.Core.Bool.{Bool, true, false}
+use mathlib.Core.Bool.{Bool}
 use mathlib.Core.List.{List}
 use native.Mathlib.Omega.{arith}
-use borrow.Author.Tests.{eq-eqb, ne-eqb, le-leb, lt-leb}
-use lib.Dec.{eqb, leb, ltb}
+use borrow.Author.Tests.{ne-eqb}
+use lib.Dec.{eqb, ltb}
+use lib.ListN.{length}
 use Rattle.lists.specs.Tests.{pick, firstFrom}
-use Rattle.lists.proofs.Tests.{first-agree}
-use Rattle.tables.specs.Tables.{Tables}
-use Rattle.tables.specs.Limits.{Limits}
-use Rattle.tables.specs.Changes.{setBudget}
+use Rattle.lists.proofs.Tests.{first-is, first-agree}
+use Rattle.tables.specs.Limits.{maxLoads, Limits}
 use Rattle.tables.specs.declared.tables.StoredTables.{StoredTables}
 use Rattle.tables.specs.Stored.{tablesOf}
+use Rattle.meaning.specs.Sets.{worth}
 use Rattle.meaning.specs.Cell.{floor}
 use Rattle.meaning.specs.Best.{bestPlan}
+use Rattle.meaning.specs.Choice.{planEntries}
 use Rattle.meaning.specs.Need.{noneFits, poorer, leastBudget}
-use Rattle.meaning.proofs.Need.{poorer-cell, least-cell}
+use Rattle.meaning.proofs.Claims.{claims}
+use Rattle.meaning.proofs.Need.{least-cell}
+use Rattle.runs.specs.declared.outcome.StoredOutcome.{StoredOutcome}
+use Rattle.runs.specs.Outcome.{found, storedOutcome}
 use Rattle.cells.specs.declared.problem.Problem.{Problem}
 use Rattle.cells.specs.declared.problem.Shape.{Shape}
 use Rattle.cells.specs.Problem.{planProblem}
 use Rattle.engine.specs.declared.need.Need.the-variants.{NoneFits, Poorer, Least}
-use Rattle.engine.specs.Pass.{bestAt, Complete}
 use Rattle.engine.specs.Search.{rootBest}
-use Rattle.engine.specs.Need.{needOf, needBy, needFor}
+use Rattle.engine.specs.Pass.{bestAt, Complete}
+use Rattle.engine.specs.Need.{needOf, needBy}
 use Rattle.engine.proofs.Reading.{root-cell, whole}
+use Rattle.engine.proofs.Answers.{lines-set}
 
--- ---- the cases of what cells say
-module _ (x : ℕ) (f : ℕ → ℕ) (b v : ℕ) where
-  pub says-none : x ≡ 0 → NoneFits ≡ needBy x f b v
-  unfolding needBy
-  says-none e = rw (eq-eqb x 0 e)
+-- the first of the numbers below n is at most n
+pub at-most : (q : ℕ → Bool) (n r : ℕ) → r ≡ firstFrom q 0 n → r ≤ n
+at-most q n r e = omega (arith, first-is q 0 n .high)
 
-  module _ (some : x ≡ 0 → ⊥) where
-    pub says-poorer : x ≤ floor v → Poorer ≡ needBy x f b v
-    unfolding needBy
-    says-poorer h = rw (ne-eqb x 0 some, le-leb x (floor v) h)
-
-    pub says-least : floor v < x → (g : ℕ → ℕ) → ((c : ℕ) → c < b → g c ≡ f c) → Least (firstFrom (λ c. ltb (floor v) (g c)) 0 b) ≡ needBy x f b v
-    unfolding needBy
-    says-least h g e =
-        rw (ne-eqb x 0 some, lt-leb x (floor v) h)
-        (ap Least (first-agree (λ c. ltb (floor v) (g c)) (λ c. ltb (floor v) (f c)) 0 b (λ c l. ap (ltb (floor v)) (e c (omega arith)))))
-
--- ---- the cells of a problem, of the shape at hand
+-- ---- the root's cells
 module _ (p : Problem) (sh : Shape) (o w : List ℕ) (all : Complete p sh o w) where
-  pub budget-is : sh .budget ≡ p .tables .budget
+  budget-is : sh .budget ≡ p .tables .budget
   budget-is = ap (λ (y : Shape). y .budget) (all .outlined .shape)
 
-  pub root-held : (c : ℕ) → c ≤ sh .budget → rootBest sh w c .value ≡ bestAt p c
+  root-held : (c : ℕ) → c ≤ sh .budget → rootBest sh w c .value ≡ bestAt p c
   root-held c l =
       ap (λ (y : Shape). rootBest y w c .value) (all .outlined .shape)
       ∙ root-cell p o w (whole p sh o w all) c (omega (arith, budget-is))
 
--- ---- and of tables: "whose plan has worth v or more" is a cell above the floor
-tables-say : (t : Tables) → Limits t → (v : ℕ) → needBy (bestPlan t) (λ b. bestPlan (setBudget t b)) (t .budget) v ≡ needOf t v
-unfolding needBy needOf noneFits
-tables-say t h v = go (eqb (bestPlan t) 0) refl
-  where
-    go : (i : Bool) → eqb (bestPlan t) 0 ≡ i
-        → pick i NoneFits (pick (leb (bestPlan t) (floor v)) Poorer (Least (firstFrom (λ b. ltb (floor v) (bestPlan (setBudget t b))) 0 (t .budget))))
-        ≡ pick i NoneFits (pick (poorer t v) Poorer (Least (leastBudget t v)))
-    go true e = refl
-    go false e = sym (ap₂ (λ (i : Bool) (n : ℕ). pick i Poorer (Least n)) (poorer-cell t h v e) (least-cell t h v))
+  -- the first allowance above a floor
+  first-held : (u : ℕ) → firstFrom (λ c. ltb u (rootBest sh w c .value)) 0 (sh .budget) ≡ firstFrom (λ c. ltb u (bestAt p c)) 0 (p .tables .budget)
+  first-held u =
+      first-agree (λ c. ltb u (rootBest sh w c .value)) (λ c. ltb u (bestAt p c)) 0 (sh .budget) (λ c l. ap (ltb u) (root-held c (omega arith)))
+      ∙ ap (firstFrom (λ c. ltb u (bestAt p c)) 0) budget-is
 
--- the plan's problem
-pub need-is : (t : StoredTables) → Limits (tablesOf t) → (p : Problem) → p ≡ planProblem t → (v : ℕ) → needFor p v ≡ needOf (tablesOf t) v
-unfolding tablesOf bestPlan
-need-is t h p e v = ap (λ (p : Problem). needFor p v) e ∙ tables-say (tablesOf t) h v
+  -- of a plan's problem it is the least budget
+  pub least-is : (t : StoredTables) → Limits (tablesOf t) → p ≡ planProblem t → (v u r : ℕ) → u ≡ floor v
+      → r ≡ firstFrom (λ c. ltb u (rootBest sh w c .value)) 0 (sh .budget) → r ≡ leastBudget (tablesOf t) v
+  unfolding tablesOf bestPlan
+  least-is t h e v u r eu er =
+      er ∙ first-held u ∙ ap (λ y. firstFrom (λ c. ltb y (bestAt p c)) 0 (p .tables .budget)) eu
+      ∙ ap (λ (p : Problem). firstFrom (λ c. ltb (floor v) (bestAt p c)) 0 (p .tables .budget)) e ∙ sym (least-cell (tablesOf t) h v)
+
+-- ---- the plan's own worth, and what is said
+module _ (t : StoredTables) (h : Limits (tablesOf t)) (few : length (tablesOf t .loads) ≤ maxLoads) (v : ℕ) where
+  pub need-is : (o : StoredOutcome) → o ≡ storedOutcome (found (bestPlan (tablesOf t)) (planEntries (tablesOf t)))
+      → (b : ℕ) → b ≡ leastBudget (tablesOf t) v → needBy o (t .loads) v b ≡ needOf (tablesOf t) v
+  unfolding needBy needOf noneFits poorer tablesOf
+  need-is o eo b eb = ap₂ (λ (x : StoredOutcome) (n : ℕ). needBy x (t .loads) v n) eo eb ∙ go (bestPlan (tablesOf t)) refl
+    where
+      go : (x : ℕ) → bestPlan (tablesOf t) ≡ x
+          → needBy (storedOutcome (found x (planEntries (tablesOf t)))) (t .loads) v (leastBudget (tablesOf t) v)
+          ≡ pick (eqb x 0) NoneFits (pick (poorer (tablesOf t) v) Poorer (Least (leastBudget (tablesOf t) v)))
+      go zero e = refl
+      go (suc x) e =
+          let l = claims (tablesOf t) h .planned (omega arith) .loads in
+          rw (ne-eqb (suc x) 0 (λ z. absurd (omega arith)))
+          (ap (λ (σ : ℕ → ℕ). pick (ltb (worth (tablesOf t) σ) v) Poorer (Least (leastBudget (tablesOf t) v))) (lines-set (tablesOf t) (planEntries (tablesOf t)) l few))

@@ -5,6 +5,6 @@ pub mod Passing
 pub mod Search
 pub mod Choosing
 pub mod Reading
-pub mod Budgets
 pub mod Planning
 pub mod Answers
+pub mod Budgets

@@ -1,38 +1,24 @@
--- What the cells of a plan say of a worth: how little supply would do.
+-- How little supply would do: what `need` says of tables, and of what a plan of them found.
 -- It stands for request Nine of paper 02: "the least budget, at most the one in force, whose plan has worth v or more", with its refusals 9 and 15.
--- One filling serves: the root's cells hold the best for every allowance up to the budget. Assumes nothing.
+-- Assumes nothing.
 use Prim.Native.Nat.{ℕ}
-use mathlib.Core.Path.{_≡_}
-use mathlib.Core.List.{List}
-use lib.Dec.{eqb, leb, ltb}
-use Rattle.lists.specs.Tests.{pick, firstFrom}
+use lib.Dec.{eqb, ltb}
+use Rattle.lists.specs.Tests.{pick}
+use Rattle.marks.specs.Sets.{markIn}
 use Rattle.tables.specs.Tables.{Tables}
-use Rattle.meaning.specs.Cell.{floor}
+use Rattle.tables.specs.declared.load.LoadList.{LoadList}
+use Rattle.tables.specs.Stored.{loadsOf}
 use Rattle.meaning.specs.Need.{noneFits, poorer, leastBudget}
-use Rattle.cells.specs.declared.problem.Problem.{Problem}
-use Rattle.cells.specs.declared.problem.Shape.{Shape}
+use Rattle.runs.specs.declared.outcome.StoredOutcome.{StoredOutcome}
+use Rattle.runs.specs.Outcome.{noSet, statusOf}
 use Rattle.engine.specs.declared.need.Need.{Need}
 use Rattle.engine.specs.declared.need.Need.the-variants.{NoneFits, Poorer, Least}
-use Rattle.engine.specs.Pass.{bestAt, bestFor, Complete}
+use Rattle.engine.specs.Figures.{figuresOf}
 
 -- what `need,v` says of tables: 9, then 15, then the least budget
 unfoldable pub needOf : Tables → (v : ℕ) → Need
 needOf t v = pick (noneFits t) NoneFits (pick (poorer t v) Poorer (Least (leastBudget t v)))
 
--- ---- by the cells
--- by the best cell at the budget, and by that at each allowance below it
-unfoldable pub needBy : (best : ℕ) → (bestAt : ℕ → ℕ) → (budget v : ℕ) → Need
-needBy x f b v = pick (eqb x 0) NoneFits (pick (leb x (floor v)) Poorer (Least (firstFrom (λ c. ltb (floor v) (f c)) 0 b)))
-
-abbrev pub needFor : Problem → (v : ℕ) → Need
-needFor p v = needBy (bestFor p) (bestAt p) (p .tables .budget) v
-
--- the work holds all cells of some problem with this shape
-pub record Held (sh : Shape) (w : List ℕ) : Type 0 where
-  pub problem : Problem
-  pub outline : List ℕ
-  pub complete : Complete problem sh outline w
-
--- whatever problem that is, r is what its cells say
-abbrev pub NeedRead : Shape → List ℕ → ℕ → Need → Type 0
-NeedRead sh w v r = (p : Problem) (o : List ℕ) → Complete p sh o w → r ≡ needFor p v
+-- by what the plan found, and by the least budget
+unfoldable pub needBy : StoredOutcome → LoadList → (v least : ℕ) → Need
+needBy o ls v b = pick (eqb (o .status) (statusOf noSet)) NoneFits (pick (ltb (figuresOf (loadsOf ls) (markIn (o .run .set)) .worth) v) Poorer (Least b))

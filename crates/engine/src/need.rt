@@ -1,5 +1,7 @@
 // How little supply would do: the least budget for a worth, read from the filled cells of a plan.
 use crate::best::best_start;
+use crate::figures::figures_of;
+use crate::pass::trace;
 use crate::plan::fill_cells;
 use cells::cell;
 use cells::outline::OUTLINE;
@@ -7,6 +9,9 @@ use cells::problem::Shape;
 use cells::problem::plan_problem;
 use cells::work::cells_needed;
 use cells::work::clear;
+use runs::outcome::NO_SET;
+use runs::outcome::StoredOutcome;
+use tables::load::LoadList;
 use tables::tables::StoredTables;
 ghost use mathlib.Core.Path.{_≡_};
 ghost use mathlib.Core.Bool.{true};
@@ -20,9 +25,9 @@ ghost use Rattle.tables.specs.Stored.{tablesOf, keepsLimits};
 ghost use Rattle.meaning.specs.Cells.{cellsOf};
 ghost use Rattle.cells.specs.Work.{Ready};
 ghost use Rattle.engine.specs.Search.{rootBest};
-ghost use Rattle.engine.specs.Need.{needOf, Held, NeedRead};
+ghost use Rattle.engine.specs.Need.{needOf, needBy};
 
-// What the cells say of a worth: no allowed set fits the budget in force, its plan is worth less, or this budget is the least that will do.
+// What `need` says: no allowed set fits the budget in force, its plan is worth less, or this budget is the least that will do.
 pub enum Need {
     NoneFits,
     Poorer,
@@ -46,24 +51,24 @@ fn first_above(sh: Shape, work: &[u32], floor: u32) -> usize
     c
 }
 
-// What the filled cells of a plan say of a worth.
-fn read_need(sh: Shape, work: &[u32], worth: u32) -> Need
-    requires { ⌜ Held sh (now work) ⌝ }
-    requires { ⌜ worth ≤ maxLoads * maxWorth ⌝ }
-    ensures { λ r. ⌜ NeedRead sh (now (work .entry)) worth r ⌝ }
+// What `need` says, by what the plan found, and by the least budget for the worth.
+fn said(found: StoredOutcome, loads: LoadList, worth: u32, least: u32) -> Need
+    requires { ⌜ loads .count ≤ maxLoads ⌝ }
+    ensures { λ r. ⌜ r ≡ needBy found loads worth least ⌝ }
 {
-    let floor = cell::floor_of(worth);
-    let best = best_start(sh, work, sh.budget);
-    if best.value == 0 {
+    if found.status == NO_SET {
         return Need::NoneFits;
     }
-    if best.value <= floor {
+    let set = found.run.set;
+    let figures = figures_of(loads, set);
+    if figures.worth < worth {
         return Need::Poorer;
     }
-    Need::Least(first_above(sh, work, floor) as u32)
+    Need::Least(least)
 }
 
-// How little supply would do for a worth, worked out in the lent cells, which are 0 afterwards.
+// How little supply would do for a worth, worked out in the lent cells, which are 0 afterwards. One filling serves: the root's cells hold the best for
+// every allowance.
 pub fn least_budget(t: StoredTables, worth: u32, work: &mut [u32]) -> Need
     requires { ⌜ (keepsLimits t ≡ true) × (worth ≤ maxLoads * maxWorth) ⌝ }
     requires { ⌜ (0 < t .loads .count) × (cellsOf (tablesOf t) ≤ length (now work)) ⌝ }
@@ -73,8 +78,10 @@ pub fn least_budget(t: StoredTables, worth: u32, work: &mut [u32]) -> Need
     let p = plan_problem(t);
     let mut outline = [0u16; OUTLINE];
     let sh = fill_cells(p, &mut outline[..], &mut *work);
-    let found = read_need(sh, &work[..], worth);
+    let found = trace(sh, &outline[..], &work[..]);
+    let floor = cell::floor_of(worth);
+    let least = first_above(sh, &work[..], floor) as u32;
     let n = cells_needed(sh);
     clear(work, n);
-    found
+    said(found, t.loads, worth, least)
 }
