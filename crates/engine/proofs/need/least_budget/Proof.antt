@@ -64,7 +64,7 @@ returns c =
     let least = least-is (p .plan-problem .result) _ _ _ (g .1 .0) (s .args .t) w (p .plan-problem .ensures .0) (s .args .worth) _ _ (u .floor-of .ensures) (a .first-above .ensures) in (
       c .said .ensures ∙ need-is (s .args .t) w (omega (arith, few f, kept (s .args .t) (s .pre .0 .0) .counted)) (s .args .worth) _ found _ least,
       all-cleared (s .args .work .now) _ _ _ _ (e .clear .ensures) (n .cells-needed .ensures ∙ ap cellsNeeded (g .0)) (g .1 .1)
-      ∙ ap (λ (n : ℕ). replicate n 0 ++ drop n (s .args .work .now)) (own p),
+          ∙ ap (λ (n : ℕ). replicate n 0 ++ drop n (s .args .work .now)) (own p),
     )
 
 pub least-budget-spec : {M : Type 1} → statement M
