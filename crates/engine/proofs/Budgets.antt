@@ -1,5 +1,5 @@
--- What a plan and its root's cells say of a worth is what the tables say of it: the bridge from the cell of the root at an allowance to the plan at that
--- budget. Assumes nothing.
+-- What a plan and its root's cells say of a worth is what the tables say of it: the cell of the root at an allowance is the plan's at that budget.
+-- Assumes nothing.
 use Prim.Native.Nat.{ℕ, zero, suc, _≤_}
 use mathlib.Core.Path.{_≡_, refl, sym, ap, ap₂, _∙_}
 use mathlib.Core.Bool.{Bool}
@@ -11,6 +11,7 @@ use lib.ListN.{length}
 use Rattle.lists.specs.Tests.{pick, firstFrom}
 use Rattle.lists.proofs.Tests.{first-is, first-agree}
 use Rattle.tables.specs.Limits.{maxLoads, Limits}
+use Rattle.tables.specs.Changes.{setBudget}
 use Rattle.tables.specs.declared.tables.StoredTables.{StoredTables}
 use Rattle.tables.specs.Stored.{tablesOf}
 use Rattle.meaning.specs.Sets.{worth}
@@ -29,7 +30,7 @@ use Rattle.engine.specs.declared.need.Need.the-variants.{NoneFits, Poore
 use Rattle.engine.specs.Search.{rootBest}
 use Rattle.engine.specs.Pass.{bestAt, Complete}
 use Rattle.engine.specs.Need.{needOf, needBy}
-use Rattle.engine.proofs.Reading.{root-cell, whole}
+use Rattle.engine.proofs.Reading.{root-cell, whole, budget-is}
 use Rattle.engine.proofs.Answers.{lines-set}
 
 -- the first of the numbers below n is at most n
@@ -38,27 +39,28 @@ at-most q n r e = omega (arith, first-is q 0 n .high)
 
 -- ---- the root's cells
 module _ (p : Problem) (sh : Shape) (o w : List ℕ) (all : Complete p sh o w) where
-  budget-is : sh .budget ≡ p .tables .budget
-  budget-is = ap (λ (y : Shape). y .budget) (all .outlined .shape)
-
   root-held : (c : ℕ) → c ≤ sh .budget → rootBest sh w c .value ≡ bestAt p c
   root-held c l =
       ap (λ (y : Shape). rootBest y w c .value) (all .outlined .shape)
-      ∙ root-cell p o w (whole p sh o w all) c (omega (arith, budget-is))
+      ∙ root-cell p o w (whole p sh o w all) c (omega (arith, budget-is p sh o w all))
 
-  -- the first allowance above a floor
-  first-held : (u : ℕ) → firstFrom (λ c. ltb u (rootBest sh w c .value)) 0 (sh .budget) ≡ firstFrom (λ c. ltb u (bestAt p c)) 0 (p .tables .budget)
-  first-held u =
-      first-agree (λ c. ltb u (rootBest sh w c .value)) (λ c. ltb u (bestAt p c)) 0 (sh .budget) (λ c l. ap (ltb u) (root-held c (omega arith)))
-      ∙ ap (firstFrom (λ c. ltb u (bestAt p c)) 0) budget-is
+  -- of a plan's problem
+  module _ (t : StoredTables) (e : p ≡ planProblem t) where
+    -- the bridge: the best of the root's cells at allowance b is the plan's of the tables with budget b
+    pub root-plan : (b : ℕ) → b ≤ sh .budget → rootBest sh w b .value ≡ bestPlan (setBudget (tablesOf t) b)
+    unfolding tablesOf bestPlan
+    root-plan b l = root-held b l ∙ ap (λ (p : Problem). bestAt p b) e
 
-  -- of a plan's problem it is the least budget
-  pub least-is : (t : StoredTables) → Limits (tablesOf t) → p ≡ planProblem t → (v u r : ℕ) → u ≡ floor v
-      → r ≡ firstFrom (λ c. ltb u (rootBest sh w c .value)) 0 (sh .budget) → r ≡ leastBudget (tablesOf t) v
-  unfolding tablesOf bestPlan
-  least-is t h e v u r eu er =
-      er ∙ first-held u ∙ ap (λ y. firstFrom (λ c. ltb y (bestAt p c)) 0 (p .tables .budget)) eu
-      ∙ ap (λ (p : Problem). firstFrom (λ c. ltb (floor v) (bestAt p c)) 0 (p .tables .budget)) e ∙ sym (least-cell (tablesOf t) h v)
+    own-budget : sh .budget ≡ tablesOf t .budget
+    unfolding tablesOf
+    own-budget = budget-is p sh o w all ∙ ap (λ (p : Problem). p .tables .budget) e
+
+    -- so the first allowance above the floor of a worth is the least budget
+    pub least-is : Limits (tablesOf t) → (v u r : ℕ) → u ≡ floor v → r ≡ firstFrom (λ b. ltb u (rootBest sh w b .value)) 0 (sh .budget) → r ≡ leastBudget (tablesOf t) v
+    least-is h v u r eu er =
+        er ∙ ap (λ y. firstFrom (λ b. ltb y (rootBest sh w b .value)) 0 (sh .budget)) eu
+        ∙ first-agree _ (λ b. ltb (floor v) (bestPlan (setBudget (tablesOf t) b))) 0 (sh .budget) (λ b l. ap (ltb (floor v)) (root-plan b (omega arith)))
+        ∙ ap (firstFrom _ 0) own-budget ∙ sym (least-cell (tablesOf t) h v)
 
 -- ---- the plan's own worth, and what is said
 module _ (t : StoredTables) (h : Limits (tablesOf t)) (few : length (tablesOf t .loads) ≤ maxLoads) (v : ℕ) where

@@ -212,6 +212,9 @@ module _ (p : Problem) (sh : Shape) (o w : List ℕ) (all : Complete p sh o w) w
   pub whole : Complete p (shapeOf p) o w
   whole = subst (λ (y : Shape). Complete p y o w) (all .outlined .shape) all
 
+  pub budget-is : sh .budget ≡ p .tables .budget
+  budget-is = ap (λ (y : Shape). y .budget) (all .outlined .shape)
+
   module _ (j x c : ℕ) (l : suc j ≤ p .tables .loads .count) (fits : c ≤ p .tables .budget) (d : Choice) (h : Promised sh o w (suc j) x c d) where
     own : Promised (shapeOf p) o w (suc j) x c d
     own = subst (λ (y : Shape). Promised y o w (suc j) x c d) (all .outlined .shape) h

@@ -61,7 +61,7 @@ returns c =
     let g = f .fill-cells .ensures in
     let w = tested (s .args .t) (s .pre .0 .0) .within in
     let found = t .trace .ensures (p .plan-problem .result) (g .1 .0) ∙ plan-is (s .args .t) (p .plan-problem .result) (p .plan-problem .ensures .1) (p .plan-problem .ensures .0) in
-    let least = least-is (p .plan-problem .result) _ _ _ (g .1 .0) (s .args .t) w (p .plan-problem .ensures .0) (s .args .worth) _ _ (u .floor-of .ensures) (a .first-above .ensures) in (
+    let least = least-is (p .plan-problem .result) _ _ _ (g .1 .0) (s .args .t) (p .plan-problem .ensures .0) w (s .args .worth) _ _ (u .floor-of .ensures) (a .first-above .ensures) in (
       c .said .ensures ∙ need-is (s .args .t) w (omega (arith, few f, kept (s .args .t) (s .pre .0 .0) .counted)) (s .args .worth) _ found _ least,
       all-cleared (s .args .work .now) _ _ _ _ (e .clear .ensures) (n .cells-needed .ensures ∙ ap cellsNeeded (g .0)) (g .1 .1)
           ∙ ap (λ (n : ℕ). replicate n 0 ++ drop n (s .args .work .now)) (own p),

@@ -27,7 +27,7 @@ use Rattle.engine.specs.Parts.{startBest}
 use Rattle.engine.specs.Pass.{bestFor, entriesFor, answerTo, Complete, loadChoice, passedLoad, BranchEntered, Passed}
 use Rattle.engine.proofs.Parts.{root-part}
 use Rattle.engine.proofs.Passing.{below-entered, child-in, pass-root}
-use Rattle.engine.proofs.Reading.{start-index, start-value, start-pos, start-used, start-possible, Promised, whole, load-is}
+use Rattle.engine.proofs.Reading.{start-index, start-value, start-pos, start-used, start-possible, Promised, whole, budget-is, load-is}
 use Rattle.engine.proofs.pass.trace.Statement.{statement}
 use Rattle.engine.proofs.pass.trace.Tie as tie
 
@@ -42,9 +42,6 @@ BestStart sh w b = greatestOf b ≡ rootBest sh w (sh .budget)
 module _ (p : Problem) (sh : Shape) (o w : List ℕ) (all : Complete p sh o w) (b : Best) (eb : BestStart sh w b) where
   own : BestStart (shapeOf p) w b
   own = subst (λ (y : Shape). BestStart y w b) (all .outlined .shape) eb
-
-  budget : sh .budget ≡ p .tables .budget
-  budget = ap (λ (y : Shape). y .budget) (all .outlined .shape)
 
   value : b .value ≡ bestFor p
   value = start-value p o w (whole p sh o w all) b own
@@ -61,7 +58,7 @@ module _ (p : Problem) (sh : Shape) (o w : List ℕ) (all : Complete p sh o w) (
 
     root-choice : (d : Choice) → Promised sh o w 1 (b .index) (sh .budget) d → d ≡ loadChoice p 1 (suc best) (p .tables .budget)
     root-choice d h =
-        load-is p sh o w all 0 (b .index) (p .tables .budget) (all .some) (le-refl _) d (subst (λ c. Promised sh o w 1 (b .index) c d) budget h) used
+        load-is p sh o w all 0 (b .index) (p .tables .budget) (all .some) (le-refl _) d (subst (λ c. Promised sh o w 1 (b .index) c d) (budget-is p sh o w all) h) used
         (subst (λ q. 0 < branchFor p 1 q (p .tables .budget)) (add-one (b .index)) (start-possible p o w (whole p sh o w all) b own found))
         ∙ ap (λ q. loadChoice p 1 (suc q) (p .tables .budget)) (start-index p o w (whole p sh o w all) b own)
 
