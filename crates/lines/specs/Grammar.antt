@@ -1,6 +1,6 @@
--- The commands, and how a line is read: paper 01, "Lines", with `save`, `drop`, `last`, `save1` and `need` of requests Two, Three, Five, Eight and Nine of paper 02. `parse` gives every
--- line of bytes its command, and `Broken` to each that is "no command of the table, wrong field count or form". The length of a line is judged
--- apart (`Length`), and first: `lineCommand`. `lineOf` gives every change its line, in each form of a save. Assumes nothing.
+-- The commands, and how a line is read: paper 01, "Lines", with `save`, `drop`, `last`, `save1` and `need` of requests Two, Three, Five, Eight and Nine
+-- of paper 02. `parse` gives every line of bytes its command, and `Broken` to each that is "no command of the table, wrong field count or form". The
+-- length of a line is judged apart (`Length`), and first: `lineCommand`. `lineOf` gives every change its line, in each form of a save. Assumes nothing.
 use Prim.Native.Nat.{ℕ, suc, _+_, _-_, _*_}
 use Prim.Native.String.{String}
 use mathlib.Core.Path.{_≡_, refl}
