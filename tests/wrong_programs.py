@@ -16,8 +16,8 @@ need that fails in a batch fails alone too, and no edit breaks the function of a
 fails in the function's own proof is taken from a batch, and only if no function fails by itself but those
 of the batch; all else is tried alone.
 
-Whole sessions and marked cases by computation cost more time than all laws beside them, and few edits name them.
-They are left out where an edit is to be refused at another law.
+Whole sessions and marked cases are computed, which costs time, and few edits name them. They are left out where an
+edit is to be refused at another law.
 
 Usage: wrong_programs.py [NAME[/LABEL]..]   from the root of the repository, after `rt check`
 """
