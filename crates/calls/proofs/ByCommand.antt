@@ -68,7 +68,7 @@ pub bytes-needed : (s : State) (l : List ℕ) → bytesOf (lineRow s l) ≡ byte
 unfolding lineRow bytesNeeded
 bytes-needed s l = row-bytes s (lineCommand l)
 
--- "1,024 bytes must be free from there"; "3,000 free bytes, which the line program now lends"
+-- "1,024 bytes must be free from there"; "saves 4,096, and the line program lends 4,096"
 pub needed-range : (l : List ℕ) → (freeBytes ≤ bytesNeeded l) × (bytesNeeded l ≤ saveBytes)
 needed-range l = let x = line-right (fresh 0) 0 l in rw (← (bytes-needed (fresh 0) l)) (x .room, x .most)
 

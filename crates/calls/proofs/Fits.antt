@@ -11,7 +11,7 @@ use lib.ListN.{length, getD}
 use Rattle.lists.specs.Each.{none, more}
 use Rattle.lists.proofs.Each.{each-all, each-at}
 use Rattle.lists.specs.Argmax.{guard}
-use Rattle.lines.specs.Answers.{freeBytes, Ranged, AllRanged}
+use Rattle.lines.specs.Answers.{runBytes, Ranged, AllRanged}
 use Rattle.lines.proofs.Answers.{plan-fits, check-fits}
 use Rattle.tables.specs.declared.load.Load.{Load}
 use Rattle.tables.specs.Tables.{Tables, noLoad}
@@ -94,7 +94,7 @@ module _ (t : Tables) (h : Limits t) where
   unfolding checkEntries
   check-ranged σ = all-ranged (check t σ) (length (t .loads)) (omega (arith, few)) (check-listed t listed σ) (check-bounded t w σ)
 
-  check-few : (σ : ℕ → ℕ) → 14 * length (checkEntries t σ) + 23 ≤ freeBytes
+  check-few : (σ : ℕ → ℕ) → 14 * length (checkEntries t σ) + 23 ≤ runBytes
   unfolding checkEntries
   check-few σ = omega (arith, few, listed-length (check t σ) (length (t .loads)) (check-listed t listed σ))
 
@@ -114,7 +114,7 @@ module _ (t : Tables) (h : Limits t) where
     pub lines-ranged : AllRanged es
     lines-ranged = each-all noEntry es figures
 
-    pub lines-fit : length (shownText (showingPlan t es)) ≤ freeBytes
+    pub lines-fit : length (shownText (showingPlan t es)) ≤ runBytes
     lines-fit =
         let σ = shownSet es in
         plan-fits es lines-ranged (omega (arith, l .all, few)) (worth t σ) (power t σ) (numberOn t σ) (all-worth t w σ) (all-power t w σ) (all-on t w σ)
@@ -125,8 +125,8 @@ module _ (t : Tables) (h : Limits t) where
       let p = claims t h .planned (positive (eqb-false (bestPlan t) 0 e)) in
       run-in t w (planEntries t) (p .loads) (λ i b. each-at noEntry plan-ranged i b .mark) (shownSet (planEntries t)) (p .run)
 
-  pub planned-fits : noneFits t ≡ false → length (shownText (showingPlan t (planEntries t))) ≤ freeBytes
+  pub planned-fits : noneFits t ≡ false → length (shownText (showingPlan t (planEntries t))) ≤ runBytes
   planned-fits e = lines-fit (planEntries t) (lines-in (rangeOf t) (planEntries t) (plan-in e))
 
-  pub checked-fits : (σ : ℕ → ℕ) → length (shownText (showingCheck (checkEntries t σ))) ≤ freeBytes
+  pub checked-fits : (σ : ℕ → ℕ) → length (shownText (showingCheck (checkEntries t σ))) ≤ runBytes
   checked-fits σ = check-fits (checkEntries t σ) (check-ranged σ) (check-few σ)

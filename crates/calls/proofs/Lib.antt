@@ -1,5 +1,5 @@
--- The theorems on calls, from the ground up: Demand1, Demand2 and Demand3 have the last ones of paper 01, Padding, Saves, SaveProgram and Drops
--- those of requests One, Two and Three of paper 02; Last and Need have what demand 3 says of requests
+-- The theorems on calls, from the ground up: Demand1, Demand2 and Demand3 have the last ones of paper 01, Padding, Saves, SaveProgram, Drops
+-- and Overfull those of requests One, Two, Three and Ten of paper 02; Last and Need have what demand 3 says of requests
 -- Five and Nine.
 pub mod State
 pub mod Numbers
@@ -22,6 +22,7 @@ pub mod Full
 pub mod Steps
 pub mod Rebuilds
 pub mod Saves
+pub mod Overfull
 pub mod Drops
 pub mod Program
 pub mod SaveProgram

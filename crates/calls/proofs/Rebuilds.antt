@@ -158,8 +158,12 @@ module _ (t : Tables) (h : Limits t) where
   unfolding changing
   budget-taken = one (record { accepted = passes (budgetIn (t .budget)) (p .budget); after = refl })
 
+  -- all but the budget
+  pub loads-rebuilt : (u : Tables) → u .places ≡ t .places → Takes u ((to.Clear ∷ []) ++ bookChanges b ++ map loadChange (t .loads)) (begun b (t .loads))
+  loads-rebuilt u e =
+      takes-append (takes-append (subst (λ (n : ℕ). Takes u (to.Clear ∷ []) (fresh n)) e (clear-taken u)) book-taken)
+      (loads-taken (begun b []) (t .loads) (p .few) (p .loads))
+
   pub rebuilds : Rebuilt t
   unfolding saved
-  rebuilds u e =
-      takes-append (takes-append (takes-append (subst (λ (n : ℕ). Takes u (to.Clear ∷ []) (fresh n)) e (clear-taken u)) book-taken)
-      (loads-taken (begun b []) (t .loads) (p .few) (p .loads))) budget-taken
+  rebuilds u e = takes-append (loads-rebuilt u e) budget-taken

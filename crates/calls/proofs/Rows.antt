@@ -18,7 +18,7 @@ use Rattle.lines.specs.declared.Command.{Command}
 use Rattle.lines.specs.declared.Command.the-variants as line
 use Rattle.lines.specs.Grammar.{lineCommand}
 use Rattle.lines.specs.Saved.{saved}
-use Rattle.lines.specs.Answers.{freeBytes, AllRanged, numberOf, textOf}
+use Rattle.lines.specs.Answers.{freeBytes, runBytes, AllRanged, numberOf, textOf}
 use Rattle.lines.proofs.Answers.{need-fits}
 use Rattle.lines.proofs.SaveText.{save-fits}
 use Rattle.tables.specs.declared.rule.Sort.{Sort}
@@ -143,7 +143,7 @@ run-lines : {t : Tables} (x : Shown) → OneEach t (x .entries) → ((cs : List 
 run-lines x o e = record { entries = inr o; changes = inl e }
 
 -- the lines of a plan that is in range
-plan-showing : (t : Tables) → Limits t → (es : List Entry) → outcomeIn (rangeOf t) (planned es) ≡ true → Showing t freeBytes (showingPlan t es)
+plan-showing : (t : Tables) → Limits t → (es : List Entry) → outcomeIn (rangeOf t) (planned es) ≡ true → Showing t runBytes (showingPlan t es)
 plan-showing t h es e =
     let l = lines-in (rangeOf t) es e in
     record {
@@ -153,7 +153,7 @@ plan-showing t h es e =
 
 -- the latest outcome, where it is a plan
 last-showing : (t : Tables) → Limits t → (o : Outcome) → outcomeIn (rangeOf t) o ≡ true
-    → lowest ((no.noneFits if isNoSet o) ∷ (no.noPlan if isNothing o) ∷ []) ≡ 0 → Showing t freeBytes (showingPlan t (entriesOf o))
+    → lowest ((no.noneFits if isNoSet o) ∷ (no.noPlan if isNothing o) ∷ []) ≡ 0 → Showing t runBytes (showingPlan t (entriesOf o))
 unfolding lowest
 last-showing t h nothing e p = absurd (omega arith)
 last-showing t h noSet e p = absurd (omega arith)

@@ -114,40 +114,44 @@ save-right f p h c k = subst (λ (x : StoredState). SaveRight f x c (called x c)
 abbrev pub Readable : SaveForm → Change → Type 0
 Readable f c = ReadBack f c × (told f c ≡ c)
 
-module _ {f : SaveForm} (s : State) (x : Call) (c : Change) (on : x .line ≡ written f c) (b : Readable f c) (free : x .place + bytesNeeded (x .line) ≤ length (x .output))
-    (passes : lowest (changing (s .tables) c .causes) ≡ 0) where
+module _ {f : SaveForm} (s : State) (x : Call) (c : Change) (on : x .line ≡ written f c) (b : Readable f c) (free : x .place + bytesNeeded (x .line) ≤ length (x .output)) where
   room : x .place + freeBytes ≤ length (x .output)
   room = omega (arith, needed-range (x .line))
 
   command : lineCommand (x .line) ≡ line.Change c
   command = command-is (x .line) (line.Change c) (ap parse on ∙ b .0 .read ∙ ap line.Change (b .1)) (ap tooLong on ∙ le-ltb mostBytes (length (written f c)) (b .0 .short))
 
-  line-number : numberFor s x ≡ 0
-  line-number =
+  -- its number is that of its row
+  pub line-cause : numberFor s x ≡ lowest (changing (s .tables) c .causes)
+  line-cause =
       ap (refusal (length (x .work)) (length (x .output)) (x .place)) (change-row s x c command)
       ∙ roomy (length (x .work)) (length (x .output)) (x .place) (changes (changing (s .tables) c)) room
-      ∙ passes
 
-  line-after : after s x .tables ≡ changing (s .tables) c .after
-  line-after = change-after s x c command line-number
+  -- where no cause applies
+  module _ (passes : lowest (changing (s .tables) c .causes) ≡ 0) where
+    line-number : numberFor s x ≡ 0
+    line-number = line-cause ∙ passes
 
-  line-outcome : after s x .outcome ≡ nothing
-  line-outcome = rw (line-number, change-row s x c command)
+    pub line-after : after s x .tables ≡ changing (s .tables) c .after
+    line-after = change-after s x c command line-number
 
-  line-answer : answer s x ≡ reply x 0 ok (x .work)
-  unfolding text workAfter zeroed
-  line-answer = answer-at s x 0 (changes (changing (s .tables) c)) line-number (change-row s x c command)
+    line-outcome : after s x .outcome ≡ nothing
+    line-outcome = rw (line-number, change-row s x c command)
 
-  line-accepted : (d : Done) → d .reply ≡ answer s x → Accepted (record { call = x; done = d })
-  line-accepted d e =
-      let r = e ∙ line-answer in
-      record {
-        number = ap (λ (y : Reply). y .number) r;
-        prints = ap (writtenBy x) r ∙ written-is (x .output) ok (x .place) (omega (arith, room));
-      }
+    line-answer : answer s x ≡ reply x 0 ok (x .work)
+    unfolding text workAfter zeroed
+    line-answer = answer-at s x 0 (changes (changing (s .tables) c)) line-number (change-row s x c command)
+
+    line-accepted : (d : Done) → d .reply ≡ answer s x → Accepted (record { call = x; done = d })
+    line-accepted d e =
+        let r = e ∙ line-answer in
+        record {
+          number = ap (λ (y : Reply). y .number) r;
+          prints = ap (writtenBy x) r ∙ written-is (x .output) ok (x .place) (omega (arith, room));
+        }
 
 -- ---- calls on the lines of changes that tables take
-unlike : {A B : Type 0} {a : A} {l : List A} → _≡_ {A = List A} (a ∷ l) [] → B
+pub unlike : {A B : Type 0} {a : A} {l : List A} → _≡_ {A = List A} (a ∷ l) [] → B
 unlike e = absurd (let z : _≡_ {A = ℕ} 0 1 = cc in omega arith)
 
 -- every accepted change wipes the outcome

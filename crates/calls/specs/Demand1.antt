@@ -14,7 +14,7 @@ use Rattle.lines.specs.declared.Command.{Command}
 use Rattle.lines.specs.declared.Command.the-variants as line
 use Rattle.lines.specs.Grammar.{parse, lineCommand}
 use Rattle.lines.specs.Saved.{saveBytes}
-use Rattle.lines.specs.Answers.{refused, freeBytes}
+use Rattle.lines.specs.Answers.{refused, freeBytes, runBytes}
 use Rattle.tables.specs.Refusals as no
 use Rattle.meaning.specs.Cells.{cellsOf}
 use Rattle.calls.specs.State.{StoredState, stateOf, keeps}
@@ -51,14 +51,13 @@ pub record Demand1 (p : StoredState) (c : Call) (d : Done) : Type 0 where
   pub unchanged : searched (d .reply .number) ≡ false → d .reply .work ≡ c .work
 
 -- ---- by the command that a line asks for
--- the bytes that it needs: "1,024 bytes must be free from there"
+-- the bytes that it needs: "1,024 bytes must be free from there"; "`plan`, `last` and `check` need 2,048 free bytes, saves 4,096" of request Ten
 abbrev pub bytesFor : Command → ℕ
 bytesFor (line.Change c) = freeBytes
-bytesFor line.Plan = freeBytes
-bytesFor (line.Check σ n) = freeBytes
--- "It needs 3,000 free bytes, which the line program now lends, and fewer is refusal 1."
+bytesFor line.Plan = runBytes
+bytesFor (line.Check σ n) = runBytes
 bytesFor (line.Save f) = saveBytes
-bytesFor line.Last = freeBytes
+bytesFor line.Last = runBytes
 bytesFor (line.Need v) = freeBytes
 -- "A line that breaks its form or is too long needs 1,024, its command word notwithstanding."
 bytesFor line.Broken = freeBytes

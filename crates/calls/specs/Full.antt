@@ -1,5 +1,5 @@
 -- Load lines one after another, each in range: the first that is refused is the one after the last place, and its number is 6.
--- It stands for "64 loads .. already" of paper 01, over the limit of loads as a parameter. Assumes nothing.
+-- It stands for "64 loads .. already" of paper 01, with request Ten of paper 02 over the limit of loads as a parameter. Assumes nothing.
 use Prim.Native.Nat.{ℕ, suc, _+_, _≤_, _<_}
 use mathlib.Core.Path.{_≡_}
 use mathlib.Core.Bool.{true}

@@ -12,7 +12,7 @@ use Rattle.lines.specs.declared.Command.{Command}
 use Rattle.lines.specs.declared.Command.the-variants as line
 use Rattle.lines.specs.Text.{same}
 use Rattle.lines.specs.Grammar.{parse, lineCommand}
-use Rattle.lines.specs.Answers.{ok, refused, freeBytes}
+use Rattle.lines.specs.Answers.{ok, refused, runBytes}
 use Rattle.tables.specs.Refusals as no
 use Rattle.tables.specs.Tables.{Tables}
 use Rattle.meaning.specs.Best.{bestPlan}
@@ -59,7 +59,7 @@ keptOutcome b t = pick b (found (bestPlan t) (planEntries t)) nothing
 -- ---- a call on `last`. (It asks for no cells: "without planning anew".)
 pub record LastCall (c : Call) : Type 0 where
   pub line : parse (c .line) ≡ line.Last
-  pub free : c .place + freeBytes ≤ length (c .output)
+  pub free : c .place + runBytes ≤ length (c .output)
 
 -- what is stored, as it is shown: "refusal 9 included (returned as 9)"; "12, no current plan"
 abbrev pub shownAs : Tables → Outcome → Call → Reply

@@ -1,6 +1,6 @@
 -- What every call answers: the state, the rows of the table, the causes of a refusal, the effect of a line, what is printed, a call, and lists of calls.
 -- In the order of paper 01; Demand1, Demand2 and Demand3 have what is proved of them, Program what the line program prints, Padding, Saves, Drops,
--- Last and Need what requests One, Two, Three, Five and Nine of paper 02 promise.
+-- Last, Need and Overfull what requests One, Two, Three, Five, Nine and Ten of paper 02 promise.
 pub mod State
 pub mod Rows
 pub mod Causes
@@ -16,5 +16,6 @@ pub mod Full
 pub mod Padding
 pub mod Program
 pub mod Saves
+pub mod Overfull
 pub mod Drops
 pub mod Session

@@ -21,7 +21,7 @@ use Rattle.calls.specs.State.{State, StoredState, storedState}
 use Rattle.calls.specs.Printing.{zeroed}
 use Rattle.calls.specs.Calls.{Call, Reply, Done, Exchange, reply, after}
 
--- a `need,v` that none of the numbers 1 to 8 refuses: "v is 0 to 64,000. It needs a plan's cells"
+-- a `need,v` that none of the numbers 1 to 8 refuses: "v is 0 to 64,000", to 128,000 with request Ten. "It needs a plan's cells"
 pub record NeedCall (t : Tables) (v : ℕ) (c : Call) : Type 0 where
   pub line : parse (c .line) ≡ line.Need v
   pub free : c .place + freeBytes ≤ length (c .output)

@@ -19,7 +19,7 @@ use Rattle.lines.specs.declared.answer.Answer.{Answer}
 use Rattle.lines.specs.declared.answer.Answer.the-variants.{Accepted, Planned, Allowed, Saved, Needed}
 use Rattle.lines.specs.Grammar.{lineCommand}
 use Rattle.lines.specs.Saved.{saved, losesKinds, saveBytes}
-use Rattle.lines.specs.Answers.{freeBytes, textOf}
+use Rattle.lines.specs.Answers.{freeBytes, runBytes, textOf}
 use Rattle.tables.specs.declared.rule.Transition.{Transition}
 use Rattle.tables.specs.declared.rule.Sort.{Sort}
 use Rattle.tables.specs.declared.rule.Sort.the-variants as sort
@@ -153,24 +153,24 @@ refuses n = shows freeBytes ((n if true) ∷ []) (alone Accepted)
 
 unfoldable pub row : State → Command → Row
 row s (line.Change c) = changes (changing (s .tables) c)
--- "plan: shows the plan"
+-- "plan: shows the plan"; "`plan`, `last` and `check` need 2,048 free bytes" of request Ten of paper 02
 row s line.Plan =
     let t = s .tables in
-    works true freeBytes (cellsOf t) ((no.noLoads if eqb (length (t .loads)) 0) ∷ []) ((no.noneFits if noneFits t) ∷ []) (showingPlan t (planEntries t))
+    works true runBytes (cellsOf t) ((no.noLoads if eqb (length (t .loads)) 0) ∷ []) ((no.noneFits if noneFits t) ∷ []) (showingPlan t (planEntries t))
 -- "check,bits: one 0 or 1 for each load: is this set allowed?"
 row s (line.Check σ n) =
     let t = s .tables in
-    shows freeBytes
+    shows runBytes
     ((no.noLoads if eqb (length (t .loads)) 0) ∷ (no.outOfRange if not (eqb n (length (t .loads)))) ∷ (no.notAllowed if notAllowed t (markIn σ)) ∷ [])
     (showingCheck (checkEntries t (markIn σ)))
--- "The command `save` writes lines that rebuild the state"; "It needs 3,000 free bytes .. and fewer is refusal 1." `save1` "needs the same free bytes";
+-- "The command `save` writes lines that rebuild the state"; ""saves 4,096", "and fewer is refusal 1." `save1` "needs the same free bytes";
 -- "14, `save1` while some load or load rule has a kind other than 0, tested after 5"
 row s (line.Save f) = let t = s .tables in shows saveBytes ((no.kindsInUse if losesKinds f t) ∷ []) (showingSave f t)
 -- "`last` shows the latest outcome of `plan`, refusal 9 included (returned as 9)"; "12, no current plan, tested after 5"
 row s line.Last =
     let o = s .outcome in
-    shows freeBytes ((no.noneFits if isNoSet o) ∷ (no.noPlan if isNothing o) ∷ []) (showingPlan (s .tables) (entriesOf o))
--- "`need,v` prints `need,b`"; "v is 0 to 64,000. It needs a plan's cells, meets 4 and 8 .., and says 9 when no allowed set fits the budget in force";
+    shows runBytes ((no.noneFits if isNoSet o) ∷ (no.noPlan if isNothing o) ∷ []) (showingPlan (s .tables) (entriesOf o))
+-- "`need,v` prints `need,b`"; "v is 0 to 64,000", to 128,000 with request Ten. "It needs a plan's cells, meets 4 and 8 .., and says 9 when no allowed set fits the budget in force";
 -- "15, the plan at the budget in force has worth below v, tested after 9"
 row s (line.Need v) =
     let t = s .tables in
@@ -180,7 +180,7 @@ row s (line.Need v) =
     (alone (Needed (leastBudget t v)))
 -- "no command of the table, wrong field count or form"
 row s line.Broken = refuses no.broken
--- "line over 80 bytes"
+-- "line over 80 bytes", 144 with request Ten
 row s line.TooLong = refuses no.tooLong
 
 unfoldable pub lineRow : State → List ℕ → Row

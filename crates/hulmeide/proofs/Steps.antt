@@ -109,6 +109,14 @@ module _ {M : Type 1} {𝓤 : URA M} {H : Heap 𝓤} {A : Atoms 𝓤} {K : Type 
   pub freed : K → {τ : Ty} {l : ℕ} {v : Val} {E : Env 𝓤 H} {G : Goal 𝓤 H} → Step K W Γ (frees E G) (‵ (fat fullShare τ l zero v) ∷ ‵ (fdies τ l) ∷ Γ) (frees ((τ, l) ∷ E) G)
   freed t = step (λ s. forget t 0 refl $ free1 t $ s)
 
+module _ {M : Type 1} {𝓤 : URA M} {H : Heap 𝓤} {A : Atoms 𝓤} {K : Type 0} {W : Given 𝓤 H A} {Γ : List (Item 𝓤)} where
+  -- four locals at once: of a local's type, place and value these know nothing, so a walk with large types stays small
+  pub freed4 : K → {τ₁ τ₂ τ₃ τ₄ : Ty} {l₁ l₂ l₃ l₄ : ℕ} {v₁ v₂ v₃ v₄ : Val} {E : Env 𝓤 H} {G : Goal 𝓤 H}
+      → Step K W Γ (frees E G)
+      (‵ (fat fullShare τ₁ l₁ zero v₁) ∷ ‵ (fdies τ₁ l₁) ∷ ‵ (fat fullShare τ₂ l₂ zero v₂) ∷ ‵ (fdies τ₂ l₂) ∷ ‵ (fat fullShare τ₃ l₃ zero v₃) ∷ ‵ (fdies τ₃ l₃) ∷ ‵ (fat fullShare τ₄ l₄ zero v₄) ∷ ‵ (fdies τ₄ l₄) ∷ Γ)
+      (frees ((τ₁, l₁) ∷ (τ₂, l₂) ∷ (τ₃, l₃) ∷ (τ₄, l₄) ∷ E) G)
+  freed4 t = step (λ s. freed t $ freed t $ freed t $ freed t $ s)
+
 module _ {M : Type 1} (𝓤 : URA M) (H : Heap 𝓤) (𝓜 : Model 𝓤 H) (𝓖 : GhostRules 𝓤 H) (𝓡 : Running 𝓤 H 𝓜) (γ : routine.Env) (k : Name) (fn : Fn) (S : Ended) (hs : Stays (S .signature .params) (S .kept)) (c : Clauses 𝓤 S) where
   pub by-walk : Closed 𝓤 H (tables 𝓤 H 𝓜 𝓡 γ .C) (tables 𝓤 H 𝓜 𝓡 γ .Λ) k fn → AllGo 𝓤 H (𝓖 .A) (givenOf 𝓤 H 𝓜 𝓖) (S .signature .lifetimes) (S .signature .params) (S .kept) hs
       → (FmC 𝓤 H (givenOf 𝓤 H 𝓜 𝓖 .laws) (tables 𝓤 H 𝓜 𝓡 γ .C) → Walks 𝓤 H (𝓖 .A) S hs (WpFn 𝓤 H (tables 𝓤 H 𝓜 𝓡 γ .C) (tables 𝓤 H 𝓜 𝓡 γ .Λ) fn) c)

@@ -8,7 +8,7 @@ use lib.ListN.{length, length-append}
 use Rattle.lists.specs.Each.{none, more}
 use Rattle.tables.specs.declared.entry.Entry.{Entry}
 use Rattle.lines.specs.Text.{comma, lineFeed, decimal, field}
-use Rattle.lines.specs.Answers.{yes, refused, planLine, needLine, entryLine, entryLines, freeBytes, Ranged, AllRanged}
+use Rattle.lines.specs.Answers.{yes, refused, planLine, needLine, entryLine, entryLines, freeBytes, runBytes, Ranged, AllRanged}
 use Rattle.lines.proofs.Decimal.{decimal-length}
 
 pub field-length : (n after : ℕ) → length (field n after) ≡ length (decimal n) + 1
@@ -66,11 +66,11 @@ plan-line-fits v w n a b c =
     omega (arith, plan-length v w n, field-fits 6 v comma (lit≤ tt) (omega arith), field-fits 6 w comma (lit≤ tt) (omega arith), field-fits 3 n lineFeed (lit≤ tt) (omega arith))
 
 -- ---- every answer fits the bytes that must be free
-module _ (ls : List Entry) (r : AllRanged ls) (few : 14 * length ls + 23 ≤ freeBytes) where
-  pub plan-fits : (v w n : ℕ) → v < 1000000 → w < 1000000 → n < 1000 → length (planLine v w n ++ entryLines ls) ≤ freeBytes
+module _ (ls : List Entry) (r : AllRanged ls) (few : 14 * length ls + 23 ≤ runBytes) where
+  pub plan-fits : (v w n : ℕ) → v < 1000000 → w < 1000000 → n < 1000 → length (planLine v w n ++ entryLines ls) ≤ runBytes
   plan-fits v w n a b c = omega (arith, length-append (planLine v w n) (entryLines ls), plan-line-fits v w n a b c, entries-fit r)
 
-  pub check-fits : length (yes ++ entryLines ls) ≤ freeBytes
+  pub check-fits : length (yes ++ entryLines ls) ≤ runBytes
   check-fits = omega (arith, length-append yes (entryLines ls), entries-fit r)
 
 pub refused-fits : (n : ℕ) → n < 100 → length (refused n) ≤ freeBytes

@@ -1,9 +1,10 @@
 -- The lines of a save: they are those of its changes, each short, read back, and with no padding. Assumes nothing.
-use Prim.Native.Nat.{ℕ, _+_}
+use Prim.Native.Nat.{ℕ, _+_, _≤_}
 use mathlib.Core.Path.{_≡_, refl, sym, ap, _∙_}
 use mathlib.Core.List.{List, [], _∷_, _++_, map, append-assoc, append-nil}
 use native.Mathlib.Omega.{arith}
 use lib.Seq.{append-snoc}
+use lib.ListN.{length}
 use Rattle.lists.specs.Each as each
 use Rattle.lists.specs.Each.{Each}
 use Rattle.lists.proofs.Each.{each-imply}
@@ -22,7 +23,7 @@ use Rattle.lines.proofs.Decimal.{decimal-digits}
 use Rattle.lines.proofs.Without.{Without, none, byte, without-append, without-digits, lines-first}
 use Rattle.lines.proofs.Padding.{decimal-unpadded}
 use Rattle.lines.proofs.Written.{letters-without, line-fields, change-row, written-parses}
-use Rattle.lines.proofs.SaveText.{FewDigits, saved-few, saved-same, line-length, weight-few, digits-short, save-fits}
+use Rattle.lines.proofs.SaveText.{FewDigits, saved-few, saved-same, line-length, weight-few, digits-short, digits-five, save-fits}
 
 -- ---- no line feed in a line
 line-without : (ns : List ℕ) {w : List ℕ} → Without lineFeed w → Without lineFeed (line w ns)
@@ -55,10 +56,13 @@ unfolding FewDigits
 read-back f c h =
     let l = lineOf f c in
     let r = change-row f c in
+    let few : length (written f c) ≤ 80 = omega (arith, line-length (l .word) h, weight-few h, r .few, r .count) in
+    let fields = line-fields (l .values) (letters-without comma (omega arith) (l .word) (r .letters)) in
     record {
-      short = omega (arith, line-length (l .word) h, weight-few h, r .few, r .count);
+      short = omega (arith, few);
+      before = record { short = few; digits = rw fields (digits-five h) };
       read = written-parses f c (digits-short h);
-      unpadded = rw (line-fields (l .values) (letters-without comma (omega arith) (l .word) (r .letters))) (all-unpadded (l .values));
+      unpadded = rw fields (all-unpadded (l .values));
     }
 
 pub save-lines : (f : SaveForm) (t : Tables) → Limits t → SaveLines f t

@@ -201,6 +201,10 @@ pub digits-short : {ns ds : List ℕ} → Pairwise Digits ns ds → Short ns
 digits-short none = each.none
 digits-short (both {x = n} h p) = each.more {x = n} (omega (arith, h .below, h .short)) (digits-short p)
 
+pub digits-five : {ns ds : List ℕ} → Pairwise Digits ns ds → Each (λ f. length f ≤ 5) (map decimal ns)
+digits-five none = each.none
+digits-five (both {x = n} {y = d} h p) = each.more {x = decimal n} (omega (arith, decimal-length d n (h .some) (h .below), h .few)) (digits-five p)
+
 module _ (f : SaveForm) where
   -- so many bytes at most, with the line feed
   most : Change → ℕ

@@ -68,6 +68,10 @@ answerOf (suc n) = Refused (suc n)
 abbrev pub freeBytes : ℕ
 freeBytes = 1024
 
+-- "`plan`, `last` and `check` need 2,048 free bytes" of request Ten of paper 02
+abbrev pub runBytes : ℕ
+runBytes = 2048
+
 -- the figures of a line are in the ranges of "Loads and book": 8 states, 32 rules of each sort, and loads of at most three digits
 pub record Ranged (e : Entry) : Type 0 where
   pub number : e .number < 1000

@@ -31,9 +31,9 @@ fields [] = [] ∷ []
 fields (b ∷ bs) = pick (eqb b comma) ([] ∷ fields bs) (onFirst b (fields bs))
 
 -- ---- "A number has one to five decimal digits" of paper 01. Its bar on leading zeros falls with request One of paper 02: "A number field may now
--- carry leading zeros, still within five digits."
+-- carry leading zeros, still within five digits." With request Ten: "numbers six digits".
 abbrev pub mostDigits : ℕ
-mostDigits = 5
+mostDigits = 6
 
 abbrev pub isDigit : ℕ → Bool
 isDigit b = leb nought b && leb b (nought + 9)
@@ -115,7 +115,7 @@ command (v ∷ fs) = findForm table v fs
 unfoldable pub parse : List ℕ → Command
 parse s = command (fields s)
 
--- what a line asks for: "line over 80 bytes" has the lower number, so its length is judged before its form
+-- what a line asks for: that it is too long has the lower number, so its length is judged before its form
 unfoldable pub lineCommand : List ℕ → Command
 lineCommand s = pick (tooLong s) TooLong (parse s)
 

@@ -1,4 +1,5 @@
--- "A line has at most 80 bytes, its line feed not counted": refusal 2 of paper 01, judged before the form and apart from it. Assumes nothing.
+-- "A line has at most 80 bytes, its line feed not counted": refusal 2 of paper 01, judged before the form and apart from it; and "lines 144 bytes" of
+-- request Ten of paper 02. Assumes nothing.
 use Prim.Native.Nat.{ℕ}
 use mathlib.Core.Bool.{Bool}
 use mathlib.Core.List.{List}
@@ -6,7 +7,7 @@ use lib.Dec.{ltb}
 use lib.ListN.{length}
 
 abbrev pub mostBytes : ℕ
-mostBytes = 80
+mostBytes = 144
 
 abbrev pub tooLong : List ℕ → Bool
 tooLong s = ltb mostBytes (length s)

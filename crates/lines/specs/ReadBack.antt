@@ -1,10 +1,11 @@
 -- What is proved of the text of a save: it fits, and its lines are read back as its changes.
--- It stands for "It needs 3,000 free bytes", "lines that rebuild the state" and "Numbers are written without padding" of request Two of paper 02, and
--- for the form of that request in which `save1` of request Eight writes. Assumes nothing.
-use Prim.Native.Nat.{_≤_}
+-- It stands for "It needs 3,000 free bytes", since request Ten 4,096, "lines that rebuild the state" and "Numbers are written without padding" of request Two of paper 02, and
+-- for the form of that request in which `save1` of request Eight writes; and for the planner "as it stood after request Eight or Nine" of request Ten,
+-- which has to read these lines too. Assumes nothing.
+use Prim.Native.Nat.{ℕ, _≤_}
 use mathlib.Core.Path.{_≡_}
 use mathlib.Core.Bool.{false}
-use mathlib.Core.List.{map}
+use mathlib.Core.List.{List, map}
 use lib.ListN.{length}
 use Rattle.lists.specs.Each.{Each}
 use Rattle.tables.specs.Tables.{Tables}
@@ -18,9 +19,15 @@ use Rattle.lines.specs.Written.{written}
 use Rattle.lines.specs.Saved.{saved, saveText, losesKinds, saveBytes}
 use Rattle.lines.specs.Input.{lines}
 
+-- a line that a planner takes as it stood before request Ten: "at most 80 bytes", and numbers of "one to five decimal digits"
+pub record AsBefore (s : List ℕ) : Type 0 where
+  pub short : length s ≤ 80
+  pub digits : Each (λ n. length n ≤ 5) (laterFields s)
+
 -- a line that is read back as what it tells; "Numbers are written without padding."
 pub record ReadBack (f : SaveForm) (c : change.Change) : Type 0 where
   pub short : length (written f c) ≤ mostBytes
+  pub before : AsBefore (written f c)
   pub read : parse (written f c) ≡ Change (told f c)
   pub unpadded : Each (λ n. unpadded n ≡ n) (laterFields (written f c))
 

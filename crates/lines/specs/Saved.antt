@@ -1,7 +1,7 @@
 -- The lines of a save: the changes that rebuild the tables, and their text.
 -- It stands for request Two of paper 02: "`clear`, then `book` if there are states, starts and ends ascending, rules, rows and loads in
--- order, `budget` last. Numbers are written without padding. It needs 3,000 free bytes"; and for "`save` now writes every kind, 0 too, and `save1`
--- writes the form of request Two and needs the same free bytes as `save`" of request Eight. Assumes nothing.
+-- order, `budget` last. Numbers are written without padding."; for "`save` now writes every kind, 0 too, and `save1` writes the form of request Two and
+-- needs the same free bytes as `save`" of request Eight; and for "saves 4,096" of request Ten. Assumes nothing.
 use Prim.Native.Nat.{ℕ, zero, suc}
 use mathlib.Core.Bool.{Bool, false}
 use mathlib.Core.List.{List, [], _∷_, _++_, map}
@@ -76,6 +76,6 @@ loses form.Plain b = b
 abbrev pub losesKinds : SaveForm → Tables → Bool
 losesKinds f t = loses f (hasKinds t)
 
--- "It needs 3,000 free bytes", and so does `save1`
+-- a save "needs 3,000 free bytes" of request Two, "saves 4,096" of request Ten, and so does `save1`
 abbrev pub saveBytes : ℕ
-saveBytes = 3000
+saveBytes = 4096

@@ -15,7 +15,7 @@ const LINE_FEED: u8 = 10;
 pub const NOUGHT: u8 = 48;
 
 // A line has at most so many bytes, its line feed not counted.
-const MOST_BYTES: usize = 80;
+const MOST_BYTES: usize = 144;
 
 // No line has more numbers.
 const MOST_NUMBERS: usize = 4;

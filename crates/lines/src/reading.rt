@@ -15,7 +15,7 @@ ghost use Rattle.lines.specs.Reading.{wordOf, mayFollow, mostNumbers, no
 
 const MOST_LETTERS: usize = 6;
 
-const MOST_DIGITS: u32 = 5;
+const MOST_DIGITS: u32 = 6;
 
 // The rows of the table with numbers, each as one number: the bytes of its word in base 256 after a 1, and as one byte more the count of
 // its numbers.

@@ -75,7 +75,7 @@ module _ (s : State) (h : Within s) (k : ℕ) (low : 1 ≤ k) where
     abbrev below : List ℕ
     below = loadRows (t .loads) σ k loadRowCount
 
-    small-worth : worth t σ < 100000
+    small-worth : worth t σ < 1000000
     small-worth = omega (arith, worth-most t (lawful t (h .tables)) σ, few-loads t (h .tables))
 
     small-power : power t σ < 1000
@@ -102,8 +102,8 @@ module _ (s : State) (h : Within s) (k : ℕ) (low : 1 ≤ k) where
     unfolding pageOf
     plan-page e =
         rw e record {
-          worth = digits-read worthDigits (worth t σ) small-worth (ap (λ (r : List ℕ). take 5 (drop 6 r)) row-one ∙ plan-worth (worth t σ) (power t σ));
-          power = digits-read powerDigits (power t σ) small-power (ap (λ (r : List ℕ). take 3 (drop 12 r)) row-one ∙ plan-power (worth t σ) (power t σ));
+          worth = digits-read worthDigits (worth t σ) small-worth (ap (λ (r : List ℕ). take 6 (drop 6 r)) row-one ∙ plan-worth (worth t σ) (power t σ));
+          power = digits-read powerDigits (power t σ) small-power (ap (λ (r : List ℕ). take 3 (drop 13 r)) row-one ∙ plan-power (worth t σ) (power t σ));
           loads = load-shown;
           missing = λ i l m. row-is i l ∙ row-missing (t .loads) σ (k + i) m;
         }

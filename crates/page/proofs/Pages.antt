@@ -85,9 +85,9 @@ module _ (v w : ℕ) where
       ap (λ (x : List ℕ). take worthDigits (drop 6 x)) (append-assoc front (watts w) r)
       ∙ mid (bytes "worth ") (digits worthDigits v) (watts w ++ r) 6 worthDigits refl (digits-length worthDigits v)
 
-  pub plan-power : take powerDigits (drop 12 (planRow v w)) ≡ digits powerDigits w
+  pub plan-power : take powerDigits (drop 13 (planRow v w)) ≡ digits powerDigits w
   unfolding planRow filled
-  plan-power = watts-digits front w (rest (front ++ watts w)) 11 (worth-bytes v)
+  plan-power = watts-digits front w (rest (front ++ watts w)) 12 (worth-bytes v)
 
 -- ---- the row of a load
 module _ (k m w : ℕ) where

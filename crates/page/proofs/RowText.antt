@@ -32,13 +32,13 @@ filled-length : (s : List ℕ) → length s ≤ rowBytes → length (filled s) �
 unfolding filled
 filled-length s h = omega (arith, length-append s (replicate (rowBytes - length s) blank), length-replicate {A = ℕ} (rowBytes - length s) blank)
 
-pub worth-bytes : (v : ℕ) → length (bytes "worth " ++ digits worthDigits v) ≡ 11
+pub worth-bytes : (v : ℕ) → length (bytes "worth " ++ digits worthDigits v) ≡ 12
 worth-bytes v = omega (arith, length-append (bytes "worth ") (digits worthDigits v), digits-length worthDigits v)
 
 pub mark-bytes : (k m : ℕ) → length (digits numberDigits k ++ (blank ∷ onOff m)) ≡ 7
 mark-bytes k m = omega (arith, length-append (digits numberDigits k) (blank ∷ onOff m), digits-length numberDigits k, mark-length m)
 
-pub plan-bytes : (v w : ℕ) → length (bytes "worth " ++ digits worthDigits v ++ watts w) ≡ 16
+pub plan-bytes : (v w : ℕ) → length (bytes "worth " ++ digits worthDigits v ++ watts w) ≡ 17
 plan-bytes v w =
     omega (arith, length-append (bytes "worth " ++ digits worthDigits v) (watts w), worth-bytes v, watts-length w)
 

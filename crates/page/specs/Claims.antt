@@ -49,8 +49,8 @@ pub record DrawingRight (p : StoredState) (load : ℕ) (page : List ℕ) (d : Dr
   pub ascii : d .number ≡ 0 → every isAscii (d .page) ≡ true
 
 -- ---- what is read off a page: so many bytes of row i from a place on. Rows and places are counted from 0:
---     worth 00070 030W        004 off 007W
---     0     6     12          0   4   8
+--     worth 000070 030W        004 off 007W
+--     0     6      13          0   4   8
 abbrev pub wordAt : List ℕ → (row place count : ℕ) → List ℕ
 wordAt page i a n = take n (drop a (rowAt page i))
 
@@ -65,11 +65,11 @@ pub record LoadShown (t : Tables) (σ : ℕ → ℕ) (page : List ℕ) (row k : 
   pub mark : wordAt page row 4 3 ≡ onOff (σ k)
   pub power : Reads (wordAt page row 8 powerDigits) (getD (t .loads) (k - 1) noLoad .power)
 
--- the page of a plan whose set is σ: "Row one is `worth `, five digits, a blank, three digits of power"; "Rows two to eight show loads k to k+6";
+-- the page of a plan whose set is σ: "Row one is `worth `", six digits with request Ten, "a blank, three digits of power"; "Rows two to eight show loads k to k+6";
 -- "missing loads .. are blank rows"
 pub record PlanPage (t : Tables) (σ : ℕ → ℕ) (load : ℕ) (page : List ℕ) : Type 0 where
   pub worth : Reads (wordAt page 0 6 worthDigits) (worth t σ)
-  pub power : Reads (wordAt page 0 12 powerDigits) (power t σ)
+  pub power : Reads (wordAt page 0 13 powerDigits) (power t σ)
   pub loads : (i : ℕ) → i < loadRowCount → load + i ≤ length (t .loads) → LoadShown t σ page (suc i) (load + i)
   pub missing : (i : ℕ) → i < loadRowCount → length (t .loads) < load + i → rowAt page (suc i) ≡ blankRow
 

@@ -44,7 +44,7 @@ abbrev pub blankRow : List ℕ
 blankRow = filled []
 
 abbrev pub worthDigits : ℕ
-worthDigits = 5
+worthDigits = 6
 
 abbrev pub powerDigits : ℕ
 powerDigits = 3
@@ -56,7 +56,7 @@ numberDigits = 3
 unfoldable pub watts : ℕ → List ℕ
 watts w = blank ∷ digits powerDigits w ++ bytes "W"
 
--- "Row one is `worth `, five digits, a blank, three digits of power and `W`"
+-- "Row one is `worth `, five digits, a blank, three digits of power and `W`"; "the page's worth six digits" of request Ten
 unfoldable pub planRow : (worth power : ℕ) → List ℕ
 planRow v w = filled (bytes "worth " ++ digits worthDigits v ++ watts w)
 

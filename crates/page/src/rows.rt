@@ -21,7 +21,7 @@ ghost use Rattle.page.specs.Rows.{rowBytes, loadRowCount, blank, digits,
 const BLANK: u8 = b' ';
 
 // The digits of a worth, of a power and of a load's number.
-const WORTH_DIGITS: usize = 5;
+const WORTH_DIGITS: usize = 6;
 
 const POWER_DIGITS: usize = 3;
 

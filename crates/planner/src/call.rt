@@ -26,8 +26,10 @@ ghost use Rattle.planner.specs.Calls.{callOf, doneOf, turnedAway};
 // "1,024 bytes must be free from there."
 pub const FREE_BYTES: usize = 1024;
 
-// A save "needs 3,000 free bytes".
-pub const SAVE_BYTES: usize = 3000;
+// "`plan`, `last` and `check` need 2,048 free bytes, saves 4,096".
+pub const RUN_BYTES: usize = 2048;
+
+pub const SAVE_BYTES: usize = 4096;
 
 // What a call returns: the next planner, the number, 0 if accepted, and the count of bytes written.
 pub struct Called {
@@ -42,10 +44,10 @@ fn bytes_for(c: Command) -> usize
 {
     match c {
         Command::Change(_) => FREE_BYTES,
-        Command::Plan => FREE_BYTES,
-        Command::Check { set: _, count: _ } => FREE_BYTES,
+        Command::Plan => RUN_BYTES,
+        Command::Check { set: _, count: _ } => RUN_BYTES,
         Command::Save(_) => SAVE_BYTES,
-        Command::Last => FREE_BYTES,
+        Command::Last => RUN_BYTES,
         Command::Need(_) => FREE_BYTES,
         Command::Broken => FREE_BYTES,
         Command::TooLong => FREE_BYTES,

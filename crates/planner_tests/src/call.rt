@@ -14,7 +14,7 @@ pub const RUBBISH_BYTE: u8 = 170;
 const RUBBISH_CELL: u32 = 2863311530;
 
 // The lengths of output and work, of which a part is lent: a script can lend no more.
-const ALL_BYTES: usize = 3100;
+const ALL_BYTES: usize = 4200;
 
 const ALL_CELLS: usize = 620;
 
@@ -27,7 +27,7 @@ pub struct Lent {
 
 // More than enough, with bytes before the place.
 pub const ROOM: Lent = Lent {
-    bytes: 3090,
+    bytes: 4190,
     cells: 610,
     place: 20,
 };

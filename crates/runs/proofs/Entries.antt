@@ -19,7 +19,7 @@ use Rattle.lists.proofs.Places.{free-laid}
 use Rattle.marks.specs.declared.LoadSet.{LoadSet}
 use Rattle.marks.specs.Bits.{hasMark}
 use Rattle.marks.specs.Sets.{setWidth, noLoads, joined, hasLoad, loadsUpTo}
-use Rattle.marks.proofs.Laws.{mark-more, mark-less}
+use Rattle.marks.proofs.Sets.{firstOf, first-none, first-more, first-less, first-all}
 use Rattle.tables.specs.Limits.{maxLoads}
 use Rattle.tables.specs.declared.entry.Entry.{Entry}
 use Rattle.meaning.specs.Choice.{noEntry, find}
@@ -104,21 +104,18 @@ module _ (r : Run) where
   same-mark true = refl
   same-mark false = refl
 
-  pub set-to : (n : ℕ) → n ≤ setWidth → markAll noLoads (entriesTo r n) ≡ record { 0 = r .set .0 % 2 ^ n }
-  unfolding entriesTo markAll hasLoad joined
-  set-to zero h = let z : r .set .0 % 2 ^ 0 ≡ 0 = omega arith in λ i. record { 0 = sym z i }
+  pub set-to : (n : ℕ) → n ≤ setWidth → markAll noLoads (entriesTo r n) ≡ firstOf (r .set) n
+  unfolding entriesTo markAll
+  set-to zero h = first-none (r .set)
   set-to (suc n) h =
       mark-snoc noLoads (entriesTo r n) (entryAt r n)
       ∙ ap (λ (s : LoadSet). joinedIfOn s (entryAt r n)) (set-to n (omega arith))
-      ∙ ap (λ (b : Bool). pick b (joined (below n) (suc n)) (below n)) (same-mark (hasLoad (r .set) (suc n)))
+      ∙ ap (λ (b : Bool). pick b (joined (firstOf (r .set) n) (suc n)) (firstOf (r .set) n)) (same-mark (hasLoad (r .set) (suc n)))
       ∙ go (hasLoad (r .set) (suc n)) refl
     where
-      below : ℕ → LoadSet
-      below n = record { 0 = r .set .0 % 2 ^ n }
-
-      go : (b : Bool) → hasLoad (r .set) (suc n) ≡ b → pick b (joined (below n) (suc n)) (below n) ≡ below (suc n)
-      go true e = let m = mark-more setWidth (r .set .0) n h e in λ i. record { 0 = m i }
-      go false e = let m = mark-less (r .set .0) n e in λ i. record { 0 = sym m i }
+      go : (b : Bool) → hasLoad (r .set) (suc n) ≡ b → pick b (joined (firstOf (r .set) n) (suc n)) (firstOf (r .set) n) ≡ firstOf (r .set) (suc n)
+      go true e = first-more (r .set) n h e
+      go false e = first-less (r .set) n e
 
   -- the run of its entries, where all else is 0
   pub run-read : length (r .states) ≡ maxLoads → length (r .«load_rules») ≡ maxLoads → length (r .«row_rules») ≡ maxLoads
@@ -129,10 +126,8 @@ module _ (r : Run) where
       let y = z && zeroFrom n (r .«row_rules») in
       let columns = and-left y (loadsUpTo n (r .set)) free in
       let first = and-left z (zeroFrom n (r .«row_rules»)) columns in
-      let small = ltb-true (r .set .0) (2 ^ n) (and-right y (loadsUpTo n (r .set)) free) in
       let states = array (λ e. e .state) (r .states) (λ i. refl) a n h (and-left (zeroFrom n (r .states)) (zeroFrom n (r .«load_rules»)) first) in
       let rules = array (λ e. e .rule) (r .«load_rules») (λ i. refl) b n h (and-right (zeroFrom n (r .states)) (zeroFrom n (r .«load_rules»)) first) in
       let rows = array (λ e. e .row) (r .«row_rules») (λ i. refl) c n h (and-right z (zeroFrom n (r .«row_rules»)) columns) in
-      let size = mod-eq-of-lt small in
-      let set = set-to n h ∙ (λ i. record { 0 = size i }) in
+      let set = set-to n h ∙ first-all (r .set) n (and-right y (loadsUpTo n (r .set)) free) in
       λ i. record { states = states i; «load_rules» = rules i; «row_rules» = rows i; set = set i }

@@ -17,6 +17,7 @@ use Rattle.lists.proofs.Tests.{from-each, from-at}
 use Rattle.lists.proofs.Places.{laid-free}
 use Rattle.marks.specs.declared.LoadSet.{LoadSet}
 use Rattle.marks.specs.Sets.{noLoads, loadsUpTo}
+use Rattle.marks.proofs.Sets.{firstOf, first-up-to}
 use Rattle.tables.specs.Tables.{Tables}
 use Rattle.tables.specs.Limits.{between, maxLoads}
 use Rattle.tables.specs.Lawful.{Lawful}
@@ -108,10 +109,9 @@ module _ (m : RunRange) (few : m .loads ≤ maxLoads) where
   unfolding runOf
   set-free es l =
       let n = length es in
-      let same : markAll noLoads es ≡ record { 0 = markAll noLoads es .0 % 2 ^ n } =
+      let same : markAll noLoads es ≡ firstOf (markAll noLoads es) n =
       sym (ap (markAll noLoads) (ap (entriesTo (runOf es)) (l .all) ∙ lines-read es l)) ∙ set-to (runOf es) n (omega (arith, l .all)) in
-      let below = mod-lt (markAll noLoads es .0) (pow-pos n) in
-      lt-ltb (markAll noLoads es .0) (2 ^ n) (omega (arith, below, ap (λ (s : LoadSet). s .0) same))
+      subst (λ (s : LoadSet). loadsUpTo n s ≡ true) (sym same) (first-up-to (markAll noLoads es) n)
 
   run-free : (es : List Entry) → LinesIn m es → runFree (m .loads) (runOf es) ≡ true
   unfolding runOf runFree

@@ -104,14 +104,16 @@ budgetIn b = leb b maxBudget
 unfoldable pub loadIn : (number : ℕ) → Load → Bool
 loadIn k l = parentIn k (l .parent) && figureIn figure.Power (l .power) && figureIn figure.Worth (l .worth) && kindIn (l .kind)
 
--- "numbered 1 to 64": the code's limit. What is shown of tables holds for every limit up to the numbers that a set of loads can hold.
+-- "The limit becomes 128" of request Ten of paper 02: the code's limit; paper 01 has 64. What is shown of tables holds for every limit up to the
+-- numbers that a set of loads can hold.
 abbrev pub maxLoads : ℕ
-maxLoads = 64
+maxLoads = 128
 
 abbrev pub mostPlaces : ℕ
 mostPlaces = setWidth
 
--- "v is 0 to 64,000" of request Nine of paper 02: no set of as many loads as there are places for is worth more
+-- "v is 0 to 64,000" of request Nine of paper 02, "`need` up to 128,000" of its request Ten: no set of as many loads as there are places for is worth
+-- more
 abbrev pub needIn : (places : ℕ) → ℕ → Bool
 needIn n v = leb v (n * maxWorth)
 

@@ -26,7 +26,7 @@ use Rattle.tables.specs.Limits.{maxRules, sameRule}
 use Rattle.tables.specs.Stored.{heldMarks, heldRules, rulesOf, loadsOf, placesOf, storedBook}
 use Rattle.tables.specs.Changes.{withFigure, reparented}
 
--- "64 loads or 32 rules of that sort already": 6; "the same rule already in the book": 7; else 0
+-- "64 loads or 32 rules of that sort already", 128 loads with request Ten: 6; "the same rule already in the book": 7; else 0
 abbrev pub addingNumber : (isFull isThere : Bool) → ℕ
 addingNumber isFull isThere = pick isFull no.full (pick isThere no.sameRule 0)
 
@@ -52,7 +52,7 @@ loadAppended l x =
     let n = loadNumber (placesOf l) (loadsOf l) in
     record { number = n; list = accepted n (record { items = set (l .items) (l .count) x; count = l .count + 1 }) l }
 
--- load k is at place k - 1; a number outside 1 to 64 reads an unused place, and changes nothing
+-- load k is at place k - 1; a number outside 1 to 128 reads an unused place, and changes nothing
 unfoldable pub loadAt : LoadList → (number : ℕ) → Load
 loadAt l k = pick (within (placesOf l) k) (getD (l .items) (k - 1) noLoad) noLoad
 

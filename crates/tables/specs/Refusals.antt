@@ -5,7 +5,7 @@ use Prim.Native.Nat.{ℕ}
 abbrev pub unusable : ℕ
 unusable = 1
 
--- "line over 80 bytes"
+-- "line over 80 bytes", 144 with request Ten of paper 02
 abbrev pub tooLong : ℕ
 tooLong = 2
 
@@ -21,7 +21,7 @@ noLoads = 4
 abbrev pub outOfRange : ℕ
 outOfRange = 5
 
--- "64 loads or 32 rules of that sort already"
+-- "64 loads or 32 rules of that sort already", 128 loads with request Ten of paper 02
 abbrev pub full : ℕ
 full = 6
 

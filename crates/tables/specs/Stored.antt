@@ -59,7 +59,7 @@ rulesOf l = take (l .count) (l .items)
 abbrev pub loadsOf : LoadList → List Load
 loadsOf l = take (l .count) (l .items)
 
--- the limit of loads is the number of places that the array has: 64 in the code, by its type
+-- the limit of loads is the number of places that the array has: 128 in the code, by its type
 abbrev pub placesOf : LoadList → ℕ
 placesOf l = length (l .items)
 

@@ -34,7 +34,7 @@ abbrev pub rulesFor : Book → Sort → List Transition
 rulesFor b sort.Load = b .loadRules
 rulesFor b sort.Row = b .rowRules
 
--- the loads are "numbered 1 to 64 in order of entry": 64 is `places`, the limit of loads, which no line changes
+-- the loads are "numbered 1 to 64 in order of entry", to 128 with request Ten of paper 02: that is `places`, the limit of loads, which no line changes
 pub record Tables : Type 0 where
   pub book : Book
   pub loads : List Load

@@ -8,7 +8,7 @@ ghost use Rattle.tables.specs.Changes.{withFigure, isChild, hasChildren,
 ghost use Rattle.tables.specs.Operations.{loadAppended, loadAt, loadReplaced, figureSet, loadRemoved};
 use crate::refusal::FULL;
 
-pub const MAX_LOADS: usize = 64;
+pub const MAX_LOADS: usize = 128;
 
 pub const MAX_POWER: u16 = 500;
 
@@ -159,7 +159,7 @@ impl LoadList {
         }
     }
 
-    // The load of this number. A number outside 1 to 64 gives what an unused place holds.
+    // The load of this number. A number outside 1 to 128 gives what an unused place holds.
     pub fn load(self, number: usize) -> Load
         ensures { λ r. ⌜ r ≡ loadAt self number ⌝ }
     {
@@ -172,7 +172,7 @@ impl LoadList {
         self.items[number - 1]
     }
 
-    // The list with another load of this number. A number outside 1 to 64 changes nothing.
+    // The list with another load of this number. A number outside 1 to 128 changes nothing.
     pub(crate) fn replace(self, number: usize, load: Load) -> LoadList
         ensures { λ r. ⌜ r ≡ loadReplaced self number load ⌝ }
     {

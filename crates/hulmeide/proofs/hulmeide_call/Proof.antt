@@ -54,7 +54,7 @@ use Rattle.hulmeide.proofs.Reply as R
 use Rattle.hulmeide.proofs.Reply.Laws as R′
 use Rattle.hulmeide.proofs.Handled as B
 use Rattle.hulmeide.proofs.Handled.Laws as B′
-use Rattle.hulmeide.proofs.Steps.{mach, has, typed, slice, sized, at-place, seen, borrow, taken, kept, opened, returned, freed, by-walk}
+use Rattle.hulmeide.proofs.Steps.{mach, has, typed, slice, sized, at-place, seen, borrow, taken, kept, opened, returned, freed4, by-walk}
 use Rattle.hulmeide.proofs.handle as callee
 use Rattle.hulmeide.proofs.handle.Symbol as callee-def
 use Rattle.hulmeide.proofs.handle.Symbol.{name as #callee}
@@ -137,6 +137,15 @@ module _ {M : Type 1} (𝓤 : URA M) (H : Heap 𝓤) (A : Atoms 𝓤) (W : Given
   abbrev Said : Handled → Lasts → Item 𝓤
   Said r zs = ‵ (lasts callee.ended κs (p, lent) zs) ⊛ raw (fact 𝓤 (Promised r (zs .1 .1 .0) (zs .1 .1 .1 .1 .0)))
 
+  -- the last output and the last work, each as long as the one that was lent
+  lasted : (zs : Lasts) → ent 𝓤 (sem 𝓤 H A (lasts callee.ended κs (p, lent) zs))
+      (guard 𝓤 (length (zs .1 .1 .0) ≡ length (out .now)) (guard 𝓤 (length (zs .1 .1 .1 .1 .0) ≡ length (work .now)) (sep 𝓤 (sem 𝓤 H A (finally u32 (work .name) (zs .1 .1 .1 .1 .0))) (sem 𝓤 H A (finally u8 (out .name) (zs .1 .1 .0))))))
+  lasted zs =
+      qed W (‵ (lasts callee.ended κs (p, lent) zs) ∷ []) ∵
+      fsplit ! $ drop ! $ fsplit ! $ drop ! $ fsplit ! $ fsplit ! $ move ! (1 ∷ []) $ feqL ! (λ l.
+      move ! (1 ∷ []) $ fsplit ! $ drop ! $ fsplit ! $ fsplit ! $ move ! (1 ∷ []) $ feqL ! (λ l′.
+      check ! l $ check ! l′ $ frame ! $ drop ! $ done !))
+
   -- what is had at exit
   abbrev Had : Handled → (o w : List ℕ) → List (Item 𝓤)
   Had r os ws = ‵ (seen γ (r .planner)) ∷ ‵ (borrow κ b o γ) ∷ ‵ (flft κ q) ∷ ‵ (reply-has (r .reply)) ∷ tokens ∷ ‵ (finally u32 (work .name) ws) ∷ ‵ (finally u8 (out .name) os) ∷ []
@@ -173,25 +182,23 @@ module _ {M : Type 1} (𝓤 : URA M) (H : Heap 𝓤) (A : Atoms 𝓤) (W : Given
         calls-at ! fm (Callee 𝓤 H A at-mem run) known to-callee (and-then ! (load ! (from ! (stop !)) (look ! 13 refl)) (and-then ! (load ! (from ! (stop !)) (look ! 23 refl)) (and-then ! (load ! (from ! (stop !)) (look ! 9 refl)) (and-then ! (load ! (from ! (stop !)) (look ! 19 refl)) (and-then ! (load ! (from ! (stop !)) (look ! 5 refl)) (no-more !)))))) (λ v.
         returned ! tt tokens (λ r. B.the-row .own r (v ∷ [])) Ensured (id⊢ 𝓤 _) (λ r. use1 W (some (Said r)) (id⊢ 𝓤 _) $ pick ! (λ zs. split ! $ move ! (1 ∷ []) $
         heard ! (Promised r (zs .1 .1 .0) (zs .1 .1 .1 .1 .0)) (λ e.
-        -- the last output and the last work, each as long as the one that was lent
-        fsplit ! $ drop ! $ fsplit ! $ drop ! $ fsplit ! $ fsplit ! $ move ! (1 ∷ []) $ feqL ! (λ l.
-        move ! (1 ∷ []) $ fsplit ! $ drop ! $ fsplit ! $ fsplit ! $ move ! (1 ∷ []) $ feqL ! (λ l′.
-        -- [the last work; …; the last output; what the result owns; the tokens; the cell; the open borrow; …; …; _11; …; room for _6; …; room for _0; …]
-        move ! (3 ∷ []) $ peeks ! B.the-row (Is B.the-row) (shows 𝓤 H A B.the-row) r (v ∷ []) (λ is.
-        land ! (from ! (stop !)) (init ! 19 refl (LL.lawful B.the-type B′.the-laws 𝓤 H A W .typed r _ is .0)) $
+        use1 W (given (length (zs .1 .1 .0) ≡ length (out .now)) (given (length (zs .1 .1 .1 .1 .0) ≡ length (work .now)) (‵ (finally u32 (work .name) (zs .1 .1 .1 .1 .0)) ⊛ ‵ (finally u8 (out .name) (zs .1 .1 .0))))) (lasted zs) $
+        learn ! (λ l. learn ! (λ l′. split ! $
+        -- [the last work; the last output; what the result owns; the tokens; the cell; the open borrow; …; …; _11; …; room for _6; …; room for _0; …]
+        move ! (2 ∷ []) $ peeks ! B.the-row (Is B.the-row) (shows 𝓤 H A B.the-row) r (v ∷ []) (λ is.
+        land ! (from ! (stop !)) (init ! 18 refl (LL.lawful B.the-type B′.the-laws 𝓤 H A W .typed r _ is .0)) $
         use1 W (given (v ∷ [] ≡ handled-val r ∷ []) (‵ (has (r .planner)) ⊛ ‵ (reply-has (r .reply)))) (apart 𝓤 H A W r v) $ learn ! (λ spells. split ! $
-        rewrite ! 20 (λ (u : Val). ‵ (fat fullShare B′.mir l₆ 0 u)) (ap only spells) refl $
+        rewrite ! 19 (λ (u : Val). ‵ (fat fullShare B′.mir l₆ 0 u)) (ap only spells) refl $
         peeks ! T.the-row (Is T.the-row) (shows 𝓤 H A T.the-row) (r .planner) (mach (r .planner) ∷ []) (λ is₀. move ! (1 ∷ []) $
         peeks ! R.the-row (Is R.the-row) (shows 𝓤 H A R.the-row) (r .reply) (reply-val (r .reply) ∷ []) (λ is₁.
-        -- [what the reply owns; what the planner returned owns; the last work; …; the last output; the tokens; the cell; the open borrow; …; …; _11; …; _6; …; _1; …; room for _0; …]
-        assigns ! (of-opd ! (load ! (from ! (fld ! refl (stop !))) (look-in ! 20 (sub ! 0 refl (whole !))))) (from ! (hop ! (look ! 30 refl) (stop !))) (store-raw ! 6 refl (typed 𝓤 H A W (r .planner) _ is₀)) $
-        assigns ! (of-opd ! (load ! (from ! (fld ! refl (stop !))) (look-in ! 20 (sub ! 1 refl (whole !))))) (from ! (stop !)) (init ! 32 refl (LL.lawful R.the-type R′.the-laws 𝓤 H A W .typed (r .reply) _ is₁ .0)) $
-        move ! (6 ∷ 1 ∷ 7 ∷ 8 ∷ 9 ∷ []) $ closes ! tt T.the-row (r .planner) (mach (r .planner) ∷ []) b o $
-        -- [the planner seen; the borrow; its token; what the reply owns; the last work; …; the last output; the tokens; _11; …; _0; …]
-        returns ! (look ! 30 refl) $ move ! (30 ∷ 31 ∷ []) $ freed ! $ move ! (28 ∷ 29 ∷ []) $ freed ! $ move ! (26 ∷ 27 ∷ []) $ freed ! $ move ! (24 ∷ 25 ∷ []) $ freed ! $
-        move ! (22 ∷ 23 ∷ []) $ freed ! $ move ! (20 ∷ 21 ∷ []) $ freed ! $ move ! (18 ∷ 19 ∷ []) $ freed ! $ move ! (16 ∷ 17 ∷ []) $ freed ! $
-        move ! (14 ∷ 15 ∷ []) $ freed ! $ move ! (12 ∷ 13 ∷ []) $ freed ! $ move ! (10 ∷ 11 ∷ []) $ freed ! $ move ! (8 ∷ 9 ∷ []) $ freed ! $ free0 ! $
-        keep ! (0 ∷ 1 ∷ 2 ∷ 3 ∷ 7 ∷ 4 ∷ 6 ∷ []) $ by ! (exits r (zs .1 .1 .0) (zs .1 .1 .1 .1 .0) e l l′))))))))))))))))))))))))
+        -- [what the reply owns; what the planner returned owns; the last work; the last output; the tokens; the cell; the open borrow; …; …; _11; …; _6; …; _1; …; room for _0; …]
+        assigns ! (of-opd ! (load ! (from ! (fld ! refl (stop !))) (look-in ! 19 (sub ! 0 refl (whole !))))) (from ! (hop ! (look ! 29 refl) (stop !))) (store-raw ! 5 refl (typed 𝓤 H A W (r .planner) _ is₀)) $
+        assigns ! (of-opd ! (load ! (from ! (fld ! refl (stop !))) (look-in ! 19 (sub ! 1 refl (whole !))))) (from ! (stop !)) (init ! 31 refl (LL.lawful R.the-type R′.the-laws 𝓤 H A W .typed (r .reply) _ is₁ .0)) $
+        move ! (5 ∷ 1 ∷ 6 ∷ 7 ∷ 8 ∷ []) $ closes ! tt T.the-row (r .planner) (mach (r .planner) ∷ []) b o $
+        -- [the planner seen; the borrow; its token; what the reply owns; the last work; the last output; the tokens; _11; …; _0; …]
+        returns ! (look ! 29 refl) $ move ! (29 ∷ 30 ∷ 27 ∷ 28 ∷ 25 ∷ 26 ∷ 23 ∷ 24 ∷ []) $ freed4 ! $
+        move ! (21 ∷ 22 ∷ 19 ∷ 20 ∷ 17 ∷ 18 ∷ 15 ∷ 16 ∷ []) $ freed4 ! $ move ! (13 ∷ 14 ∷ 11 ∷ 12 ∷ 9 ∷ 10 ∷ 7 ∷ 8 ∷ []) $ freed4 ! $ free0 ! $
+        keep ! (0 ∷ 1 ∷ 2 ∷ 3 ∷ 6 ∷ 4 ∷ 5 ∷ []) $ by ! (exits r (zs .1 .1 .0) (zs .1 .1 .1 .1 .0) e l l′))))))))))))))))))))))))
 
 goes : {M : Type 1} (𝓤 : URA M) (H : Heap 𝓤) (A : Atoms 𝓤) (W : Given 𝓤 H A) → AllGo 𝓤 H A W 4 (f.signature .params) (f.ended .kept) stayed
 goes 𝓤 H A W =
