@@ -30,7 +30,7 @@ use Rattle.tables.proofs.Stored.{tables-stored}
 use Rattle.tables.proofs.Removed.{one-fewer}
 use Rattle.tables.proofs.Keeps.{drop-load-keeps}
 use Rattle.meaning.proofs.Leaving.{left}
-use Rattle.runs.specs.Outcome.{nothing, storedOutcome, rangeOf, outcomeIn}
+use Rattle.runs.specs.Outcome.{Outcome, nothing, storedOutcome, rangeOf, outcomeIn}
 use Rattle.calls.specs.State.{State, StoredState, storedState, stateOf, Within, Kept}
 use Rattle.calls.specs.Rows.{load, changing}
 use Rattle.calls.specs.Calls.{Call, Done, rowFor, numberFor, after, answer, called}
@@ -133,7 +133,7 @@ pub drops : {n : ℕ} (p : StoredState) → Kept n p → (c : Call) (k : ℕ) �
 unfolding answer changing outcomeIn
 drops {n} p h c k d = record {
   tables = held;
-  kept = record { tables = (u, keeps, held, full); outcome = (nothing, in-range, wiped) };
+  kept = record { tables = (u, keeps, held, full); outcome = (nothing, in-range, wiped ∙ ap (λ (m : ℕ). storedOutcome m nothing) (full ∙ sym (places (called p c .state .tables) (u, keeps, held, full)))) };
   fewer = fewer;
   emptied = λ e. no-more (u .loads) (omega (arith, fewer));
   filled = λ a b v m e. record { accepted = load-accepted (t .places) (u .loads) (load a b v m) (rw fewer e) (omega (arith, fewer, lawful t (w .tables) .loads)); after = refl };
@@ -176,8 +176,11 @@ drops {n} p h c k d = record {
     held : called p c .state .tables ≡ stored u
     held = ap (λ (x : Done). x .state .tables) done ∙ ap stored (change-after s c (to.Drop k) (d .line) none)
 
-    wiped : called p c .state .outcome ≡ storedOutcome nothing
-    wiped = ap (λ (x : Done). x .state .outcome) done ∙ rw (none, change-row s c (to.Drop k) (d .line))
+    wiped : called p c .state .outcome ≡ storedOutcome (u .places) nothing
+    wiped =
+        let none-kept : after s c .outcome ≡ nothing = rw (none, change-row s c (to.Drop k) (d .line)) in
+        ap (λ (x : Done). x .state .outcome) done
+        ∙ ap₂ (λ (m : ℕ) (o : Outcome). storedOutcome m o) (ap (λ (x : Tables). x .places) (change-after s c (to.Drop k) (d .line) none)) none-kept
 
     in-range : outcomeIn (rangeOf (tablesOf (called p c .state .tables))) nothing ≡ true
     in-range = refl
@@ -190,5 +193,5 @@ drops {n} p h c k d = record {
     enters r hr xs y l f =
         let e = ends Kinds u keeps refl full r hr xs y (l ∙ ap (λ (cs : List Change). lines (changesText Kinds cs)) (sym lines-left)) f in
         let same : last r xs .tables ≡ called p c .state .tables = ap (λ (x : StoredState). x .tables) (e .last) ∙ ap stored (e .tables) ∙ sym held in
-        let gone : last r xs .outcome ≡ called p c .state .outcome = ap (λ (x : StoredState). x .outcome) (e .last) ∙ ap storedOutcome (e .outcome) ∙ sym wiped in
+        let gone : last r xs .outcome ≡ called p c .state .outcome = ap (λ (x : StoredState). x .outcome) (e .last) ∙ ap₂ (λ (x : Tables) (o : Outcome). storedOutcome (x .places) o) (e .tables) (e .outcome) ∙ sym wiped in
         record { accepted = e .accepted; tables = same; answers = λ x. λ i. called (record { tables = same i; outcome = gone i }) x }

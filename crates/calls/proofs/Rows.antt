@@ -104,6 +104,10 @@ sound t (to.Budget w) = is-sound (lit≤ tt, lit≤ tt) refl (λ h e. set-budget
 sound t (to.Drop k) =
     is-sound (lit≤ tt, (lit≤ tt, lit≤ tt)) refl (λ h e. let p = may-leave t k e in drop-load-keeps t h k (p .0 .0) (p .0 .1) (p .1))
 
+-- no change changes the limit of loads
+pub change-places : (t : Tables) (c : Change) → changing t c .after .places ≡ t .places
+change-places t c = sound t c .places
+
 -- ---- rows
 -- the entries of a run, one for each load
 pub record OneEach (t : Tables) (es : List Entry) : Type 0 where

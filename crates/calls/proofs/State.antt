@@ -7,7 +7,8 @@ use lib.ListN.{length}
 use Rattle.lists.proofs.Bools.{and-left, and-right}
 use Rattle.tables.specs.declared.tables.StoredTables.{StoredTables}
 use Rattle.tables.specs.Tables.{Tables}
-use Rattle.tables.specs.Limits.{maxLoads, mostPlaces, Limits}
+use Rattle.marks.specs.Sets.{setWidth}
+use Rattle.tables.specs.Limits.{mostPlaces, Limits}
 use Rattle.tables.specs.Stored.{storedBook, stored, tablesOf, keepsLimits, Holds}
 use Rattle.tables.proofs.Lawful as tables
 use Rattle.tables.proofs.Keeps.{fresh-limits}
@@ -38,18 +39,22 @@ module _ {n : ℕ} (u : StoredTables) (h : Holds n u) where
 
 -- ---- the outcome
 -- there is a place for each load
-pub few-loads : (t : Tables) → Limits t → length (t .loads) ≤ maxLoads
-few-loads t h = let w = tables.lawful t h in omega (arith, w .loads, w .places)
+pub few-loads : (t : Tables) → Limits t → length (t .loads) ≤ t .places
+few-loads t h = tables.lawful t h .loads
 
-module _ (t : Tables) (h : Limits t) (x : StoredOutcome) (k : (o : Outcome) × (outcomeIn (rangeOf t) o ≡ true) × (x ≡ storedOutcome o)) where
+-- and a set can hold each
+most-places : (t : Tables) → Limits t → t .places ≤ setWidth
+most-places t h = tables.lawful t h .places
+
+module _ (t : Tables) (h : Limits t) (x : StoredOutcome) (k : (o : Outcome) × (outcomeIn (rangeOf t) o ≡ true) × (x ≡ storedOutcome (t .places) o)) where
   same-outcome : outcomeOf (length (t .loads)) x ≡ k .0
-  same-outcome = ap (outcomeOf (length (t .loads))) (k .2) ∙ outcome-stored (rangeOf t) (few-loads t h) (k .0) (k .1)
+  same-outcome = ap (outcomeOf (length (t .loads))) (k .2) ∙ outcome-stored (t .places) (most-places t h) (rangeOf t) (few-loads t h) (k .0) (k .1)
 
   in-range : outcomeIn (rangeOf t) (outcomeOf (length (t .loads)) x) ≡ true
   in-range = rw same-outcome (k .1)
 
-  pub is-outcome : x ≡ storedOutcome (outcomeOf (length (t .loads)) x)
-  is-outcome = k .2 ∙ ap storedOutcome (sym same-outcome)
+  pub is-outcome : x ≡ storedOutcome (t .places) (outcomeOf (length (t .loads)) x)
+  is-outcome = k .2 ∙ ap (storedOutcome (t .places)) (sym same-outcome)
 
 -- ---- the state
 pub fresh-within : (n : ℕ) → n ≤ mostPlaces → Within (fresh n)
@@ -59,30 +64,32 @@ fresh-within n h = record { tables = fresh-limits n h; outcome = refl }
 pub state-stored : (s : State) → Within s → stateOf (storedState s) ≡ s
 state-stored s h =
     let e = tables-stored (s .tables) (h .tables) in
-    let q : outcomeOf (length (tablesOf (stored (s .tables)) .loads)) (storedOutcome (s .outcome)) ≡ s .outcome =
-    ap (λ (t : Tables). outcomeOf (length (t .loads)) (storedOutcome (s .outcome))) e
-    ∙ outcome-stored (rangeOf (s .tables)) (few-loads (s .tables) (h .tables)) (s .outcome) (h .outcome) in
+    let q : outcomeOf (length (tablesOf (stored (s .tables)) .loads)) (storedOutcome (s .tables .places) (s .outcome)) ≡ s .outcome =
+    ap (λ (t : Tables). outcomeOf (length (t .loads)) (storedOutcome (s .tables .places) (s .outcome))) e
+    ∙ outcome-stored (s .tables .places) (most-places (s .tables) (h .tables)) (rangeOf (s .tables)) (few-loads (s .tables) (h .tables)) (s .outcome) (h .outcome) in
     λ i. record { tables = e i; outcome = q i }
 
 pub keeps-stored : (s : State) → Within s → keeps (storedState s) ≡ true
 unfolding stored storedBook
 keeps-stored s h =
     rw (stored-keeps (s .tables) (h .tables))
-    (stored-in (rangeOf (s .tables)) (few-loads (s .tables) (h .tables)) (s .outcome) (h .outcome))
+    (stored-in (s .tables .places) (most-places (s .tables) (h .tables)) (rangeOf (s .tables)) (few-loads (s .tables) (h .tables)) (s .outcome) (h .outcome))
 
 module _ {n : ℕ} (p : StoredState) where
   -- a planner that keeps the limits holds a state within them
-  pub kept-by : Holds n (p .tables) → length (p .outcome .run .states) ≡ maxLoads → length (p .outcome .run .«load_rules») ≡ maxLoads
-      → length (p .outcome .run .«row_rules») ≡ maxLoads → keepsOutcome (heldRange (p .tables)) (p .outcome) ≡ true → Kept n p
+  pub kept-by : Holds n (p .tables) → length (p .outcome .run .states) ≡ n → length (p .outcome .run .«load_rules») ≡ n
+      → length (p .outcome .run .«row_rules») ≡ n → keepsOutcome (heldRange (p .tables)) (p .outcome) ≡ true → Kept n p
   kept-by holds a b c test =
       let t = tablesOf (p .tables) in
       let e = rw (range-held (p .tables) holds) at test in
+      let l = lawful (p .tables) holds in
+      let at = sym (places (p .tables) holds) in
       record {
         tables = holds;
         outcome = (
           outcomeOf (length (t .loads)) (p .outcome),
           kept-in (rangeOf t) (p .outcome) e,
-          outcomes.kept-stored (rangeOf t) (few-loads t (lawful (p .tables) holds)) (p .outcome) a b c e,
+          outcomes.kept-stored (t .places) (most-places t l) (rangeOf t) (few-loads t l) (p .outcome) (a ∙ at) (b ∙ at) (c ∙ at) e,
         );
       }
 

@@ -9,7 +9,7 @@ use lib.ListN.{length}
 use Rattle.tables.specs.declared.tables.StoredTables.{StoredTables}
 use Rattle.tables.specs.Tables as on-paper
 use Rattle.tables.specs.Tables.{Tables}
-use Rattle.tables.specs.Limits.{maxLoads, Limits}
+use Rattle.tables.specs.Limits.{Limits}
 use Rattle.tables.specs.Stored.{stored, placesOf, tablesOf, keepsLimits, Lengths, Holds}
 use Rattle.runs.specs.declared.outcome.StoredOutcome.{StoredOutcome}
 use Rattle.runs.specs.Outcome.{Outcome, nothing, storedOutcome, outcomeOf, rangeOf, heldRange, outcomeIn, keepsOutcome}
@@ -34,7 +34,7 @@ fresh n = plain (on-paper.fresh n)
 
 -- where it lies, and what lies there
 abbrev pub storedState : State → StoredState
-storedState s = record { tables = stored (s .tables); outcome = storedOutcome (s .outcome) }
+storedState s = record { tables = stored (s .tables); outcome = storedOutcome (s .tables .places) (s .outcome) }
 
 abbrev pub stateOf : StoredState → State
 stateOf p = let t = tablesOf (p .tables) in record { tables = t; outcome = outcomeOf (length (t .loads)) (p .outcome) }
@@ -51,12 +51,12 @@ pub record Within (s : State) : Type 0 where
 -- a planner that holds one, with so many places for loads
 pub record Kept (n : ℕ) (p : StoredState) : Type 0 where
   pub tables : Holds n (p .tables)
-  pub outcome : (o : Outcome) × (outcomeIn (rangeOf (tablesOf (p .tables))) o ≡ true) × (p .outcome ≡ storedOutcome o)
+  pub outcome : (o : Outcome) × (outcomeIn (rangeOf (tablesOf (p .tables))) o ≡ true) × (p .outcome ≡ storedOutcome (tablesOf (p .tables) .places) o)
 
--- the arrays have the lengths that their types give them, that of the loads so many places
+-- the arrays have the lengths that their types give them, those of the loads so many places
 pub record Sized (n : ℕ) (p : StoredState) : Type 0 where
   pub tables : Lengths (p .tables)
   pub places : placesOf (p .tables .loads) ≡ n
-  pub states : length (p .outcome .run .states) ≡ maxLoads
-  pub loadRules : length (p .outcome .run .«load_rules») ≡ maxLoads
-  pub rowRules : length (p .outcome .run .«row_rules») ≡ maxLoads
+  pub states : length (p .outcome .run .states) ≡ n
+  pub loadRules : length (p .outcome .run .«load_rules») ≡ n
+  pub rowRules : length (p .outcome .run .«row_rules») ≡ n

@@ -17,11 +17,11 @@ use Rattle.engine.proofs.Sums.{size-on}
 
 module _ (t : Tables) (es : List Entry) (l : EachLoad t es) (few : length (t .loads) ≤ maxLoads) where
   -- the set of the run is the set shown
-  pub lines-set : markIn (runOf es .set) ≡ shownSet es
-  lines-set = shown-set es (l .each) (omega (arith, l .all))
+  pub lines-set : markIn (runOf maxLoads es .set) ≡ shownSet es
+  lines-set = shown-set maxLoads es (l .each) (omega (arith, l .all))
 
   -- "n by count of ones": its size is the number of loads on
-  pub lines-size : sizeOf (runOf es .set) ≡ numberOn t (shownSet es)
+  pub lines-size : sizeOf (runOf maxLoads es .set) ≡ numberOn t (shownSet es)
   lines-size =
-      size-on t (runOf es .set) (omega arith) (λ k h. shown-within es (l .each) (omega (arith, l .all)) k (omega (arith, l .all)))
+      size-on t (runOf maxLoads es .set) (omega arith) (λ k h. shown-within maxLoads es (l .each) (omega (arith, l .all)) k (omega (arith, l .all)))
       ∙ ap (numberOn t) lines-set

@@ -64,13 +64,13 @@ module _ (p : Problem) (sh : Shape) (o w : List ℕ) (all : Complete p sh o w) w
 
 -- ---- the plan's own worth, and what is said
 module _ (t : StoredTables) (h : Limits (tablesOf t)) (few : length (tablesOf t .loads) ≤ maxLoads) (v : ℕ) where
-  pub need-is : (o : StoredOutcome) → o ≡ storedOutcome (found (bestPlan (tablesOf t)) (planEntries (tablesOf t)))
+  pub need-is : (o : StoredOutcome) → o ≡ storedOutcome maxLoads (found (bestPlan (tablesOf t)) (planEntries (tablesOf t)))
       → (b : ℕ) → b ≡ leastBudget (tablesOf t) v → needBy o (t .loads) v b ≡ needOf (tablesOf t) v
   unfolding needBy needOf noneFits poorer tablesOf
   need-is o eo b eb = ap₂ (λ (x : StoredOutcome) (n : ℕ). needBy x (t .loads) v n) eo eb ∙ go (bestPlan (tablesOf t)) refl
     where
       go : (x : ℕ) → bestPlan (tablesOf t) ≡ x
-          → needBy (storedOutcome (found x (planEntries (tablesOf t)))) (t .loads) v (leastBudget (tablesOf t) v)
+          → needBy (storedOutcome maxLoads (found x (planEntries (tablesOf t)))) (t .loads) v (leastBudget (tablesOf t) v)
           ≡ pick (eqb x 0) NoneFits (pick (poorer (tablesOf t) v) Poorer (Least (leastBudget (tablesOf t) v)))
       go zero e = refl
       go (suc x) e =

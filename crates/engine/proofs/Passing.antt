@@ -153,16 +153,16 @@ module _ (p : Problem) (ok : Lawful p) where
         entry : ℕ → ℕ → Assigned → Entry
         entry k m a = record { number = k; mark = m; state = a .state; rule = a .loadRule; row = a .rowRule }
 
-    run-more : (u : Run) → u ≡ runOf (inOrder (entriesFor p) 1 n) → withEntry u shownFor ≡ runOf (inOrder (entriesFor p) 1 (suc n))
+    run-more : (u : Run) → u ≡ runOf maxLoads (inOrder (entriesFor p) 1 n) → withEntry u shownFor ≡ runOf maxLoads (inOrder (entriesFor p) 1 (suc n))
     run-more u e =
         let l = order-length (entriesFor p) 1 n in
         ap (λ (u : Run). withEntry u shownFor) e
-        ∙ run-snoc (inOrder (entriesFor p) 1 n) shownFor (omega arith) (omega (arith, ok .sane .loads))
-        ∙ ap (λ (e : Entry). runOf (inOrder (entriesFor p) 1 n ++ (e ∷ []))) entry-found
-        ∙ ap runOf (sym (order-next (entriesFor p) n))
+        ∙ run-snoc maxLoads (inOrder (entriesFor p) 1 n) shownFor (omega arith) (omega (arith, ok .sane .loads))
+        ∙ ap (λ (e : Entry). runOf maxLoads (inOrder (entriesFor p) 1 n ++ (e ∷ []))) entry-found
+        ∙ ap (runOf maxLoads) (sym (order-next (entriesFor p) n))
 
     -- load n + 1 is passed, after the rows that the earlier loads and its own row lead to
-    pass-load : (s : Pass) → s .run ≡ runOf (inOrder (entriesFor p) 1 n) → Full (s .rows)
+    pass-load : (s : Pass) → s .run ≡ runOf maxLoads (inOrder (entriesFor p) 1 n) → Full (s .rows)
         → ((i j : ℕ) → suc n ≤ i → i < p .tables .loads .count → 0 < j → j ≤ n → Opens (loadsFor p) j (suc i) → Known p (s .rows) i)
         → ((i : ℕ) → i < p .tables .loads .count → 1 < suc n → nextSibling (loadsFor p) (suc n) ≡ suc i → Known p (s .rows) i)
         → Passed p (suc n) (passedLoad s (suc n) r q (loadChoice p (suc n) q c))
@@ -183,7 +183,7 @@ module _ (p : Problem) (ok : Lawful p) where
 
   -- the root, in its start state with the whole budget
   pub pass-root : 0 < p .tables .loads .count → 0 < startBest (bookFor p) (itemsFor p) (loadsFor p) (p .tables .budget) .value
-      → (s : Pass) → s .run ≡ runOf [] → Full (s .rows)
+      → (s : Pass) → s .run ≡ runOf maxLoads [] → Full (s .rows)
       → (let q = suc (startBest (bookFor p) (itemsFor p) (loadsFor p) (p .tables .budget) .index) in
       Passed p 1 (passedLoad s 1 0 q (loadChoice p 1 q (p .tables .budget))))
   unfolding inOrder

@@ -21,7 +21,7 @@ use Rattle.cells.proofs.Filling.{holds-none, filled-rest}
 use Rattle.cells.proofs.Places.{cells-small}
 use Rattle.cells.proofs.Stretches.{loads-long}
 use Rattle.runs.specs.Outcome.{found, storedOutcome}
-use Rattle.engine.specs.Pass.{bestFor, entriesFor, answerTo, Complete}
+use Rattle.engine.specs.Pass.{bestFor, entriesFor, answerTo, checkCells, Complete}
 use Rattle.meaning.specs.Cells.{cellsOf}
 
 -- work that was filled whole, by the outline of a problem
@@ -49,11 +49,11 @@ pub all-cleared : (w v u : List ℕ) (n m : ℕ) → u ≡ replicate n 0 ++ drop
 all-cleared w v u n m e en ev = e ∙ ap (λ i. replicate i 0 ++ drop i v) en ∙ ap (λ z. replicate m 0 ++ z) ev
 
 module _ (t : StoredTables) (p : Problem) (ok : Lawful p) where
-  pub plan-is : p ≡ planProblem t → answerTo p ≡ storedOutcome (found (bestPlan (tablesOf t)) (planEntries (tablesOf t)))
+  pub plan-is : p ≡ planProblem t → answerTo p ≡ storedOutcome maxLoads (found (bestPlan (tablesOf t)) (planEntries (tablesOf t)))
   unfolding bestPlan plan planEntries tablesOf
   plan-is e =
-      ap (λ n. storedOutcome (found (bestFor p) (inOrder (entriesFor p) 1 n))) (sym (loads-long p ok))
-      ∙ ap (λ (p : Problem). storedOutcome (found (bestFor p) (inOrder (entriesFor p) 1 (length (loadsFor p))))) e
+      ap (λ n. storedOutcome maxLoads (found (bestFor p) (inOrder (entriesFor p) 1 n))) (sym (loads-long p ok))
+      ∙ ap (λ (p : Problem). storedOutcome maxLoads (found (bestFor p) (inOrder (entriesFor p) 1 (length (loadsFor p))))) e
 
   pub plan-cells : p ≡ planProblem t → cellsNeeded (shapeOf p) ≡ cellsOf (tablesOf t)
   unfolding cellsOf tablesOf bookOf
@@ -62,12 +62,12 @@ module _ (t : StoredTables) (p : Problem) (ok : Lawful p) where
       ∙ ap (λ (p : Problem). length (loadsFor p) * (p .tables .book .states + p .tables .book .stages) * (p .tables .budget + 1)) e
 
   module _ (σ : LoadSet) where
-    pub check-is : p ≡ checkProblem t σ → answerTo p ≡ storedOutcome (found (bestCheck (tablesOf t) (markIn σ)) (checkEntries (tablesOf t) (markIn σ)))
+    pub check-is : p ≡ checkProblem t σ → answerTo p ≡ storedOutcome maxLoads (found (bestCheck (tablesOf t) (markIn σ)) (checkEntries (tablesOf t) (markIn σ)))
     unfolding bestCheck check checkEntries tablesOf
     check-is e =
-        ap (λ n. storedOutcome (found (bestFor p) (inOrder (entriesFor p) 1 n))) (sym (loads-long p ok))
-        ∙ ap (λ (p : Problem). storedOutcome (found (bestFor p) (inOrder (entriesFor p) 1 (length (loadsFor p))))) e
+        ap (λ n. storedOutcome maxLoads (found (bestFor p) (inOrder (entriesFor p) 1 n))) (sym (loads-long p ok))
+        ∙ ap (λ (p : Problem). storedOutcome maxLoads (found (bestFor p) (inOrder (entriesFor p) 1 (length (loadsFor p))))) e
 
     -- its cells: one allowance
-    pub check-cells : p ≡ checkProblem t σ → cellsNeeded (shapeOf p) ≤ maxLoads * 16
+    pub check-cells : p ≡ checkProblem t σ → cellsNeeded (shapeOf p) ≤ checkCells
     check-cells e = cells-small (shapeOf p) (ok .sane) 1 (rw e (omega arith))

@@ -1,7 +1,7 @@
 -- The pass over the loads in number order: what is chosen for each, and what is known when some loads were passed.
 -- It stands for "Equals are parted from the top down" of paper 01: a load's row is known when it is reached, since its parent and the
 -- earlier children of its row have lower numbers. Assumes nothing.
-use Prim.Native.Nat.{ℕ, zero, suc, _+_, _-_, _≤_, _<_}
+use Prim.Native.Nat.{ℕ, zero, suc, _+_, _-_, _*_, _≤_, _<_}
 use mathlib.Core.Path.{_≡_}
 use mathlib.Core.List.{List}
 use mathlib.Core.Logic.{_⊎_}
@@ -37,9 +37,13 @@ bestFor p = bestAt p (p .tables .budget)
 abbrev pub entriesFor : Problem → List Entry
 entriesFor p = chooseTree (bookFor p) (tree (itemsFor p) (loadsFor p)) (p .tables .budget)
 
+-- the cells of a check: every load with 8 states and 8 stages, one allowance
+abbrev pub checkCells : ℕ
+checkCells = maxLoads * 16
+
 -- what a search answers
 abbrev pub answerTo : Problem → StoredOutcome
-answerTo p = storedOutcome (found (bestFor p) (inOrder (entriesFor p) 1 (p .tables .loads .count)))
+answerTo p = storedOutcome maxLoads (found (bestFor p) (inOrder (entriesFor p) 1 (p .tables .loads .count)))
 
 -- a problem with its outline, all of whose cells the work holds
 pub record Complete (p : Problem) (sh : Shape) (o w : List ℕ) : Type 0 where
@@ -107,7 +111,7 @@ pub record Full (r : Rows) : Type 0 where
 
 -- the first n loads were passed: the run has them, and the rows that they lead to are known
 pub record Passed (p : Problem) (n : ℕ) (s : Pass) : Type 0 where
-  pub run : s .run ≡ runOf (inOrder (entriesFor p) 1 n)
+  pub run : s .run ≡ runOf maxLoads (inOrder (entriesFor p) 1 n)
   pub full : Full (s .rows)
   pub led : (i j : ℕ) → n ≤ i → i < p .tables .loads .count → 0 < j → j ≤ n → Opens (loadsFor p) j (suc i) → Known p (s .rows) i
 

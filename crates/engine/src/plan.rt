@@ -19,6 +19,7 @@ ghost use mathlib.Core.Bool.{true};
 ghost use mathlib.Core.List.{_++_};
 ghost use Prim.Native.Nat.{_≤_, _<_};
 ghost use lib.ListN.{length, drop, replicate};
+ghost use Rattle.tables.specs.Limits.{maxLoads};
 ghost use Rattle.tables.specs.Stored.{tablesOf, keepsLimits};
 ghost use Rattle.meaning.specs.Best.{bestPlan, bestCheck};
 ghost use Rattle.meaning.specs.Choice.{planEntries, checkEntries};
@@ -28,7 +29,7 @@ ghost use Rattle.meaning.specs.Cells.{cellsOf};
 ghost use Rattle.cells.specs.Problem.{shapeOf, Lawful};
 ghost use Rattle.cells.specs.Outline.{outlineSize};
 ghost use Rattle.cells.specs.Work.{cellsNeeded};
-ghost use Rattle.engine.specs.Pass.{answerTo, Complete};
+ghost use Rattle.engine.specs.Pass.{answerTo, checkCells, Complete};
 
 // The cells of a check: every load with 8 states and 8 stages, one allowance.
 const CHECK_CELLS: usize = MAX_LOADS * 16;
@@ -67,20 +68,35 @@ fn search(p: Problem, work: &mut [u32]) -> StoredOutcome
 pub fn plan(t: StoredTables, work: &mut [u32]) -> StoredOutcome
     requires { ⌜ keepsLimits t ≡ true ⌝ }
     requires { ⌜ (0 < t .loads .count) × (cellsOf (tablesOf t) ≤ length (now work)) ⌝ }
-    ensures { λ r. ⌜ r ≡ storedOutcome (found (bestPlan (tablesOf t)) (planEntries (tablesOf t))) ⌝ }
+    ensures { λ r. ⌜ r ≡ storedOutcome maxLoads (found (bestPlan (tablesOf t)) (planEntries (tablesOf t))) ⌝ }
     ensures { λ _. ⌜ now (work .exit) ≡ replicate (cellsOf (tablesOf t)) 0 ++ drop (cellsOf (tablesOf t)) (now (work .entry)) ⌝ }
 {
     let p = plan_problem(t);
     search(p, work)
 }
 
+// A problem is searched in cells of its own, over the outline that is written for it. The case in which it would call itself does not arise: a function
+// that may call itself keeps a frame to itself, so that these cells are on the stack of a check alone.
+fn search_alone(p: Problem, outline: &mut [u16]) -> StoredOutcome
+    requires { ⌜ Lawful p × (now outline ≡ replicate outlineSize 0) ⌝ }
+    requires { ⌜ (0 < p .tables .loads .count) × (cellsNeeded (shapeOf p) ≤ checkCells) ⌝ }
+    ensures { λ r. ⌜ r ≡ answerTo p ⌝ }
+{
+    if CHECK_CELLS < cells_needed(shape_of(p)) {
+        return search_alone(p, outline);
+    }
+    let mut work = [0u32; CHECK_CELLS];
+    let sh = fill_cells(p, &mut *outline, &mut work[..]);
+    trace(sh, &outline[..], &work[..])
+}
+
 // The run of a checked set, worked out in cells of its own.
 pub fn check(t: StoredTables, set: LoadSet) -> StoredOutcome
     requires { ⌜ keepsLimits t ≡ true ⌝ }
     requires { ⌜ 0 < t .loads .count ⌝ }
-    ensures { λ r. ⌜ r ≡ storedOutcome (found (bestCheck (tablesOf t) (markIn set)) (checkEntries (tablesOf t) (markIn set))) ⌝ }
+    ensures { λ r. ⌜ r ≡ storedOutcome maxLoads (found (bestCheck (tablesOf t) (markIn set)) (checkEntries (tablesOf t) (markIn set))) ⌝ }
 {
     let p = check_problem(t, set);
-    let mut work = [0u32; CHECK_CELLS];
-    search(p, &mut work[..])
+    let mut outline = [0u16; OUTLINE];
+    search_alone(p, &mut outline[..])
 }

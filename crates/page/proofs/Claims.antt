@@ -76,7 +76,7 @@ module _ (s : State) (h : Within s) (k : ℕ) (low : 1 ≤ k) where
     below = loadRows (t .loads) σ k loadRowCount
 
     small-worth : worth t σ < 1000000
-    small-worth = omega (arith, worth-most t (lawful t (h .tables)) σ, few-loads t (h .tables))
+    small-worth = omega (arith, worth-most t (lawful t (h .tables)) σ, few-loads t (h .tables), lawful t (h .tables) .places)
 
     small-power : power t σ < 1000
     small-power = omega (arith, fits, lawful t (h .tables) .budget)
@@ -93,7 +93,7 @@ module _ (s : State) (h : Within s) (k : ℕ) (low : 1 ≤ k) where
         let row = row-is i l ∙ row-there (t .loads) σ (k + i) (omega (arith, low)) m in
         let small : w < 1000 = omega (arith, lawful t (h .tables) .load (k + i - 1) (omega (arith, m, low)) .power) in
         record {
-          number = digits-read numberDigits (k + i) (omega (arith, m, few-loads t (h .tables))) (ap (λ (r : List ℕ). take 3 (drop 0 r)) row ∙ load-number (k + i) (σ (k + i)) w);
+          number = digits-read numberDigits (k + i) (omega (arith, m, few-loads t (h .tables), lawful t (h .tables) .places)) (ap (λ (r : List ℕ). take 3 (drop 0 r)) row ∙ load-number (k + i) (σ (k + i)) w);
           mark = ap (λ (r : List ℕ). take 3 (drop 4 r)) row ∙ load-mark (k + i) (σ (k + i)) w;
           power = digits-read powerDigits w small (ap (λ (r : List ℕ). take 3 (drop 8 r)) row ∙ load-power (k + i) (σ (k + i)) w);
         }

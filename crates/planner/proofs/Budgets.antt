@@ -11,7 +11,7 @@ use Rattle.lines.specs.declared.answer.Answer.the-variants.{Needed, Refused}
 use Rattle.lines.specs.Answers.{numberOf}
 use Rattle.tables.specs.Refusals as no
 use Rattle.tables.specs.Tables.{Tables}
-use Rattle.tables.specs.Limits.{needIn}
+use Rattle.tables.specs.Limits.{needIn, maxLoads}
 use Rattle.meaning.specs.Cells.{cellsOf}
 use Rattle.meaning.specs.Need.{noneFits, poorer, leastBudget}
 use Rattle.runs.specs.Runs.{runOf}
@@ -58,9 +58,9 @@ module _ (p : Planner) (h : Lawful p) (v : ℕ) where
 
   answers : (a b : Bool) → unshown (needAnswer (said a b)) p ≡ decidedBy (stateIn p) (numberBy a b) needRow
   unfolding decidedBy row needAnswer
-  answers true b = λ i. record { answer = Refused no.noneFits; run = runOf []; planner = is-held p h i }
-  answers false true = λ i. record { answer = Refused no.tooPoor; run = runOf []; planner = is-held p h i }
-  answers false false = λ i. record { answer = Needed (leastBudget t v); run = runOf []; planner = is-held p h i }
+  answers true b = λ i. record { answer = Refused no.noneFits; run = runOf maxLoads []; planner = is-held p h i }
+  answers false true = λ i. record { answer = Refused no.tooPoor; run = runOf maxLoads []; planner = is-held p h i }
+  answers false false = λ i. record { answer = Needed (leastBudget t v); run = runOf maxLoads []; planner = is-held p h i }
 
   numbered : (a b : Bool) → numberOf (needAnswer (said a b)) ≡ numberBy a b
   unfolding needAnswer

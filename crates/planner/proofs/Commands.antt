@@ -8,10 +8,11 @@ use lib.Dec.{leb}
 use lib.ListN.{length}
 use Rattle.lists.specs.Tests.{some}
 use Rattle.lists.proofs.Bools.{and-left}
+use Rattle.lines.specs.declared.Change.{Change}
 use Rattle.lines.specs.declared.Change.the-variants as to
 use Rattle.lines.specs.Answers.{answerOf}
 use Rattle.tables.specs.declared.tables.StoredTables.{StoredTables}
-use Rattle.tables.specs.declared.tables.Added as operation
+use Rattle.tables.specs.declared.tables.Added.{Added}
 use Rattle.tables.specs.declared.rule.RuleRange.{RuleRange}
 use Rattle.tables.specs.declared.rule.Sort.{Sort}
 use Rattle.tables.specs.declared.rule.Sort.the-variants as sort
@@ -29,17 +30,17 @@ use Rattle.tables.proofs.Stored.{held-loads}
 use Rattle.tables.proofs.Changes.{rule-added, figure-changed}
 use Rattle.tables.proofs.Removed.{load-dropped}
 use Rattle.runs.specs.Outcome.{nothing, storedOutcome}
-use Rattle.calls.specs.Rows.{Cause, _if_, isLoad, Row, changes, effectOf, unless, adding, setting, changing}
+use Rattle.calls.specs.Rows.{Cause, _if_, isLoad, Row, Changing, changes, effectOf, unless, adding, setting, changing}
 use Rattle.calls.specs.Causes.{lowest}
 use Rattle.calls.specs.Effects.{acted}
 use Rattle.calls.specs.State.{StoredState}
-use Rattle.calls.proofs.State.{is-stored, kept-within, kept-stored}
+use Rattle.calls.proofs.State.{is-stored, places, kept-within, kept-stored}
+use Rattle.calls.proofs.Rows.{change-places}
 use Rattle.planner.specs.declared.Planner.{Planner}
-use Rattle.planner.specs.declared.changes.Changed.{Changed}
 use Rattle.planner.specs.declared.changes.NamedRule.{NamedRule}
 use Rattle.planner.specs.declared.changes.NamedLoad.{NamedLoad}
 use Rattle.planner.specs.Planner.{held, plannerOf, stateIn, Lawful}
-use Rattle.planner.specs.Changes.{namedRule, namedLoad, settled, madeBy, changedBy}
+use Rattle.planner.specs.Changes.{namedRule, namedLoad, told, toldBy, toldFor, settled, madeBy, changedBy}
 
 -- ---- numbers: "value out of its range" comes first, then what the list of rules or loads says
 out : (b : Bool) (cs : List Cause) → b ≡ false → lowest ((no.outOfRange if not b) ∷ cs) ≡ no.outOfRange
@@ -83,44 +84,64 @@ unfolding tablesOf bookOf
 size-held u sort.Load = refl
 size-held u sort.Row = refl
 
+-- the outcome that it holds
+pub outcome-held : (p : Planner) → Lawful p → p .outcome ≡ storedOutcome maxLoads (stateIn p .outcome)
+outcome-held p h = ap (λ (k : StoredState). k .outcome) (kept-stored (held p) h) ∙ ap (λ (n : ℕ). storedOutcome n (stateIn p .outcome)) (places (p .tables) (h .tables))
+
 -- the outcome after a change: wiped where it is accepted
-outcome-after : (p : Planner) → Lawful p → (n : ℕ) → accepted n (storedOutcome nothing) (p .outcome) ≡ storedOutcome (accepted n nothing (stateIn p .outcome))
+outcome-after : (p : Planner) → Lawful p → (n : ℕ) → accepted n (storedOutcome maxLoads nothing) (p .outcome) ≡ storedOutcome maxLoads (accepted n nothing (stateIn p .outcome))
 outcome-after p h zero = refl
-outcome-after p h (suc n) = ap (λ (k : StoredState). k .outcome) (kept-stored (held p) h)
+outcome-after p h (suc n) = outcome-held p h
 
 acted-accepted : (t : Tables) (n : ℕ) (r : Row) → acted t n r ≡ accepted n (effectOf t r) t
 acted-accepted t zero r = refl
 acted-accepted t (suc n) r = refl
 
+acted-places : (t : Tables) (n : ℕ) (c : Change) → acted t n (changes (changing t c)) .places ≡ t .places
+acted-places t zero c = change-places t c
+acted-places t (suc n) c = refl
+
+-- what a change tells, with the planner made of it
+pub settled-is : (p : Planner) → Lawful p → (c : Change) (d : Added) → d ≡ toldFor (stateIn p) c → settled p (d .number) (d .tables) ≡ changedBy (stateIn p) c
+unfolding toldBy madeBy
+settled-is p h c d is =
+    let t = stateIn p .tables in
+    let x = changing t c in
+    let n = lowest (x .causes) in
+    let left = sym (acted-accepted t n (changes x)) in
+    let as-many : maxLoads ≡ acted t n (changes x) .places = sym (acted-places t n c ∙ places (p .tables) (h .tables)) in
+    let outcome = outcome-after p h n ∙ ap (λ (k : ℕ). storedOutcome k (accepted n nothing (stateIn p .outcome))) as-many in
+    ap (λ (d : Added). settled p (d .number) (d .tables)) is ∙ (λ i. record { answer = answerOf n; planner = record { tables = stored (left i); outcome = outcome i } })
+
 -- ---- the ways out of a change whose first cause is "value out of its range"
-module _ (p : Planner) (h : Lawful p) {r : Changed} (b : Bool) (cs : List Cause) (after : Tables) where
-  -- out of range: its number, and the planner as it was
-  pub out-of-range : b ≡ false → r ≡ settled p no.outOfRange (p .tables) → r ≡ madeBy (stateIn p) (unless ((no.outOfRange if not b) ∷ cs) after)
-  unfolding madeBy
-  out-of-range e is = is ∙ rw (out b cs e) (ap (λ (k : StoredState). record { answer = answerOf no.outOfRange; planner = plannerOf k }) (kept-stored (held p) h))
+module _ (p : Planner) (h : Lawful p) {r : Added} (b : Bool) (cs : List Cause) (after : Tables) where
+  -- out of range: its number, and the tables as they were
+  pub out-of-range : b ≡ false → r ≡ told no.outOfRange (p .tables) → r ≡ toldBy (stateIn p) (unless ((no.outOfRange if not b) ∷ cs) after)
+  unfolding toldBy
+  out-of-range e is = is ∙ rw (out b cs e) (ap (told no.outOfRange) (is-stored (p .tables) (h .tables)))
 
   -- in range: the number and the tables that the operation gives
-  pub operated : b ≡ true → (d : operation.Added) → d ≡ record { number = lowest cs; tables = stored (accepted (lowest cs) after (tablesOf (p .tables))) }
-      → r ≡ settled p (d .number) (d .tables) → r ≡ madeBy (stateIn p) (unless ((no.outOfRange if not b) ∷ cs) after)
-  unfolding madeBy
-  operated e d given is = is ∙ rw (given, outcome-after p h (lowest cs), acted-accepted (tablesOf (p .tables)) (lowest ((no.outOfRange if not b) ∷ cs)) (changes (unless ((no.outOfRange if not b) ∷ cs) after)), not-out b cs e)
+  pub operated : b ≡ true → (d : Added) → d ≡ told (lowest cs) (stored (accepted (lowest cs) after (tablesOf (p .tables))))
+      → r ≡ d → r ≡ toldBy (stateIn p) (unless ((no.outOfRange if not b) ∷ cs) after)
+  unfolding toldBy
+  operated e d given is = is ∙ given ∙ rw (not-out b cs e)
 
 -- in range, where that is the only cause: accepted
-pub accepts : (p : Planner) (h : Lawful p) {r : Changed} (b : Bool) (after : Tables) → b ≡ true → (u : StoredTables) → u ≡ stored after → r ≡ settled p 0 u
-    → r ≡ madeBy (stateIn p) (unless ((no.outOfRange if not b) ∷ []) after)
+pub accepts : (p : Planner) (h : Lawful p) {r : Added} (b : Bool) (after : Tables) → b ≡ true → (u : StoredTables) → u ≡ stored after → r ≡ told 0 u
+    → r ≡ toldBy (stateIn p) (unless ((no.outOfRange if not b) ∷ []) after)
 unfolding lowest
-accepts p h b after e u given is = operated p h b [] after e (record { number = 0; tables = u }) (λ i. record { number = 0; tables = given i }) is
+accepts p h b after e u given is = operated p h b [] after e (told 0 u) (ap (told 0) given) is
 
 -- another figure of load k: set where there is such a load and the figure fits
 module _ (p : Planner) (h : Lawful p) (f : Figure) (k x : ℕ) {there fits : Bool} (looked : there ≡ between 1 (p .tables .loads .count) k) (compared : fits ≡ figureIn f x) where
   tested : there && fits ≡ isLoad (stateIn p .tables) k && figureIn f x
   tested = rw (looked, compared) (ap (λ (n : ℕ). between 1 n k && figureIn f x) (load-count p h))
 
-  pub figure-refused : {d : Changed} → not (there && fits) ≡ true → d ≡ settled p no.outOfRange (p .tables) → d ≡ madeBy (stateIn p) (setting (stateIn p .tables) f k x)
+  pub figure-refused : {d : Added} → not (there && fits) ≡ true → d ≡ told no.outOfRange (p .tables) → d ≡ toldBy (stateIn p) (setting (stateIn p .tables) f k x)
   figure-refused e = out-of-range p h (isLoad (stateIn p .tables) k && figureIn f x) [] _ (sym tested ∙ not-true _ e)
 
-  pub figure-set : {d : Changed} → not (there && fits) ≡ false → (u : StoredTables) → u ≡ figureChanged (p .tables) f k x → d ≡ settled p 0 u
-      → d ≡ madeBy (stateIn p) (setting (stateIn p .tables) f k x)
+  pub figure-set : {d : Added} → not (there && fits) ≡ false → (u : StoredTables) → u ≡ figureChanged (p .tables) f k x → d ≡ told 0 u
+      → d ≡ toldBy (stateIn p) (setting (stateIn p .tables) f k x)
   figure-set e u given =
       let passed = sym tested ∙ not-false _ e in
       let is-there = inside 1 (length (stateIn p .tables .loads)) k (and-left (isLoad (stateIn p .tables) k) (figureIn f x) passed) in
@@ -132,7 +153,7 @@ module _ (p : Planner) (h : Lawful p) (k : ℕ) {there : Bool} (looked : there �
   number-tested : there ≡ isLoad (stateIn p .tables) k
   number-tested = looked ∙ ap (λ (n : ℕ). between 1 n k) (load-count p h)
 
-  pub no-load : {d : Changed} → not there ≡ true → d ≡ settled p no.outOfRange (p .tables) → d ≡ changedBy (stateIn p) (to.Drop k)
+  pub no-load : {d : Added} → not there ≡ true → d ≡ told no.outOfRange (p .tables) → d ≡ toldFor (stateIn p) (to.Drop k)
   unfolding changing
   no-load e = out-of-range p h (isLoad (stateIn p .tables) k) _ _ (sym number-tested ∙ not-true _ e)
 
@@ -144,13 +165,13 @@ module _ (p : Planner) (h : Lawful p) (k : ℕ) {there : Bool} (looked : there �
     is-there = inside 1 (length (stateIn p .tables .loads)) k passed
 
     module _ {parent : Bool} (asked : parent ≡ hasChildren k (loadsOf (p .tables .loads))) where
-      pub load-stays : {d : Changed} → parent ≡ true → d ≡ settled p no.hasChildren (p .tables) → d ≡ changedBy (stateIn p) (to.Drop k)
+      pub load-stays : {d : Added} → parent ≡ true → d ≡ told no.hasChildren (p .tables) → d ≡ toldFor (stateIn p) (to.Drop k)
       unfolding changing tablesOf lowest
       load-stays some =
           operated p h (isLoad (stateIn p .tables) k) _ _ passed (record { number = no.hasChildren; tables = p .tables })
           (rw (← asked, some) (λ i. record { number = no.hasChildren; tables = is-stored (p .tables) (h .tables) i }))
 
-      pub load-leaves : {d : Changed} → parent ≡ false → (u : StoredTables) → u ≡ loadDropped (p .tables) k → d ≡ settled p 0 u → d ≡ changedBy (stateIn p) (to.Drop k)
+      pub load-leaves : {d : Added} → parent ≡ false → (u : StoredTables) → u ≡ loadDropped (p .tables) k → d ≡ told 0 u → d ≡ toldFor (stateIn p) (to.Drop k)
       unfolding changing tablesOf lowest
       load-leaves none u given =
           let left = given ∙ ap (λ (y : StoredTables). loadDropped y k) (is-stored (p .tables) (h .tables)) ∙ load-dropped (stateIn p .tables) (kept-within (held p) h .tables) k (is-there .0) (is-there .1) in
@@ -175,12 +196,12 @@ unfolding namedLoad
 load-is k l is e = ap (λ (x : NamedLoad). x .load) is ∙ rw e
 
 -- a rule of either sort
-module _ (p : Planner) (h : Lawful p) (k : Sort) (r : Transition) {x : NamedRule} (is : x ≡ namedRule (rangeFor (stateIn p .tables .book) k) r) {d : Changed} where
-  pub rule-refused : not (x .fits) ≡ true → d ≡ settled p no.outOfRange (p .tables) → d ≡ madeBy (stateIn p) (adding (stateIn p .tables) k r)
+module _ (p : Planner) (h : Lawful p) (k : Sort) (r : Transition) {x : NamedRule} (is : x ≡ namedRule (rangeFor (stateIn p .tables .book) k) r) {d : Added} where
+  pub rule-refused : not (x .fits) ≡ true → d ≡ told no.outOfRange (p .tables) → d ≡ toldBy (stateIn p) (adding (stateIn p .tables) k r)
   rule-refused e = out-of-range p h (ruleIn (rangeFor (stateIn p .tables .book) k) r) _ _ (sym (named-fits _ r is) ∙ not-true _ e)
 
-  pub rule-stored : not (x .fits) ≡ false → (o : operation.Added) → o ≡ ruleAdded (p .tables) k (x .rule) → d ≡ settled p (o .number) (o .tables)
-      → d ≡ madeBy (stateIn p) (adding (stateIn p .tables) k r)
+  pub rule-stored : not (x .fits) ≡ false → (o : Added) → o ≡ ruleAdded (p .tables) k (x .rule) → d ≡ o
+      → d ≡ toldBy (stateIn p) (adding (stateIn p .tables) k r)
   rule-stored e o given =
       let fits = sym (named-fits _ r is) ∙ not-false _ e in
       operated p h (ruleIn (rangeFor (stateIn p .tables .book) k) r) _ _ fits o

@@ -42,7 +42,7 @@ module _ {s : State} {cells : ℕ} {r : Row} (x : Right s cells r) where
 
   -- 0 is given only where no cause applies, and 1 is not given here
   pub answered-text : Within s → s .tables .places ≡ maxLoads → (n : ℕ) → (n ≡ 0 → lowest (causesOf cells r) ≡ 0) → (n ≡ 1 → ⊥)
-      → textOf (shownBy n r .answer) (entriesTo (runOf (shownBy n r .entries)) (length (s .tables .loads))) (saved (s .tables)) ≡ text n r
+      → textOf (shownBy n r .answer) (entriesTo (runOf maxLoads (shownBy n r .entries)) (length (s .tables .loads))) (saved (s .tables)) ≡ text n r
   unfolding text
   answered-text h places zero e d = shown-lines (s .tables) (h .tables) places (shownBy 0 r) (x .shown h (e refl) .lists)
   answered-text h places (suc zero) e d = absurd (d refl)

@@ -5,6 +5,7 @@ use mathlib.Core.List.{List, _++_}
 use mathlib.Core.Logic.{_⊎_, inl, inr}
 use native.Mathlib.Numerals.{add-one}
 use native.Mathlib.Omega.{arith}
+use lib.Dec.{lit≤}
 use lib.ListN.{length}
 use Rattle.lists.proofs.Each.{each-at}
 use Rattle.lines.specs.declared.Change.{Change}
@@ -34,16 +35,16 @@ lines-more r i = rw (add-one i) (entries-more (entriesTo r i) (entryAt r i))
 
 -- ---- what a row shows: its text with the lines of the run and of a save of the tables is its own
 pub shown-lines : (t : Tables) → Limits t → t .places ≡ maxLoads → (x : Shown) → Listing t x
-    → textOf (x .answer) (entriesTo (runOf (x .entries)) (length (t .loads))) (saved t) ≡ shownText x
+    → textOf (x .answer) (entriesTo (runOf maxLoads (x .entries)) (length (t .loads))) (saved t) ≡ shownText x
 shown-lines t h places x l = entries (l .entries) ∙ changes (l .changes)
   where
     entries : ((es : List Entry) (cs : List Change) → textOf (x .answer) es cs ≡ textOf (x .answer) (x .entries) cs) ⊎ OneEach t (x .entries)
-        → textOf (x .answer) (entriesTo (runOf (x .entries)) (length (t .loads))) (saved t) ≡ textOf (x .answer) (x .entries) (saved t)
+        → textOf (x .answer) (entriesTo (runOf maxLoads (x .entries)) (length (t .loads))) (saved t) ≡ textOf (x .answer) (x .entries) (saved t)
     entries (inl none) = none _ _
     entries (inr o) =
         let n = o .loads .all in
         ap (λ (es : List Entry). textOf (x .answer) es (saved t))
-        (ap (entriesTo (runOf (x .entries))) (sym n) ∙ entries-read (x .entries) (o .loads .each) (omega (arith, n, places, lawful t h .loads)) (λ i b. each-at noEntry (o .ranged) i b .mark))
+        (ap (entriesTo (runOf maxLoads (x .entries))) (sym n) ∙ entries-read maxLoads (lit≤ tt) (x .entries) (o .loads .each) (omega (arith, n, places, lawful t h .loads)) (λ i b. each-at noEntry (o .ranged) i b .mark))
 
     changes : ((cs : List Change) → textOf (x .answer) (x .entries) cs ≡ shownText x) ⊎ (x .changes ≡ saved t)
         → textOf (x .answer) (x .entries) (saved t) ≡ shownText x

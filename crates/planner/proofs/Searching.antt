@@ -5,7 +5,7 @@ use mathlib.Core.Bool.{true, false}
 use mathlib.Core.List.{List, [], _∷_}
 use native.Mathlib.Omega.{arith}
 use borrow.Author.Tests.{eq-eqb, ne-eqb, lt-ltb, le-ltb}
-use lib.Dec.{eqb}
+use lib.Dec.{eqb, lit≤}
 use lib.ListN.{length}
 use Rattle.lists.proofs.Bools.{or-left}
 use Rattle.marks.specs.declared.LoadSet.{LoadSet}
@@ -36,7 +36,7 @@ use Rattle.calls.specs.Rows.{_if_, Row, showingPlan, notAllowed, row, causesOf,
 use Rattle.calls.specs.Causes.{lowest}
 use Rattle.calls.specs.Effects.{stateBy}
 use Rattle.calls.specs.Printing.{zeroed, hasOutcome, searched}
-use Rattle.calls.proofs.State.{few-loads, kept-within, kept-stored}
+use Rattle.calls.proofs.State.{places, few-loads, kept-within, kept-stored}
 use Rattle.calls.proofs.Work.{unsearched, row-zeroed}
 use Rattle.calls.proofs.Fits.{plan-in}
 use Rattle.calls.proofs.Refusals.{refused-state}
@@ -47,14 +47,14 @@ use Rattle.planner.specs.declared.Planner.{Planner}
 use Rattle.planner.specs.declared.search.Decided.{Decided}
 use Rattle.planner.specs.Planner.{held, plannerOf, stateIn, Lawful}
 use Rattle.planner.specs.Decided.{unshown, decidedBy, decided, Decides}
-use Rattle.planner.proofs.Commands.{tables-count}
+use Rattle.planner.proofs.Commands.{tables-count, outcome-held}
 
 -- ---- what a search found
-pub status-none : (v : ℕ) (es : List Entry) {o : StoredOutcome} → o ≡ storedOutcome (found v es) → o .status ≡ 1 → v ≡ 0
+pub status-none : (v : ℕ) (es : List Entry) {o : StoredOutcome} → o ≡ storedOutcome maxLoads (found v es) → o .status ≡ 1 → v ≡ 0
 status-none zero es is e = refl
 status-none (suc v) es is e = absurd (omega (arith, ap (λ (o : StoredOutcome). o .status) is))
 
-pub status-some : (v : ℕ) (es : List Entry) {o : StoredOutcome} → o ≡ storedOutcome (found v es) → (o .status ≡ 1 → ⊥) → (v ≡ 0 → ⊥) × (o .run ≡ runOf es)
+pub status-some : (v : ℕ) (es : List Entry) {o : StoredOutcome} → o ≡ storedOutcome maxLoads (found v es) → (o .status ≡ 1 → ⊥) → (v ≡ 0 → ⊥) × (o .run ≡ runOf maxLoads es)
 status-some zero es is d = absurd (d (ap (λ (o : StoredOutcome). o .status) is))
 status-some (suc v) es is d = (λ z. omega arith, ap (λ (o : StoredOutcome). o .run) is)
 
@@ -115,7 +115,7 @@ module _ (p : Planner) (h : Lawful p) where
   refuses-so r n zero l same is e = absurd (omega arith)
   refuses-so r n (suc m) l same is e =
       let left = is-held ∙ ap (λ (x : State). plannerOf (storedState x)) (sym same) in
-      is ∙ rw e (λ i. record { answer = Refused (suc m); run = runOf []; planner = left i })
+      is ∙ rw e (λ i. record { answer = Refused (suc m); run = runOf maxLoads []; planner = left i })
 
   pub refuses : (r : Row) (n k : ℕ) {d : Decided} → 0 < k → hasOutcome k ≡ false → d ≡ unshown (Refused k) p → n ≡ k → d ≡ decidedBy (stateIn p) n r
   refuses r n k l e = refuses-so r n k l (refused-state (stateIn p) k r l e)
@@ -159,10 +159,10 @@ module _ (p : Planner) (h : Lawful p) where
     each = let l = lines-in (rangeOf (stateIn p .tables)) shown-lines (rw planned-is at (kept-within (held p) h .outcome)) in record { all = l .all; each = l .each }
 
     few-places : length (stateIn p .tables .loads) ≤ maxLoads
-    few-places = few-loads (stateIn p .tables) (kept-within (held p) h .tables)
+    few-places = omega (arith, few-loads (stateIn p .tables) (kept-within (held p) h .tables), places (p .tables) (h .tables))
 
-    run-is : p .outcome .run ≡ runOf shown-lines
-    run-is = ap (λ (x : StoredState). x .outcome .run) (kept-stored (held p) h) ∙ ap (λ (o : Outcome). runOf (entriesOf o)) planned-is
+    run-is : p .outcome .run ≡ runOf maxLoads shown-lines
+    run-is = ap (λ (x : StoredOutcome). x .run) (outcome-held p h) ∙ ap (λ (o : Outcome). runOf maxLoads (entriesOf o)) planned-is
 
     -- its set is the one that they show
     pub set-is : markIn (p .outcome .run .set) ≡ shownSet shown-lines
@@ -175,16 +175,16 @@ module _ (p : Planner) (h : Lawful p) where
     unfolding decidedBy row
     shows-last r is v w k a b d =
         let t = stateIn p .tables in
-        let run : r ≡ runOf shown-lines = is ∙ run-is in
+        let run : r ≡ runOf maxLoads shown-lines = is ∙ run-is in
         let set : markIn (r .set) ≡ _ = ap (λ (x : Run). markIn (x .set)) is ∙ set-is in
         let worths = a ∙ ap (worth t) set in
         let powers = b ∙ ap (power t) set in
         let on = d ∙ ap (λ (x : Run). sizeOf (x .set)) run ∙ lines-size t shown-lines each few-places in
-        let shown : _≡_ {A = Decided} (record { answer = Planned v w k; run = r; planner = p }) (record { answer = showingPlan t shown-lines .answer; run = runOf shown-lines; planner = plannerOf (storedState (stateIn p)) }) = λ i. record { answer = Planned (worths i) (powers i) (on i); run = run i; planner = is-held i } in
+        let shown : _≡_ {A = Decided} (record { answer = Planned v w k; run = r; planner = p }) (record { answer = showingPlan t shown-lines .answer; run = runOf maxLoads shown-lines; planner = plannerOf (storedState (stateIn p)) }) = λ i. record { answer = Planned (worths i) (powers i) (on i); run = run i; planner = is-held i } in
         shown ∙ rw (last-accepted, planned-is)
 
   -- a run of a checked set was found
-  pub allows : (σ : LoadSet) (m n : ℕ) → n ≡ 0 → (r : Run) → r ≡ runOf (checkEntries (stateIn p .tables) (markIn σ))
+  pub allows : (σ : LoadSet) (m n : ℕ) → n ≡ 0 → (r : Run) → r ≡ runOf maxLoads (checkEntries (stateIn p .tables) (markIn σ))
       → record { answer = Allowed; run = r; planner = p } ≡ decidedBy (stateIn p) n (row (stateIn p) (Check σ m))
   unfolding decidedBy row
   allows σ m n z r is = rw z (λ i. record { answer = Allowed; run = is i; planner = is-held i })
@@ -195,7 +195,7 @@ unfolding decidedBy row
 plan-numbered s zero = refl
 plan-numbered s (suc n) = refl
 
-module _ (p : Planner) (h : Lawful p) (o : StoredOutcome) (is : o ≡ storedOutcome (found (bestPlan (stateIn p .tables)) (planEntries (stateIn p .tables)))) where
+module _ (p : Planner) (h : Lawful p) (o : StoredOutcome) (is : o ≡ storedOutcome maxLoads (found (bestPlan (stateIn p .tables)) (planEntries (stateIn p .tables)))) where
   abbrev t : Tables
   t = stateIn p .tables
 
@@ -215,11 +215,11 @@ module _ (p : Planner) (h : Lawful p) (o : StoredOutcome) (is : o ≡ storedOutc
       go (suc v) e = plan-in t limits (ne-eqb (bestPlan t) 0 (λ z. absurd (omega (arith, e, z))))
 
   pub storing-lawful : Lawful storing
-  storing-lawful = record { tables = h .tables; outcome = (found (bestPlan t) (planEntries t), found-in, is) }
+  storing-lawful = record { tables = h .tables; outcome = (found (bestPlan t) (planEntries t), found-in, is ∙ ap (λ (n : ℕ). storedOutcome n (found (bestPlan t) (planEntries t))) (sym (places (p .tables) (h .tables)))) }
 
   storing-state : stateIn storing ≡ record { tables = t; outcome = found (bestPlan t) (planEntries t) }
   storing-state =
-      let read = ap (outcomeOf (length (t .loads))) is ∙ outcome-stored (rangeOf t) (few-loads t limits) (found (bestPlan t) (planEntries t)) found-in in
+      let read = ap (outcomeOf (length (t .loads))) is ∙ outcome-stored maxLoads (lit≤ tt) (rangeOf t) (omega (arith, few-loads t limits, places (p .tables) (h .tables))) (found (bestPlan t) (planEntries t)) found-in in
       λ i. record { tables = t; outcome = read i }
 
   module _ (some : length (t .loads) ≡ 0 → ⊥) (w v : List ℕ) (enough : cellsOf t ≤ length w) (cleared : v ≡ zeroed (cellsFor (row (stateIn p) Plan)) w) where

@@ -14,6 +14,7 @@ use Rattle.lines.specs.declared.answer.Answer.{Answer}
 use Rattle.lines.specs.declared.answer.Answer.the-variants.{Saved, Needed, Refused}
 use Rattle.lines.specs.Saved.{loses}
 use Rattle.tables.specs.Refusals as no
+use Rattle.tables.specs.Limits.{maxLoads}
 use Rattle.lines.specs.Answers.{numberOf}
 use Rattle.calls.specs.State.{State, storedState}
 use Rattle.calls.specs.Rows.{Row, causesOf}
@@ -25,6 +26,7 @@ use Rattle.engine.specs.declared.need.Need.{Need}
 use Rattle.engine.specs.declared.need.Need.the-variants.{NoneFits, Poorer, Least}
 use Rattle.planner.specs.declared.Planner.{Planner}
 use Rattle.planner.specs.declared.search.Decided.{Decided}
+use Rattle.planner.specs.declared.search.Shown.{Shown}
 use Rattle.planner.specs.Planner.{plannerOf}
 
 -- what a save in a form is answered, where kinds are in use or not: 14 where a kind would be lost
@@ -37,14 +39,21 @@ needAnswer NoneFits = Refused no.noneFits
 needAnswer Poorer = Refused no.tooPoor
 needAnswer (Least b) = Needed b
 
+-- a refusal, which shows no run; and an answer with its run beside a planner
+abbrev pub notShown : (number : ℕ) → Shown
+notShown n = record { answer = Refused n; run = runOf maxLoads [] }
+
+abbrev pub beside : Planner → Shown → Decided
+beside p x = record { answer = x .answer; run = x .run; planner = p }
+
 -- an answer that shows no run
 abbrev pub unshown : Answer → Planner → Decided
-unshown a p = record { answer = a; run = runOf []; planner = p }
+unshown a p = record { answer = a; run = runOf maxLoads []; planner = p }
 
 -- the answer, the run and the planner after it, by the number given
 unfoldable pub decidedBy : State → (number : ℕ) → Row → Decided
 decidedBy s n r =
-    record { answer = shownBy n r .answer; run = runOf (shownBy n r .entries); planner = plannerOf (storedState (stateBy s n r)) }
+    record { answer = shownBy n r .answer; run = runOf maxLoads (shownBy n r .entries); planner = plannerOf (storedState (stateBy s n r)) }
 
 -- of a row, where there is room for the answer: the rows from 2 on of "Causes and numbers"
 abbrev pub decided : State → (cells : ℕ) → Row → Decided

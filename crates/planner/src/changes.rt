@@ -1,4 +1,4 @@
-// The commands that change the tables. Each takes the planner and gives the answer and the next planner.
+// The commands that change the tables: methods that take the planner. What they tell comes to the answer and the next planner in `change`.
 use crate::Planner;
 use lines::Change;
 use lines::answer::Answer;
@@ -15,6 +15,7 @@ use tables::refusal::OUT_OF_RANGE;
 use tables::rule::RuleRange;
 use tables::rule::Sort;
 use tables::rule::Transition;
+use tables::tables::Added;
 use tables::tables::StoredTables;
 ghost use mathlib.Core.Path.{_≡_};
 ghost use Rattle.lines.specs.declared.Change.the-variants as to;
@@ -22,7 +23,7 @@ ghost use Prim.Native.Nat.{_+_, _≤_};
 ghost use Rattle.tables.specs.Limits.{between, maxLoads};
 ghost use Rattle.calls.specs.Rows.{rule, load, marking, adding, setting};
 ghost use Rattle.planner.specs.Planner.{stateIn, Lawful};
-ghost use Rattle.planner.specs.Changes.{namedRule, namedLoad, settled, madeBy, changedBy};
+ghost use Rattle.planner.specs.Changes.{namedRule, namedLoad, told, toldBy, toldFor, settled, changedBy};
 
 // The answer to a change, and the next planner.
 pub struct Changed {
@@ -101,120 +102,112 @@ fn named_load(number: usize, parent: u32, power: u32, worth: u32, kind: u32) -> 
     }
 }
 
+// The number of a change, 0 if accepted, and the tables after it.
+fn told(number: u8, tables: StoredTables) -> Added
+    ensures { λ r. ⌜ r ≡ told number tables ⌝ }
+{
+    Added { number, tables }
+}
+
+// Each command takes the planner, and tells its number and the next tables. (A whole planner for each would cost stack: `change` makes it once.)
 impl Planner {
-    // The answer of a change with this number, and the planner with the tables after it. An accepted one wipes the outcome.
-    fn settled(self, number: u8, tables: StoredTables) -> Changed
-        ensures { λ r. ⌜ r ≡ settled self number tables ⌝ }
+    fn clear(self) -> Added
+        requires { ⌜ Lawful self ⌝ }
+        ensures { λ r. ⌜ r ≡ toldFor (stateIn self) to.Clear ⌝ }
     {
-        let mut outcome = self.outcome;
-        if number == 0 {
-            outcome = StoredOutcome::NONE;
-        }
-        Changed {
-            answer: Answer::of_change(number),
-            planner: Planner { tables, outcome },
-        }
+        told(0, StoredTables::fresh())
     }
 
-    fn clear(self) -> Changed
+    fn book(self, states: u32, stages: u32) -> Added
         requires { ⌜ Lawful self ⌝ }
-        ensures { λ r. ⌜ r ≡ changedBy (stateIn self) to.Clear ⌝ }
-    {
-        self.settled(0, StoredTables::fresh())
-    }
-
-    fn book(self, states: u32, stages: u32) -> Changed
-        requires { ⌜ Lawful self ⌝ }
-        ensures { λ r. ⌜ r ≡ changedBy (stateIn self) (to.Book states stages) ⌝ }
+        ensures { λ r. ⌜ r ≡ toldFor (stateIn self) (to.Book states stages) ⌝ }
     {
         let most = MAX_STATES as usize;
         if !(between(1, most, states as usize) & between(1, most, stages as usize)) {
-            return self.settled(OUT_OF_RANGE, self.tables);
+            return told(OUT_OF_RANGE, self.tables);
         }
-        self.settled(0, self.tables.new_book(states as u8, stages as u8))
+        told(0, self.tables.new_book(states as u8, stages as u8))
     }
 
     // A state is marked as a start state, or a stage as an end stage.
-    fn mark(self, sort: Sort, number: u32) -> Changed
+    fn mark(self, sort: Sort, number: u32) -> Added
         requires { ⌜ Lawful self ⌝ }
-        ensures { λ r. ⌜ r ≡ madeBy (stateIn self) (marking (stateIn self .tables) sort number) ⌝ }
+        ensures { λ r. ⌜ r ≡ toldBy (stateIn self) (marking (stateIn self .tables) sort number) ⌝ }
     {
         let size = self.tables.book.size(sort);
         if !between(1, size as usize, number as usize) {
-            return self.settled(OUT_OF_RANGE, self.tables);
+            return told(OUT_OF_RANGE, self.tables);
         }
-        self.settled(0, self.tables.mark(sort, number as usize))
+        told(0, self.tables.mark(sort, number as usize))
     }
 
-    fn add_rule(self, sort: Sort, from: u32, label: u32, to: u32, kind: u32) -> Changed
+    fn add_rule(self, sort: Sort, from: u32, label: u32, to: u32, kind: u32) -> Added
         requires { ⌜ Lawful self ⌝ }
-        ensures { λ r. ⌜ r ≡ madeBy (stateIn self) (adding (stateIn self .tables) sort (rule from label to kind)) ⌝ }
+        ensures { λ r. ⌜ r ≡ toldBy (stateIn self) (adding (stateIn self .tables) sort (rule from label to kind)) ⌝ }
     {
         let range = RuleRange::of(sort, self.tables.book.states, self.tables.book.stages);
         let named = named_rule(range, from, label, to, kind);
         if !named.fits {
-            return self.settled(OUT_OF_RANGE, self.tables);
+            return told(OUT_OF_RANGE, self.tables);
         }
-        let done = self.tables.add_rule(sort, named.rule);
-        self.settled(done.number, done.tables)
+        self.tables.add_rule(sort, named.rule)
     }
 
-    fn load(self, parent: u32, power: u32, worth: u32, kind: u32) -> Changed
+    fn load(self, parent: u32, power: u32, worth: u32, kind: u32) -> Added
         requires { ⌜ Lawful self ⌝ }
-        ensures { λ r. ⌜ r ≡ changedBy (stateIn self) (to.Load parent power worth kind) ⌝ }
+        ensures { λ r. ⌜ r ≡ toldFor (stateIn self) (to.Load parent power worth kind) ⌝ }
     {
         let named = named_load(self.tables.loads.count + 1, parent, power, worth, kind);
         if !named.fits {
-            return self.settled(OUT_OF_RANGE, self.tables);
+            return told(OUT_OF_RANGE, self.tables);
         }
-        let done = self.tables.add_load(named.load);
-        self.settled(done.number, done.tables)
+        self.tables.add_load(named.load)
     }
 
-    fn set_figure(self, figure: Figure, number: u32, value: u32) -> Changed
+    fn set_figure(self, figure: Figure, number: u32, value: u32) -> Added
         requires { ⌜ Lawful self ⌝ }
-        ensures { λ r. ⌜ r ≡ madeBy (stateIn self) (setting (stateIn self .tables) figure number value) ⌝ }
+        ensures { λ r. ⌜ r ≡ toldBy (stateIn self) (setting (stateIn self .tables) figure number value) ⌝ }
     {
         let there = between(1, self.tables.loads.count, number as usize);
         if !(there & (value <= (figure.most() as u32))) {
-            return self.settled(OUT_OF_RANGE, self.tables);
+            return told(OUT_OF_RANGE, self.tables);
         }
-        self.settled(
+        told(
             0,
             self.tables
                 .set_figure(figure, number as usize, value as u16),
         )
     }
 
-    fn budget(self, watts: u32) -> Changed
+    fn budget(self, watts: u32) -> Added
         requires { ⌜ Lawful self ⌝ }
-        ensures { λ r. ⌜ r ≡ changedBy (stateIn self) (to.Budget watts) ⌝ }
+        ensures { λ r. ⌜ r ≡ toldFor (stateIn self) (to.Budget watts) ⌝ }
     {
         if (MAX_BUDGET as u32) < watts {
-            return self.settled(OUT_OF_RANGE, self.tables);
+            return told(OUT_OF_RANGE, self.tables);
         }
-        self.settled(0, self.tables.set_budget(watts as u16))
+        told(0, self.tables.set_budget(watts as u16))
     }
 
     // A load without children leaves.
-    fn drop_load(self, number: u32) -> Changed
+    fn drop_load(self, number: u32) -> Added
         requires { ⌜ Lawful self ⌝ }
-        ensures { λ r. ⌜ r ≡ changedBy (stateIn self) (to.Drop number) ⌝ }
+        ensures { λ r. ⌜ r ≡ toldFor (stateIn self) (to.Drop number) ⌝ }
     {
         let k = number as usize;
         if !between(1, self.tables.loads.count, k) {
-            return self.settled(OUT_OF_RANGE, self.tables);
+            return told(OUT_OF_RANGE, self.tables);
         }
         if self.tables.loads.has_children(k) {
-            return self.settled(HAS_CHILDREN, self.tables);
+            return told(HAS_CHILDREN, self.tables);
         }
-        self.settled(0, self.tables.drop_load(k))
+        told(0, self.tables.drop_load(k))
     }
 
-    // What a change answers, and the next planner.
-    pub(crate) fn change(self, c: Change) -> Changed
+    // What a change tells.
+    fn made(self, c: Change) -> Added
         requires { ⌜ Lawful self ⌝ }
-        ensures { λ r. ⌜ r ≡ changedBy (stateIn self) c ⌝ }
+        ensures { λ r. ⌜ r ≡ toldFor (stateIn self) c ⌝ }
     {
         match c {
             Change::Clear => self.clear(),
@@ -231,5 +224,29 @@ impl Planner {
             Change::Budget(watts) => self.budget(watts),
             Change::Drop(number) => self.drop_load(number),
         }
+    }
+
+    // The answer of a change with this number, and the planner with the tables after it. An accepted one wipes the outcome.
+    fn settled(self, number: u8, tables: StoredTables) -> Changed
+        ensures { λ r. ⌜ r ≡ settled self number tables ⌝ }
+    {
+        let mut outcome = self.outcome;
+        if number == 0 {
+            outcome = StoredOutcome::NONE;
+        }
+        Changed {
+            answer: Answer::of_change(number),
+            planner: Planner { tables, outcome },
+        }
+    }
+
+    // What a change answers, and the next planner.
+    pub(crate) fn change(self, c: Change) -> Changed
+        requires { ⌜ Lawful self ⌝ }
+        ensures { λ r. ⌜ r ≡ changedBy (stateIn self) c ⌝ }
+    {
+        let made = self.made(c);
+        let tables = made.tables;
+        self.settled(made.number, tables)
     }
 }

@@ -23,7 +23,7 @@ ghost use Rattle.tables.specs.Stored.{tablesOf, Holds};
 ghost use Rattle.meaning.specs.Cells.{cellsOf};
 ghost use Rattle.calls.specs.Rows.{row};
 ghost use Rattle.planner.specs.Planner.{stateIn, Lawful};
-ghost use Rattle.planner.specs.Decided.{unshown, decided, Decides};
+ghost use Rattle.planner.specs.Decided.{notShown, beside, unshown, decided, Decides};
 
 // The answer to a line, the run that it shows, and the next planner. Where no run is shown, it is empty.
 pub struct Decided {
@@ -40,6 +40,21 @@ pub(crate) fn unshown(answer: Answer, planner: Planner) -> Decided
         answer,
         run: Run::EMPTY,
         planner,
+    }
+}
+
+// An answer, and the run that it shows. Where none is shown, it is empty.
+struct Shown {
+    answer: Answer,
+    run: Run,
+}
+
+fn not_shown(number: u8) -> Shown
+    ensures { λ r. ⌜ r ≡ notShown number ⌝ }
+{
+    Shown {
+        answer: Answer::Refused { number },
+        run: Run::EMPTY,
     }
 }
 
@@ -101,25 +116,39 @@ impl Planner {
         planner.last()
     }
 
+    // What the check of a set is answered. The planner stays beside it: it comes back once, with whatever answer.
+    fn checked(self, set: LoadSet, count: usize) -> Shown
+        requires { ⌜ Lawful self ⌝ }
+        ensures { λ r. ⌜ beside self r ≡ decided (stateIn self) 0 (row (stateIn self) (line.Check set count)) ⌝ }
+    {
+        let tables = self.tables;
+        if tables.loads.count == 0 {
+            return not_shown(NO_LOADS);
+        }
+        if count != tables.loads.count {
+            return not_shown(OUT_OF_RANGE);
+        }
+        let found = engine::plan::check(tables, set);
+        if found.status == NO_SET {
+            return not_shown(NOT_ALLOWED);
+        }
+        let run = found.run;
+        Shown {
+            answer: Answer::Allowed,
+            run,
+        }
+    }
+
     pub(crate) fn check(self, set: LoadSet, count: usize) -> Decided
         requires { ⌜ Lawful self ⌝ }
         ensures { λ r. ⌜ r ≡ decided (stateIn self) 0 (row (stateIn self) (line.Check set count)) ⌝ }
     {
-        let tables = self.tables;
-        if tables.loads.count == 0 {
-            return self.refused(NO_LOADS);
-        }
-        if count != tables.loads.count {
-            return self.refused(OUT_OF_RANGE);
-        }
-        let found = engine::plan::check(tables, set);
-        if found.status == NO_SET {
-            return self.refused(NOT_ALLOWED);
-        }
-        let shown = found.run;
+        let shown = self.checked(set, count);
+        let answer = shown.answer;
+        let run = shown.run;
         Decided {
-            answer: Answer::Allowed,
-            run: shown,
+            answer,
+            run,
             planner: self,
         }
     }

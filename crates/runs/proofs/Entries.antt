@@ -20,7 +20,6 @@ use Rattle.marks.specs.declared.LoadSet.{LoadSet}
 use Rattle.marks.specs.Bits.{hasMark}
 use Rattle.marks.specs.Sets.{setWidth, noLoads, joined, hasLoad, loadsUpTo}
 use Rattle.marks.proofs.Sets.{firstOf, first-none, first-more, first-less, first-all}
-use Rattle.tables.specs.Limits.{maxLoads}
 use Rattle.tables.specs.declared.entry.Entry.{Entry}
 use Rattle.meaning.specs.Choice.{noEntry, find}
 use Rattle.meaning.specs.Claims.{Numbered}
@@ -54,27 +53,27 @@ one-or-none (suc zero) l = refl
 one-or-none (suc (suc x)) l = absurd (omega arith)
 
 -- ---- the entries of the run of entries: each has its number, its mark is 0 or 1
-module _ (es : List Entry) (o : Numbered 1 es) (few : length es ≤ maxLoads) (marks : (i : ℕ) → i < length es → getD es i noEntry .mark ≤ 1) where
-  entry-at : (i : ℕ) → i < length es → entryAt (runOf es) i ≡ getD es i noEntry
+module _ (w : ℕ) (most : w ≤ setWidth) (es : List Entry) (o : Numbered 1 es) (few : length es ≤ w) (marks : (i : ℕ) → i < length es → getD es i noEntry .mark ≤ 1) where
+  entry-at : (i : ℕ) → i < length es → entryAt (runOf w es) i ≡ getD es i noEntry
   unfolding runOf
   entry-at i h =
       let number : suc i ≡ getD es i noEntry .number = omega (arith, number-at es 1 i o h) in
-      let is = has-shown es o few (suc i) ∙ ap (λ (e : Entry). eqb (e .mark) 1) (ap (find es) (sym (one-add i)) ∙ find-at es 1 i o h) in
+      let is = has-shown w es o (omega arith) (suc i) ∙ ap (λ (e : Entry). eqb (e .mark) 1) (ap (find es) (sym (one-add i)) ∙ find-at es 1 i o h) in
       let mark = ap (λ (b : Bool). guard b 1) is ∙ one-or-none (getD es i noEntry .mark) (marks i h) in
       λ j. record { number = number j; mark = mark j; state = at (λ e. e .state) j; rule = at (λ e. e .rule) j; row = at (λ e. e .row) j }
     where
-      at : (f : Entry → ℕ) → getD (laid 0 maxLoads (map f es)) i 0 ≡ f (getD es i noEntry)
-      at f = getD-laid 0 maxLoads (map f es) i (omega (arith, length-map es f)) (omega (arith, length-map es f)) ∙ getD-map f es i h
+      at : (f : Entry → ℕ) → getD (laid 0 w (map f es)) i 0 ≡ f (getD es i noEntry)
+      at f = getD-laid 0 w (map f es) i (omega (arith, length-map es f)) (omega (arith, length-map es f)) ∙ getD-map f es i h
 
-  entries-to : (n : ℕ) → n ≤ length es → entriesTo (runOf es) n ≡ take n es
+  entries-to : (n : ℕ) → n ≤ length es → entriesTo (runOf w es) n ≡ take n es
   unfolding entriesTo
   entries-to zero h = refl
   entries-to (suc n) h =
-      ap (λ (ls : List Entry). ls ++ (entryAt (runOf es) n ∷ [])) (entries-to n (omega arith))
+      ap (λ (ls : List Entry). ls ++ (entryAt (runOf w es) n ∷ [])) (entries-to n (omega arith))
       ∙ ap (λ (l : Entry). take n es ++ (l ∷ [])) (entry-at n (omega arith))
       ∙ sym (take-suc es n noEntry (omega arith))
 
-  pub entries-read : entriesTo (runOf es) (length es) ≡ es
+  pub entries-read : entriesTo (runOf w es) (length es) ≡ es
   entries-read = entries-to (length es) (le-refl (length es)) ∙ take-all (length es) es (omega arith)
 
 -- ---- the first n entries of a run
@@ -93,11 +92,11 @@ module _ (r : Run) where
       ∙ ap₂ (λ (l : List ℕ) (x : ℕ). l ++ (x ∷ [])) (column f xs at n (omega arith)) (at n)
       ∙ sym (take-suc xs n 0 (omega arith))
 
-  array : (f : Entry → ℕ) (xs : List ℕ) → ((i : ℕ) → f (entryAt r i) ≡ getD xs i 0) → length xs ≡ maxLoads
-      → (n : ℕ) → n ≤ maxLoads → zeroFrom n xs ≡ true → laid 0 maxLoads (map f (entriesTo r n)) ≡ xs
-  array f xs at e n h z =
-      ap (laid 0 maxLoads) (column f xs at n (omega arith))
-      ∙ sym (free-laid 0 (λ x. eqb x 0) refl (λ a q. eqb-true a 0 q) maxLoads n xs e (rw (le-leb n maxLoads h) z))
+  array : (w : ℕ) (f : Entry → ℕ) (xs : List ℕ) → ((i : ℕ) → f (entryAt r i) ≡ getD xs i 0) → length xs ≡ w
+      → (n : ℕ) → n ≤ w → zeroFrom n xs ≡ true → laid 0 w (map f (entriesTo r n)) ≡ xs
+  array w f xs at e n h z =
+      ap (laid 0 w) (column f xs at n (omega arith))
+      ∙ sym (free-laid 0 (λ x. eqb x 0) refl (λ a q. eqb-true a 0 q) w n xs e (rw (le-leb n w h) z))
 
   -- its set
   same-mark : (b : Bool) → eqb (guard b 1) 1 ≡ b
@@ -118,16 +117,16 @@ module _ (r : Run) where
       go false e = first-less (r .set) n e
 
   -- the run of its entries, where all else is 0
-  pub run-read : length (r .states) ≡ maxLoads → length (r .«load_rules») ≡ maxLoads → length (r .«row_rules») ≡ maxLoads
-      → (n : ℕ) → n ≤ maxLoads → runFree n r ≡ true → runOf (entriesTo r n) ≡ r
+  pub run-read : (w : ℕ) → w ≤ setWidth → length (r .states) ≡ w → length (r .«load_rules») ≡ w → length (r .«row_rules») ≡ w
+      → (n : ℕ) → n ≤ w → runFree n r ≡ true → runOf w (entriesTo r n) ≡ r
   unfolding runOf runFree
-  run-read a b c n h free =
+  run-read w most a b c n h free =
       let z = zeroFrom n (r .states) && zeroFrom n (r .«load_rules») in
       let y = z && zeroFrom n (r .«row_rules») in
       let columns = and-left y (loadsUpTo n (r .set)) free in
       let first = and-left z (zeroFrom n (r .«row_rules»)) columns in
-      let states = array (λ e. e .state) (r .states) (λ i. refl) a n h (and-left (zeroFrom n (r .states)) (zeroFrom n (r .«load_rules»)) first) in
-      let rules = array (λ e. e .rule) (r .«load_rules») (λ i. refl) b n h (and-right (zeroFrom n (r .states)) (zeroFrom n (r .«load_rules»)) first) in
-      let rows = array (λ e. e .row) (r .«row_rules») (λ i. refl) c n h (and-right z (zeroFrom n (r .«row_rules»)) columns) in
-      let set = set-to n h ∙ first-all (r .set) n (and-right y (loadsUpTo n (r .set)) free) in
+      let states = array w (λ e. e .state) (r .states) (λ i. refl) a n h (and-left (zeroFrom n (r .states)) (zeroFrom n (r .«load_rules»)) first) in
+      let rules = array w (λ e. e .rule) (r .«load_rules») (λ i. refl) b n h (and-right (zeroFrom n (r .states)) (zeroFrom n (r .«load_rules»)) first) in
+      let rows = array w (λ e. e .row) (r .«row_rules») (λ i. refl) c n h (and-right z (zeroFrom n (r .«row_rules»)) columns) in
+      let set = set-to n (omega arith) ∙ first-all (r .set) n (and-right y (loadsUpTo n (r .set)) free) in
       λ i. record { states = states i; «load_rules» = rules i; «row_rules» = rows i; set = set i }

@@ -13,9 +13,8 @@ use Rattle.lists.specs.Argmax.{guard}
 use Rattle.lists.specs.Arrays.{laid}
 use Rattle.lists.proofs.Arrays.{laid-snoc}
 use Rattle.marks.specs.declared.LoadSet.{LoadSet}
-use Rattle.marks.specs.Sets.{noLoads, joined, hasLoad, markIn}
+use Rattle.marks.specs.Sets.{setWidth, noLoads, joined, hasLoad, markIn}
 use Rattle.marks.proofs.Sets.{has-no-loads, has-joined-same, has-joined-other}
-use Rattle.tables.specs.Limits.{maxLoads}
 use Rattle.tables.specs.declared.entry.Entry.{Entry}
 use Rattle.meaning.specs.Choice.{noEntry, find, inOrder, marksOf, shownSet}
 use Rattle.meaning.specs.Claims.{Numbered}
@@ -52,24 +51,24 @@ unfolding markAll
 mark-snoc s [] e = refl
 mark-snoc s (x ∷ es) e = mark-snoc (joinedIfOn s x) es e
 
-laid-more : (f : Entry → ℕ) (es : List Entry) (e : Entry) (n : ℕ) → n ≡ suc (length es) → length es < maxLoads
-    → set (laid 0 maxLoads (map f es)) (n - 1) (f e) ≡ laid 0 maxLoads (map f (es ++ (e ∷ [])))
-laid-more f es e n q h =
+laid-more : (w : ℕ) (f : Entry → ℕ) (es : List Entry) (e : Entry) (n : ℕ) → n ≡ suc (length es) → length es < w
+    → set (laid 0 w (map f es)) (n - 1) (f e) ≡ laid 0 w (map f (es ++ (e ∷ [])))
+laid-more w f es e n q h =
     let i : n - 1 ≡ length (map f es) = omega (arith, length-map es f) in
-    ap (λ i. set (laid 0 maxLoads (map f es)) i (f e)) i
-    ∙ laid-snoc 0 maxLoads (map f es) (f e) (omega (arith, length-map es f))
-    ∙ ap (laid 0 maxLoads) (sym (map-snoc f es e))
+    ap (λ i. set (laid 0 w (map f es)) i (f e)) i
+    ∙ laid-snoc 0 w (map f es) (f e) (omega (arith, length-map es f))
+    ∙ ap (laid 0 w) (sym (map-snoc f es e))
 
 abbrev runFrom : List ℕ → List ℕ → List ℕ → LoadSet → Run
 runFrom a b c s = record { states = a; «load_rules» = b; «row_rules» = c; set = s }
 
-pub run-snoc : (es : List Entry) (e : Entry) → e .number ≡ suc (length es) → length es < maxLoads → withEntry (runOf es) e ≡ runOf (es ++ (e ∷ []))
+pub run-snoc : (w : ℕ) (es : List Entry) (e : Entry) → e .number ≡ suc (length es) → length es < w → withEntry (runOf w es) e ≡ runOf w (es ++ (e ∷ []))
 unfolding runOf withEntry
-run-snoc es e q h =
-    ap₂ (λ a b. runFrom a b (set (laid 0 maxLoads (map (λ e. e .row) es)) (e .number - 1) (e .row)) (joinedIfOn (markAll noLoads es) e))
-    (laid-more (λ e. e .state) es e (e .number) q h) (laid-more (λ e. e .rule) es e (e .number) q h)
-    ∙ ap₂ (λ a s. runFrom (laid 0 maxLoads (map (λ e. e .state) (es ++ (e ∷ [])))) (laid 0 maxLoads (map (λ e. e .rule) (es ++ (e ∷ [])))) a s)
-    (laid-more (λ e. e .row) es e (e .number) q h) (sym (mark-snoc noLoads es e))
+run-snoc w es e q h =
+    ap₂ (λ a b. runFrom a b (set (laid 0 w (map (λ e. e .row) es)) (e .number - 1) (e .row)) (joinedIfOn (markAll noLoads es) e))
+    (laid-more w (λ e. e .state) es e (e .number) q h) (laid-more w (λ e. e .rule) es e (e .number) q h)
+    ∙ ap₂ (λ a s. runFrom (laid 0 w (map (λ e. e .state) (es ++ (e ∷ [])))) (laid 0 w (map (λ e. e .rule) (es ++ (e ∷ [])))) a s)
+    (laid-more w (λ e. e .row) es e (e .number) q h) (sym (mark-snoc noLoads es e))
 
 -- ---- the set
 or-none : (a : Bool) → a || false ≡ a
@@ -82,7 +81,7 @@ find-before [] k n o h = refl
 find-before (e ∷ es) k n o h = rw (ne-eqb (e .number) n (λ q. absurd (omega (arith, o .0)))) (find-before es (suc k) n (o .1) (omega arith))
 
 -- a load is in the set if it was, or if its entry is on
-has-marked : (s : LoadSet) (es : List Entry) (k n : ℕ) → Numbered (suc k) es → k + length es ≤ maxLoads
+has-marked : (s : LoadSet) (es : List Entry) (k n : ℕ) → Numbered (suc k) es → k + length es ≤ setWidth
     → hasLoad (markAll s es) n ≡ eqb (find es n .mark) 1 || hasLoad s n
 unfolding markAll find
 has-marked s [] k n o h = refl
@@ -108,15 +107,15 @@ unfolding find
 find-past [] k n o h = refl
 find-past (e ∷ es) k n o h = rw (ne-eqb (e .number) n (λ q. absurd (omega (arith, o .0)))) (find-past es (suc k) n (o .1) (omega arith))
 
-module _ (es : List Entry) (o : Numbered 1 es) (few : length es ≤ maxLoads) where
-  pub has-shown : (n : ℕ) → hasLoad (runOf es .set) n ≡ eqb (marksOf es n) 1
+module _ (w : ℕ) (es : List Entry) (o : Numbered 1 es) (few : length es ≤ setWidth) where
+  pub has-shown : (n : ℕ) → hasLoad (runOf w es .set) n ≡ eqb (marksOf es n) 1
   unfolding runOf
   has-shown n = has-marked noLoads es 0 n o (omega arith) ∙ rw (has-no-loads n) (or-none (eqb (marksOf es n) 1))
 
   -- the run's set is the loads that are shown with mark 1
-  pub shown-set : markIn (runOf es .set) ≡ shownSet es
+  pub shown-set : markIn (runOf w es .set) ≡ shownSet es
   shown-set = fun-ext (λ n. ap (λ t. guard t 1) (has-shown n))
 
   -- none of them is past the last
-  pub shown-within : (n : ℕ) → length es < n → hasLoad (runOf es .set) n ≡ false
+  pub shown-within : (n : ℕ) → length es < n → hasLoad (runOf w es .set) n ≡ false
   shown-within n h = has-shown n ∙ ap (λ (e : Entry). eqb (e .mark) 1) (find-past es 1 n o (omega arith))

@@ -16,10 +16,10 @@ use Rattle.lists.proofs.Bools.{and-left, and-right}
 use Rattle.lists.proofs.Tests.{from-each, from-at}
 use Rattle.lists.proofs.Places.{laid-free}
 use Rattle.marks.specs.declared.LoadSet.{LoadSet}
-use Rattle.marks.specs.Sets.{noLoads, loadsUpTo}
+use Rattle.marks.specs.Sets.{setWidth, noLoads, loadsUpTo}
 use Rattle.marks.proofs.Sets.{firstOf, first-up-to}
 use Rattle.tables.specs.Tables.{Tables}
-use Rattle.tables.specs.Limits.{between, maxLoads}
+use Rattle.tables.specs.Limits.{between}
 use Rattle.tables.specs.Lawful.{Lawful}
 use Rattle.tables.specs.declared.entry.Entry.{Entry}
 use Rattle.meaning.specs.Runs.{TreeRun, rowRuleIn}
@@ -87,55 +87,59 @@ named-in m e h =
     }
 
 -- ---- stored, and read back
-module _ (m : RunRange) (few : m .loads ≤ maxLoads) where
-  lines-read : (es : List Entry) → LinesIn m es → entriesTo (runOf es) (m .loads) ≡ es
+module _ (w : ℕ) (most : w ≤ setWidth) (m : RunRange) (few : m .loads ≤ w) where
+  lines-read : (es : List Entry) → LinesIn m es → entriesTo (runOf w es) (m .loads) ≡ es
   lines-read es l =
-      subst (λ (n : ℕ). entriesTo (runOf es) n ≡ es) (l .all)
-      (entries-read es (l .each) (omega (arith, l .all)) (l .marks))
+      subst (λ (n : ℕ). entriesTo (runOf w es) n ≡ es) (l .all)
+      (entries-read w most es (l .each) (omega (arith, l .all)) (l .marks))
 
-  pub outcome-stored : (o : Outcome) → outcomeIn m o ≡ true → outcomeOf (m .loads) (storedOutcome o) ≡ o
+  pub outcome-stored : (o : Outcome) → outcomeIn m o ≡ true → outcomeOf (m .loads) (storedOutcome w o) ≡ o
   outcome-stored nothing h = refl
   outcome-stored noSet h = refl
   outcome-stored (planned es) h = ap planned (lines-read es (lines-in m es h))
 
   -- what is stored keeps the limits: past the loads all is 0
-  column-free : (f : Entry → ℕ) (es : List Entry) → length es ≤ maxLoads → zeroFrom (length es) (laid 0 maxLoads (map f es)) ≡ true
+  column-free : (f : Entry → ℕ) (es : List Entry) → length es ≤ w → zeroFrom (length es) (laid 0 w (map f es)) ≡ true
   column-free f es h =
       let n = length-map es f in
-      let free = laid-free 0 (λ x. eqb x 0) refl (λ a q. eqb-true a 0 q) maxLoads (map f es) (omega arith) in
-      subst (λ (k : ℕ). zeroFrom k (laid 0 maxLoads (map f es)) ≡ true) n (and-right (leb (length (map f es)) maxLoads) _ free)
+      let free = laid-free 0 (λ x. eqb x 0) refl (λ a q. eqb-true a 0 q) w (map f es) (omega arith) in
+      subst (λ (k : ℕ). zeroFrom k (laid 0 w (map f es)) ≡ true) n (and-right (leb (length (map f es)) w) _ free)
 
   set-free : (es : List Entry) → LinesIn m es → loadsUpTo (length es) (markAll noLoads es) ≡ true
   unfolding runOf
   set-free es l =
       let n = length es in
       let same : markAll noLoads es ≡ firstOf (markAll noLoads es) n =
-      sym (ap (markAll noLoads) (ap (entriesTo (runOf es)) (l .all) ∙ lines-read es l)) ∙ set-to (runOf es) n (omega (arith, l .all)) in
+      sym (ap (markAll noLoads) (ap (entriesTo (runOf w es)) (l .all) ∙ lines-read es l)) ∙ set-to (runOf w es) n (omega (arith, l .all)) in
       subst (λ (s : LoadSet). loadsUpTo n s ≡ true) (sym same) (first-up-to (markAll noLoads es) n)
 
-  run-free : (es : List Entry) → LinesIn m es → runFree (m .loads) (runOf es) ≡ true
+  run-free : (es : List Entry) → LinesIn m es → runFree (m .loads) (runOf w es) ≡ true
   unfolding runOf runFree
   run-free es l =
-      let h : length es ≤ maxLoads = omega (arith, l .all) in
+      let h : length es ≤ w = omega (arith, l .all) in
       rw (← (l .all), column-free (λ e. e .state) es h, column-free (λ e. e .rule) es h, column-free (λ e. e .row) es h) (set-free es l)
 
-  pub stored-in : (o : Outcome) → outcomeIn m o ≡ true → keepsOutcome m (storedOutcome o) ≡ true
-  unfolding keepsOutcome runOf runFree markAll laid every outcomeIn
-  stored-in nothing h = refl
-  stored-in noSet h = refl
+  none-free : runFree 0 (runOf w []) ≡ true
+  unfolding runOf runFree markAll
+  none-free = rw (column-free (λ e. e .state) [] zero-le)
+
+  pub stored-in : (o : Outcome) → outcomeIn m o ≡ true → keepsOutcome m (storedOutcome w o) ≡ true
+  unfolding keepsOutcome outcomeIn
+  stored-in nothing h = rw none-free
+  stored-in noSet h = rw none-free
   stored-in (planned es) h = rw (run-free es (lines-in m es h), lines-read es (lines-in m es h)) h
 
   -- what keeps the limits is stored so
-  as-stored : (k : ℕ) (r : Run) → length (r .states) ≡ maxLoads → length (r .«load_rules») ≡ maxLoads → length (r .«row_rules») ≡ maxLoads
-      → leb k 2 ≡ true → runFree (usedBy (m .loads) k) r ≡ true → record { status = k; run = r } ≡ storedOutcome (ofStatus k (entriesTo r (m .loads)))
+  as-stored : (k : ℕ) (r : Run) → length (r .states) ≡ w → length (r .«load_rules») ≡ w → length (r .«row_rules») ≡ w
+      → leb k 2 ≡ true → runFree (usedBy (m .loads) k) r ≡ true → record { status = k; run = r } ≡ storedOutcome w (ofStatus k (entriesTo r (m .loads)))
   unfolding entriesTo
-  as-stored zero r a b c l f = let e = run-read r a b c 0 zero-le f in λ i. record { status = 0; run = sym e i }
-  as-stored (suc zero) r a b c l f = let e = run-read r a b c 0 zero-le f in λ i. record { status = 1; run = sym e i }
-  as-stored (suc (suc zero)) r a b c l f = let e = run-read r a b c (m .loads) few f in λ i. record { status = 2; run = sym e i }
+  as-stored zero r a b c l f = let e = run-read r w most a b c 0 zero-le f in λ i. record { status = 0; run = sym e i }
+  as-stored (suc zero) r a b c l f = let e = run-read r w most a b c 0 zero-le f in λ i. record { status = 1; run = sym e i }
+  as-stored (suc (suc zero)) r a b c l f = let e = run-read r w most a b c (m .loads) few f in λ i. record { status = 2; run = sym e i }
   as-stored (suc (suc (suc k))) r a b c l f = absurd (omega (arith, leb-true (suc (suc (suc k))) 2 l))
 
-  pub kept-stored : (o : StoredOutcome) → length (o .run .states) ≡ maxLoads → length (o .run .«load_rules») ≡ maxLoads → length (o .run .«row_rules») ≡ maxLoads
-      → keepsOutcome m o ≡ true → o ≡ storedOutcome (outcomeOf (m .loads) o)
+  pub kept-stored : (o : StoredOutcome) → length (o .run .states) ≡ w → length (o .run .«load_rules») ≡ w → length (o .run .«row_rules») ≡ w
+      → keepsOutcome m o ≡ true → o ≡ storedOutcome w (outcomeOf (m .loads) o)
   unfolding keepsOutcome
   kept-stored o a b c h =
       let front = and-left _ (outcomeIn m (outcomeOf (m .loads) o)) h in

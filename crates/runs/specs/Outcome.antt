@@ -52,8 +52,8 @@ statusOf nothing = 0
 statusOf noSet = 1
 statusOf (planned es) = 2
 
-abbrev pub storedOutcome : Outcome → StoredOutcome
-storedOutcome o = record { status = statusOf o; run = runOf (entriesOf o) }
+abbrev pub storedOutcome : (places : ℕ) → Outcome → StoredOutcome
+storedOutcome w o = record { status = statusOf o; run = runOf w (entriesOf o) }
 
 -- what a status says
 abbrev pub ofStatus : (status : ℕ) → List Entry → Outcome

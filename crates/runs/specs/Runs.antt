@@ -9,7 +9,6 @@ use Rattle.lists.specs.Tests.{pick}
 use Rattle.lists.specs.Arrays.{laid}
 use Rattle.marks.specs.declared.LoadSet.{LoadSet}
 use Rattle.marks.specs.Sets.{noLoads, joined, markIn}
-use Rattle.tables.specs.Limits.{maxLoads}
 use Rattle.tables.specs.declared.entry.Entry.{Entry}
 use Rattle.runs.specs.declared.run.Run.{Run}
 
@@ -22,12 +21,12 @@ unfoldable pub markAll : LoadSet → List Entry → LoadSet
 markAll s [] = s
 markAll s (e ∷ es) = markAll (joinedIfOn s e) es
 
--- the run that entries in load order show
-unfoldable pub runOf : List Entry → Run
-runOf es = record {
-  states = laid 0 maxLoads (map (λ e. e .state) es);
-  «load_rules» = laid 0 maxLoads (map (λ e. e .rule) es);
-  «row_rules» = laid 0 maxLoads (map (λ e. e .row) es);
+-- the run that entries in load order show, with so many places for loads
+unfoldable pub runOf : (places : ℕ) → List Entry → Run
+runOf w es = record {
+  states = laid 0 w (map (λ e. e .state) es);
+  «load_rules» = laid 0 w (map (λ e. e .rule) es);
+  «row_rules» = laid 0 w (map (λ e. e .row) es);
   set = markAll noLoads es;
 }
 

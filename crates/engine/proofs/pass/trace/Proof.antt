@@ -32,7 +32,7 @@ use Rattle.engine.proofs.pass.trace.Statement.{statement}
 use Rattle.engine.proofs.pass.trace.Tie as tie
 
 abbrev start : Pass
-start = record { run = runOf []; rows = record { stages = laid 0 maxLoads []; left = laid 0 maxLoads [] } }
+start = record { run = runOf maxLoads []; rows = record { stages = laid 0 maxLoads []; left = laid 0 maxLoads [] } }
 
 -- the best start state of an outline
 abbrev BestStart : Shape → List ℕ → Best → Type 0
@@ -46,8 +46,8 @@ module _ (p : Problem) (sh : Shape) (o w : List ℕ) (all : Complete p sh o w) (
   value : b .value ≡ bestFor p
   value = start-value p o w (whole p sh o w all) b own
 
-  nothing : b .value ≡ 0 → record { status = 1; run = runOf [] } ≡ answerTo p
-  nothing e = ap storedOutcome (found-none (bestFor p) (inOrder (entriesFor p) 1 (p .tables .loads .count)) (sym value ∙ e))
+  nothing : b .value ≡ 0 → record { status = 1; run = runOf maxLoads [] } ≡ answerTo p
+  nothing e = ap (storedOutcome maxLoads) (found-none (bestFor p) (inOrder (entriesFor p) 1 (p .tables .loads .count)) (sym value ∙ e))
 
   module _ (found : b .value ≡ 0 → ⊥) where
     used : b .index < p .tables .book .states
@@ -83,8 +83,8 @@ module _ (p : Problem) (sh : Shape) (o w : List ℕ) (all : Complete p sh o w) (
 
     whole-run : (s : Pass) (i : ℕ) → i ≡ p .tables .loads .count → Passed p i s → record { status = 2; run = s .run } ≡ answerTo p
     whole-run s i e h =
-        ap (λ (r : Run). record { status = 2; run = r }) (h .run ∙ ap (λ k. runOf (inOrder (entriesFor p) 1 k)) e)
-        ∙ ap storedOutcome (found-some (bestFor p) (inOrder (entriesFor p) 1 (p .tables .loads .count)) (omega (arith, value)))
+        ap (λ (r : Run). record { status = 2; run = r }) (h .run ∙ ap (λ k. runOf maxLoads (inOrder (entriesFor p) 1 k)) e)
+        ∙ ap (storedOutcome maxLoads) (found-some (bestFor p) (inOrder (entriesFor p) 1 (p .tables .loads .count)) (omega (arith, value)))
 
 abbrev Inv-loop : tie.InvT-loop
 Inv-loop sh o work q s₀ n i₀ s i = (0 < i) × (i ≤ n) × ((p : Problem) → Complete p sh o work → Passed p i s)

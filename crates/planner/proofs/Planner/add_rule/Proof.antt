@@ -1,5 +1,5 @@
 -- `Planner::add_rule` meets its contract. Assumes nothing.
-use mathlib.Core.Path.{_≡_, ap, _∙_}
+use mathlib.Core.Path.{_≡_, refl, ap, _∙_}
 use borrow.Author.Needs.{needs}
 use Rattle.tables.specs.declared.rule.RuleRange.{RuleRange}
 use Rattle.tables.specs.declared.rule.Transition.{Transition}
@@ -24,15 +24,15 @@ unfolding line-rule
 returns c =
     let k = c .before .before .before in
     let e = k .before .before in
-    rule-refused (e .args .self) (e .pre) (e .args .sort) (line-rule e) (named k) (c .before .if1 .taken) (c .settled .ensures)
+    rule-refused (e .args .self) (e .pre) (e .args .sort) (line-rule e) (named k) (c .before .if1 .taken) (c .told .ensures)
 
 returns-2 : tie.Need-returns-2
 unfolding line-rule
 returns-2 c =
-    let k = c .before .before .before .before in
+    let k = c .before .before .before in
     let e = k .before .before in
-    rule-stored (e .args .self) (e .pre) (e .args .sort) (line-rule e) (named k) (c .before .before .if1 .left) _ (c .before .add-rule .ensures) (c .settled2 .ensures)
+    rule-stored (e .args .self) (e .pre) (e .args .sort) (line-rule e) (named k) (c .before .if1 .left) _ (c .add-rule .ensures) refl
 
 pub add-rule-spec : {M : Type 1} → statement M
 add-rule-spec =
-    tie.close (tie.spec (λ c κs. search needs) (λ c κs. search needs) (λ c κs. search needs) returns (λ c κs. search needs) (λ c κs. search needs) returns-2)
+    tie.close (tie.spec (λ c κs. search needs) (λ c κs. search needs) (λ c κs. search needs) returns (λ c κs. search needs) returns-2)

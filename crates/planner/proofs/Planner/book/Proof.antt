@@ -29,7 +29,7 @@ returns c =
     let k = c .before .before in
     let s = k .before .before .args in
     out-of-range (s .self) (k .before .before .pre) (bookSize (s .states) (s .stages)) [] _
-    (sym (tested k) ∙ not-true _ (c .before .if1 .taken)) (c .settled .ensures)
+    (sym (tested k) ∙ not-true _ (c .before .if1 .taken)) (c .told .ensures)
 
 cast-new-book : tie.Need-cast-new-book
 cast-new-book c = let a = c .before .before .before .args in omega (arith, size-inside (a .states) (a .stages) (passed c) .0 .1)
@@ -45,7 +45,7 @@ returns-2 c =
     let s = e .args .self .tables in
     accepts (e .args .self) (e .pre) (bookSize (e .args .states) (e .args .stages)) _ (passed k)
     _ (c .before .new-book .ensures ∙ ap (λ (x : StoredTables). bookBegun x (e .args .states) (e .args .stages)) (is-stored s (e .pre .tables)) ∙ book-begun (tablesOf s) (e .args .states) (e .args .stages))
-    (c .settled2 .ensures)
+    (c .told2 .ensures)
 
 pub book-spec : {M : Type 1} → statement M
 book-spec =

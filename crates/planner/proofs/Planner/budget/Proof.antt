@@ -19,7 +19,7 @@ unfolding changing
 returns c =
     let e = c .before .before in
     let w = e .args .watts in
-    out-of-range (e .args .self) (e .pre) (budgetIn w) [] _ (lt-leb w maxBudget (c .before .if1 .taken)) (c .settled .ensures)
+    out-of-range (e .args .self) (e .pre) (budgetIn w) [] _ (lt-leb w maxBudget (c .before .if1 .taken)) (c .told .ensures)
 
 returns-2 : tie.Need-returns-2
 unfolding changing
@@ -28,7 +28,7 @@ returns-2 c =
     let s = e .args .self .tables in
     let w = e .args .watts in
     accepts (e .args .self) (e .pre) (budgetIn w) _ (le-leb w maxBudget (c .before .before .if1 .left))
-    _ (c .before .set-budget .ensures ∙ ap (λ (x : StoredTables). budgetChanged x w) (is-stored s (e .pre .tables)) ∙ budget-changed (tablesOf s) w) (c .settled2 .ensures)
+    _ (c .before .set-budget .ensures ∙ ap (λ (x : StoredTables). budgetChanged x w) (is-stored s (e .pre .tables)) ∙ budget-changed (tablesOf s) w) (c .told2 .ensures)
 
 pub budget-spec : {M : Type 1} → statement M
 budget-spec =

@@ -1,6 +1,6 @@
 -- `Planner::load` meets its contract. Assumes nothing.
 use Prim.Native.Nat.{ℕ, suc}
-use mathlib.Core.Path.{_≡_, sym, ap, _∙_}
+use mathlib.Core.Path.{_≡_, refl, sym, ap, _∙_}
 use mathlib.Core.List.{[], _∷_}
 use native.Mathlib.Numerals.{add-one}
 use native.Mathlib.Omega.{arith}
@@ -47,19 +47,19 @@ returns c =
     let k = c .before .before .before in
     let e = k .before .before in
     out-of-range (e .args .self) (e .pre) (loadIn (number e) (line-load e)) _ _
-    (sym (load-fits (number e) (line-load e) (named k)) ∙ not-true _ (c .before .if1 .taken)) (c .settled .ensures)
+    (sym (load-fits (number e) (line-load e) (named k)) ∙ not-true _ (c .before .if1 .taken)) (c .told .ensures)
 
 returns-2 : tie.Need-returns-2
 unfolding changing number line-load
 returns-2 c =
-    let k = c .before .before .before .before in
+    let k = c .before .before .before in
     let e = k .before .before in
     let s = e .args .self .tables in
     let ls = tablesOf s .loads in
-    let fits = sym (load-fits (number e) (line-load e) (named k)) ∙ not-false _ (c .before .before .if1 .left) in
+    let fits = sym (load-fits (number e) (line-load e) (named k)) ∙ not-false _ (c .before .if1 .left) in
     operated (e .args .self) (e .pre) (loadIn (number e) (line-load e)) ((no.full if leb (tablesOf s .places) (length ls)) ∷ []) _ fits
-    _ (c .before .add-load .ensures ∙ ap (loadAdded s) (load-is (number e) (line-load e) (named k) fits) ∙ ap (λ (x : StoredTables). loadAdded x (line-load e)) (is-stored s (e .pre .tables)) ∙ rw (load-lowest (tablesOf s .places) ls) (load-added (tablesOf s) (lawful s (e .pre .tables)) (line-load e)))
-    (c .settled2 .ensures)
+    _ (c .add-load .ensures ∙ ap (loadAdded s) (load-is (number e) (line-load e) (named k) fits) ∙ ap (λ (x : StoredTables). loadAdded x (line-load e)) (is-stored s (e .pre .tables)) ∙ rw (load-lowest (tablesOf s .places) ls) (load-added (tablesOf s) (lawful s (e .pre .tables)) (line-load e)))
+    refl
 
 pub load-spec : {M : Type 1} → statement M
 load-spec =
@@ -69,6 +69,5 @@ load-spec =
     named-load-requires
     (λ c κs. search needs)
     returns
-    (λ c κs. search needs)
     (λ c κs. search needs)
     returns-2)

@@ -24,7 +24,7 @@ returns : tie.Need-returns
 returns c =
     let k = c .before .before in
     let e = k .before .before in
-    out-of-range (e .args .self) (e .pre) _ [] _ (sym (tested k) ∙ not-true _ (c .before .if1 .taken)) (c .settled .ensures)
+    out-of-range (e .args .self) (e .pre) _ [] _ (sym (tested k) ∙ not-true _ (c .before .if1 .taken)) (c .told .ensures)
 
 returns-2 : tie.Need-returns-2
 returns-2 c =
@@ -33,7 +33,7 @@ returns-2 c =
     let s = e .args .self .tables in
     accepts (e .args .self) (e .pre) _ _ (sym (tested k) ∙ not-false _ (c .before .before .if1 .left)) _
     (c .before .mark .ensures ∙ ap (λ (x : StoredTables). markSet x (e .args .sort) (e .args .number)) (is-stored s (e .pre .tables)) ∙ mark-set (tablesOf s) (e .args .sort) (e .args .number))
-    (c .settled2 .ensures)
+    (c .told2 .ensures)
 
 pub mark-spec : {M : Type 1} → statement M
 mark-spec =

@@ -19,7 +19,7 @@ returns c =
     let k = c .before .before in
     let e = k .before .before in
     let a = e .args in
-    figure-refused (a .self) (e .pre) (a .figure) (a .number) (a .value) (k .before .between .ensures) (compared k) (c .before .if1 .taken) (c .settled .ensures)
+    figure-refused (a .self) (e .pre) (a .figure) (a .number) (a .value) (k .before .between .ensures) (compared k) (c .before .if1 .taken) (c .told .ensures)
 
 cast-set-figure : tie.Need-cast-set-figure
 cast-set-figure c =
@@ -33,7 +33,7 @@ returns-2 c =
     let k = c .before .before .before in
     let e = k .before .before in
     let a = e .args in
-    figure-set (a .self) (e .pre) (a .figure) (a .number) (a .value) (k .before .between .ensures) (compared k) (c .before .before .if1 .left) _ (c .before .set-figure .ensures) (c .settled2 .ensures)
+    figure-set (a .self) (e .pre) (a .figure) (a .number) (a .value) (k .before .between .ensures) (compared k) (c .before .before .if1 .left) _ (c .before .set-figure .ensures) (c .told2 .ensures)
 
 pub set-figure-spec : {M : Type 1} → statement M
 set-figure-spec =

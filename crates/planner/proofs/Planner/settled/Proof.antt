@@ -4,6 +4,7 @@ use mathlib.Core.Path.{_≡_, refl, _∙_}
 use mathlib.Core.Logic.{⊎-elim}
 use borrow.Author.Needs.{needs}
 use Rattle.lists.specs.Arrays.{laid}
+use Rattle.tables.specs.Limits.{maxLoads}
 use Rattle.tables.specs.Operations.{accepted}
 use Rattle.runs.specs.declared.outcome.StoredOutcome.{StoredOutcome}
 use Rattle.runs.specs.Runs.{markAll, runOf}
@@ -11,11 +12,11 @@ use Rattle.runs.specs.Outcome.{nothing, storedOutcome}
 use Rattle.planner.proofs.Planner.settled.Statement.{statement}
 use Rattle.planner.proofs.Planner.settled.Tie as tie
 
-kept : (n : ℕ) (o : StoredOutcome) → (n ≡ 0 → ⊥) → o ≡ accepted n (storedOutcome nothing) o
+kept : (n : ℕ) (o : StoredOutcome) → (n ≡ 0 → ⊥) → o ≡ accepted n (storedOutcome maxLoads nothing) o
 kept zero o d = absurd (d refl)
 kept (suc n) o d = refl
 
-wiped : (n : ℕ) (o : StoredOutcome) → n ≡ 0 → storedOutcome nothing ≡ accepted n (storedOutcome nothing) o
+wiped : (n : ℕ) (o : StoredOutcome) → n ≡ 0 → storedOutcome maxLoads nothing ≡ accepted n (storedOutcome maxLoads nothing) o
 wiped n o e = rw e
 
 returns : tie.Need-returns
@@ -23,7 +24,7 @@ unfolding runOf laid markAll
 returns c =
     let f = c .before .if1 in
     let a = c .before .before .before .args in
-    let w : f .outcome ≡ accepted (a .number) (storedOutcome nothing) (a .self .outcome) =
+    let w : f .outcome ≡ accepted (a .number) (storedOutcome maxLoads nothing) (a .self .outcome) =
     ⊎-elim (λ x. x .1 ∙ wiped (a .number) (a .self .outcome) (x .0 .taken)) (λ x. x .1 ∙ kept (a .number) (a .self .outcome) (x .0 .left)) (f .came) in
     rw (c .of-change .ensures, w)
 
