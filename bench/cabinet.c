@@ -41,12 +41,15 @@ static int parent_of(Shape shape, int k) {
     }
 }
 
-// The loads draw some 1,920 watts together, however many they are, so that every budget is short. Those of a caterpillar draw some 544, 64
-// of them 1 to 16 each, so that a branch has many sums to tell apart.
+// The watts of all loads together, each at its greatest.
+enum { TOP_WATTS = 3840, TOP_CATERPILLAR_WATTS = 1024 };
+
+// The loads draw some 1,920 watts together, however many they are, so that every budget is short. Those of a caterpillar draw a little more than
+// half of theirs, 64 of them 1 to 16 each, so that a branch has many sums to tell apart.
 static int power_of(Cabinet c) {
     if (c.shape == CATERPILLAR)
-        return 1 + rand() % (16 * HULMEIDE_MAX_LOADS / c.loads);
-    return rand() % (60 * HULMEIDE_MAX_LOADS / c.loads);
+        return 1 + rand() % (TOP_CATERPILLAR_WATTS / c.loads);
+    return rand() % (TOP_WATTS / c.loads);
 }
 
 Cabinet largest(Shape shape) {

@@ -21,7 +21,8 @@ static int choose_load_rule(const Tables *t, uint32_t *work, int k, int state, i
         if (joined(own_cell(t, k, r.label), row_value(t, work, child, r.to, *allowance - power)) == goal) {
             run->states[k] = (uint8_t)state;
             run->load_rules[k] = (uint8_t)(j + 1);
-            run->set |= (uint64_t)r.label << k;
+            if (r.label)
+                run->set = hulmeide_with_load(run->set, (size_t)k + 1);
             *allowance -= power;
             return r.to;
         }

@@ -5,11 +5,19 @@
 #include <stdlib.h>
 #include <string.h>
 
-// `hulmeide_call` and `hulmeide_fresh` of the other archive.
+// `hulmeide_call`, `hulmeide_fresh` and `hulmeide_version` of the other archive.
 extern __typeof__(hulmeide_call) other_call;
 extern __typeof__(hulmeide_fresh) other_fresh;
+extern __typeof__(hulmeide_version) other_version;
 
 enum { OTHER, THIS, BOTH, CABINETS = 5000, PLANNER_ROOM = 4096 };
+
+// The version before which an archive takes fewer loads, and how many. Every line that enters or checks so many has fewer bytes than such an
+// archive takes, and an output that this one needs is long enough for it.
+enum { VERSION_OF_MORE = 11000, FEWER_LOADS = 64 };
+
+// The most loads that both archives take.
+static int most_loads;
 
 static union { struct hulmeide_planner planner; uint8_t room[PLANNER_ROOM]; } planners[BOTH];
 static uint32_t work[HULMEIDE_MAX_CELLS];
@@ -65,8 +73,8 @@ static Tables tables_by_chance(unsigned seed) {
     srand(seed);
     int states = 1 + up_to(HULMEIDE_MAX_STATES - 1), most = 2 * states * states;
     int rules = 1 + up_to((most < HULMEIDE_MAX_RULES ? most : HULMEIDE_MAX_RULES) - 1);
-    Cabinet c = {RANDOM, 1 + up_to(HULMEIDE_MAX_LOADS - 1), states, 0, up_to(HULMEIDE_MAX_BUDGET)};
-    int top_power = 1 + up_to(HULMEIDE_MAX_POWER - 1), top_worth = 1 + up_to(HULMEIDE_MAX_WORTH - 1), near = 1 + up_to(HULMEIDE_MAX_LOADS);
+    Cabinet c = {RANDOM, 1 + up_to(most_loads - 1), states, 0, up_to(HULMEIDE_MAX_BUDGET)};
+    int top_power = 1 + up_to(HULMEIDE_MAX_POWER - 1), top_worth = 1 + up_to(HULMEIDE_MAX_WORTH - 1), near = 1 + up_to(most_loads);
     Tables t = tables_of(c);
     add_rules(&t.book.load_rules, rules, states, true, seed);
     add_rules(&t.book.row_rules, states == 1 ? 1 : rules, states, false, seed);
@@ -103,7 +111,7 @@ static void compare_answers(void) {
     int planned = 0;
     for (unsigned seed = 1; seed <= CABINETS; seed++)
         planned += compare_by_chance(seed);
-    printf("Answers to plans and checks of %d cabinets by chance are equal; %d have a plan\n\n", CABINETS, planned);
+    printf("Answers to plans and checks of %d cabinets by chance, of up to %d loads, are equal; %d have a plan\n\n", CABINETS, most_loads, planned);
 }
 
 // ---- times
@@ -133,19 +141,21 @@ static void print_title(const char *title, const char *number) {
 }
 
 int main(void) {
+    most_loads = other_version() < VERSION_OF_MORE ? FEWER_LOADS : HULMEIDE_MAX_LOADS;
     compare_answers();
     printf("A plan: processor time in milliseconds, best of %d rounds, in the other archive and in this one\n", ROUNDS);
     print_title("8 states, 8 stages, 32 + 32 rules, budget 500", "loads");
     for (int shape = 0; shape < SHAPES; shape++)
-        for (int loads = 8; loads <= HULMEIDE_MAX_LOADS; loads *= 2) {
+        for (int loads = 8; loads <= most_loads; loads *= 2) {
             Cabinet c = largest(shape);
             c.loads = loads;
             print_both(shape_names[shape], loads, tables_of(c));
         }
-    print_title("Many equals: 64 loads of 0, 10, 20 or 30 watts and worth 0 or 1", "watts");
+    print_title("Many equals: the most loads, of 0, 10, 20 or 30 watts and worth 0 or 1", "watts");
     for (int shape = 0; shape < SHAPES; shape++)
         for (int budget = 125; budget <= HULMEIDE_MAX_BUDGET; budget += 125) {
             Cabinet c = largest(shape);
+            c.loads = most_loads;
             c.budget = budget;
             print_both(shape_names[shape], budget, with_equals(tables_of(c)));
         }

@@ -1,6 +1,6 @@
 #!/usr/bin/env python3
-"""Lines a second through the line program, by pipe in and pipe out, for the cabinet of paper 01 with 4 loads, and for one of the most loads
-that takes all of the line program's cells.
+"""Lines a second through the line program, by pipe in and pipe out, for the cabinet of paper 01 with 4 loads, and for one of 64 loads and one of
+the most loads that each take all of the line program's cells.
 
   lines.py PROGRAM
 
@@ -21,13 +21,29 @@ RUN = ('1,1,1,2,0', '2,1,1,2,1', '3,1,1,2,1', '4,0,1,1,1')
 PLAN = ('plan,70,30,3', *RUN)
 YES = ('yes', *RUN)
 
-# A feed and 63 cameras of 1 W and worth 1, and a budget for all of them, which takes 16,384 cells.
-LARGE_CABINET = (*BOOK, 'load,0,0,0', *63 * ('load,1,1,1',), 'budget,63')
-LARGE_RUN = ('1,1,1,2,0', *('%d,1,1,2,1' % k for k in range(2, 65)))
-
 # A cabinet: its name, the lines that enter it, its plan, how many lines of a kind are timed, and for each kind the lines that are repeated,
 # each with its answer. Before them a plan is asked for once.
 Cabinet = namedtuple('Cabinet', 'name lines plan count kinds')
+
+
+def large(loads, budget):
+    """A feed and cameras of worth 1, as many of them of 1 W as the budget has watts, and the others of none: all are on."""
+    cameras = loads - 1
+    lines = *BOOK, 'load,0,0,0', *budget * ('load,1,1,1',), *(cameras - budget) * ('load,1,0,1',), 'budget,%d' % budget
+    rows = '1,1,1,2,0', *('%d,1,1,2,1' % k for k in range(2, loads + 1))
+    plan = 'plan,%d,%d,%d' % (cameras, budget, loads), *rows
+    return Cabinet('%d loads, budget %d' % (loads, budget), lines, plan, 6000, {
+        'changes': (
+            ('budget,%d' % (budget - 1), 'ok'), ('power,2,2', 'ok'), ('worth,3,2', 'ok'),
+            ('budget,%d' % budget, 'ok'), ('power,2,1', 'ok'), ('worth,3,1', 'ok'),
+        ),
+        'check': (('check,' + '1' * loads, 'yes', *rows), ('check,0' + '1' * cameras, 'no,10')),
+        'plan': (('plan', *plan),),
+        'last': (('last', *plan),),
+        'need': (('need,%d' % cameras, 'need,%d' % budget),),
+    })
+
+
 CABINETS = (
     Cabinet('4 loads, budget 30', CABINET, PLAN, 120000, {
         'changes': (
@@ -38,15 +54,8 @@ CABINETS = (
         'last': (('last', *PLAN),),
         'need': (('need,70', 'need,30'),),
     }),
-    Cabinet('64 loads, budget 63', LARGE_CABINET, ('plan,63,63,64', *LARGE_RUN), 6000, {
-        'changes': (
-            ('budget,62', 'ok'), ('power,2,2', 'ok'), ('worth,3,2', 'ok'), ('budget,63', 'ok'), ('power,2,1', 'ok'), ('worth,3,1', 'ok'),
-        ),
-        'check': (('check,' + '1' * 64, 'yes', *LARGE_RUN), ('check,0' + '1' * 63, 'no,10')),
-        'plan': (('plan', 'plan,63,63,64', *LARGE_RUN),),
-        'last': (('last', 'plan,63,63,64', *LARGE_RUN),),
-        'need': (('need,63', 'need,63'),),
-    }),
+    large(64, 63),
+    large(128, 31),
 )
 
 

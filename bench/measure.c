@@ -35,10 +35,10 @@ static void plan(int way, Tables *t) {
 // The worth, the power and the number of the loads that are on.
 typedef struct { unsigned worth, power, on; } Figures;
 
-static Figures figures_of(const Tables *t, uint64_t set) {
+static Figures figures_of(const Tables *t, struct hulmeide_load_set set) {
     Figures figures = {0, 0, 0};
     for (size_t k = 0; k < t->loads.count; k++)
-        if (set >> k & 1) {
+        if (hulmeide_has_load(set, k + 1)) {
             figures.worth += t->loads.items[k].worth;
             figures.power += t->loads.items[k].power;
             figures.on++;
@@ -54,7 +54,8 @@ static bool all_zero(size_t cells) {
 }
 
 static bool same_outcome(const Outcome *x, const Outcome *y) {
-    return x->found == y->found && x->run.set == y->run.set && !memcmp(x->run.states, y->run.states, sizeof x->run.states)
+    return x->found == y->found && x->run.set.low == y->run.set.low && x->run.set.high == y->run.set.high
+        && !memcmp(x->run.states, y->run.states, sizeof x->run.states)
         && !memcmp(x->run.load_rules, y->run.load_rules, sizeof x->run.load_rules)
         && !memcmp(x->run.row_rules, y->run.row_rules, sizeof x->run.row_rules);
 }

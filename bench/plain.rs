@@ -2,7 +2,7 @@
 //! Loads are numbered from 0 here. A cell is 0 where no run fits, and otherwise worth * EMPTY + EMPTY - power of the best run: greatest worth,
 //! then least power.
 
-use hulmeide::{MAX_LOADS, MAX_RULES};
+use hulmeide::{MAX_LOADS, MAX_RULES, WORD_LOADS};
 
 /// The cell of the empty set. It is more than any power that fits a budget.
 const EMPTY: u32 = 512;
@@ -55,11 +55,17 @@ pub struct Tables {
 }
 
 #[repr(C)]
+pub struct LoadSet {
+    low: u64,
+    high: u64,
+}
+
+#[repr(C)]
 pub struct Run {
     states: [u8; MAX_LOADS],
     load_rules: [u8; MAX_LOADS],
     row_rules: [u8; MAX_LOADS],
-    set: u64,
+    set: LoadSet,
 }
 
 #[repr(C)]
@@ -71,6 +77,13 @@ pub struct Outcome {
 impl TransitionList {
     fn rules(&self) -> &[Transition] {
         &self.items[..self.count]
+    }
+}
+
+impl LoadSet {
+    fn add(&mut self, k: usize) {
+        let word = if k < WORD_LOADS { &mut self.low } else { &mut self.high };
+        *word |= 1 << (k % WORD_LOADS);
     }
 }
 
@@ -213,7 +226,9 @@ fn choose_branch(t: &Tables, work: &[u32], run: &mut Run, k: usize, state: u8, a
         if joined(own, row_value(t, work, child, rule.to, allowance - power)) == goal {
             run.states[k] = state;
             run.load_rules[k] = j as u8 + 1;
-            run.set |= (rule.label as u64) << k;
+            if rule.label == 1 {
+                run.set.add(k);
+            }
             choose_row(t, work, run, child, rule.to, allowance - power);
             return;
         }
@@ -252,7 +267,8 @@ fn choose_row(t: &Tables, work: &[u32], run: &mut Run, first: Option<usize>, sta
 
 fn plan(t: &Tables, work: &mut [u32]) -> Outcome {
     fill(t, work);
-    let mut run = Run { states: [0; MAX_LOADS], load_rules: [0; MAX_LOADS], row_rules: [0; MAX_LOADS], set: 0 };
+    let set = LoadSet { low: 0, high: 0 };
+    let mut run = Run { states: [0; MAX_LOADS], load_rules: [0; MAX_LOADS], row_rules: [0; MAX_LOADS], set };
     let (mut best, mut root) = (0, 0);
     for state in 1..=t.book.states {
         let cell = work[t.branch_place(0, state) + t.budget as usize];

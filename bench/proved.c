@@ -26,7 +26,8 @@ Outcome shown(const Answer *answer) {
     size_t at = (size_t)(first_end - text) + 1;
     while (at < answer->reply.count) {
         unsigned k = next_number(text, &at) - 1;
-        out.run.set |= (uint64_t)next_number(text, &at) << k;
+        if (next_number(text, &at) == 1)
+            out.run.set = hulmeide_with_load(out.run.set, k + 1);
         out.run.states[k] = (uint8_t)next_number(text, &at);
         out.run.load_rules[k] = (uint8_t)next_number(text, &at);
         out.run.row_rules[k] = (uint8_t)next_number(text, &at);

@@ -112,7 +112,7 @@ static void print_check_and_judge(void) {
     Run planned = shown(&answer).run;
     char check[HULMEIDE_LINE_BYTES] = "check,";
     for (size_t k = 0; k < tables.loads.count; k++) {
-        strcat(check, planned.set >> k & 1 ? "1" : "0");
+        strcat(check, hulmeide_has_load(planned.set, k + 1) ? "1" : "0");
         run[3 * k] = planned.states[k];
         run[3 * k + 1] = planned.load_rules[k];
         run[3 * k + 2] = planned.row_rules[k];

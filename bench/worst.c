@@ -228,9 +228,10 @@ static size_t joins_of(const Tables *t) {
 }
 
 // The most that there can be of them where the side that leads has so many loads: a step for each of its sets, since each is to another worth.
+// A few loads have more sets than there are allowances.
 static size_t most_joins_by(int loads) {
-    size_t width = HULMEIDE_MAX_BUDGET + 1, joins = 0;
-    for (size_t c = 0; c < width && c < (size_t)1 << loads; c++)
+    size_t width = HULMEIDE_MAX_BUDGET + 1, sets = (size_t)1 << lesser(loads, 16), joins = 0;
+    for (size_t c = 0; c < width && c < sets; c++)
         joins += width - c;
     return joins;
 }

@@ -6,26 +6,30 @@ use std::mem::{size_of, MaybeUninit};
 // ---- Version, sizes and numbers, as include/hulmeide.h has them: tests/limits.py compares the two.
 
 /// The version of the header that this wrapper is for: major * 10000 + minor * 100 + patch.
-pub const VERSION: u32 = 10900;
+pub const VERSION: u32 = 11000;
 
 /// A line has at most this many bytes, its line feed not counted.
-pub const LINE_BYTES: usize = 80;
+pub const LINE_BYTES: usize = 144;
 
 /// A number in a line has at most this many digits, zeros in front of it among them: such zeros change nothing.
-pub const MAX_DIGITS: usize = 5;
+pub const MAX_DIGITS: usize = 6;
 
-/// So many bytes must be free in the output from the place on, for every line but `save` and `save1`, `last` and `need` among them.
+/// So many bytes must be free in the output from the place on, for every line but those of the next two: for changes, for `need`, and for a line
+/// that breaks its form or is too long.
 pub const FREE_BYTES: usize = 1024;
 
+/// So many must be free for `plan`, `last` and `check`, whose answers have a line for each load.
+pub const RUN_BYTES: usize = 2048;
+
 /// So many must be free for `save` and for `save1`. An output of this length is enough for every line.
-pub const SAVE_BYTES: usize = 3000;
+pub const SAVE_BYTES: usize = 4096;
 
 /// The cells that the line program lends. What the plan of a planner needs is [`Planner::cells_needed`].
 pub const LINE_PROGRAM_CELLS: usize = 16384;
 
 // The largest cabinet. Power and budget are in watts. A load and a load rule have a kind, 0 to the greatest, and a rule serves only the loads
 // of its kind.
-pub const MAX_LOADS: usize = 64;
+pub const MAX_LOADS: usize = 128;
 pub const MAX_RULES: usize = 32;
 pub const MAX_STATES: usize = 8;
 pub const MAX_STAGES: usize = 8;
@@ -33,6 +37,9 @@ pub const MAX_POWER: usize = 500;
 pub const MAX_WORTH: usize = 1000;
 pub const MAX_BUDGET: usize = 500;
 pub const MAX_KIND: usize = 3;
+
+/// The loads of one word of a set of loads.
+pub const WORD_LOADS: usize = 64;
 
 /// The greatest worth that [`Planner::need`] may be asked for: no set of loads is worth more.
 pub const MAX_NEED: usize = MAX_LOADS * MAX_WORTH;
@@ -42,7 +49,7 @@ pub const PAGE_ROWS: usize = 8;
 pub const ROW_BYTES: usize = 20;
 pub const PAGE_BYTES: usize = PAGE_ROWS * ROW_BYTES;
 
-const PLANNER_BYTES: usize = 888;
+const PLANNER_BYTES: usize = 1472;
 const NOT_A_RUN: u32 = 255;
 
 /// Why a line, numbers that were to be judged, or a drawing were refused. A refusal leaves the planner as it was, but that
@@ -112,13 +119,21 @@ struct Loads {
     count: usize,
 }
 
+/// A set of loads: load k is bit k - 1 of `low`, or, above [`WORD_LOADS`], bit k - 1 - [`WORD_LOADS`] of `high`.
+#[repr(C)]
+#[derive(Clone)]
+struct LoadSet {
+    low: u64,
+    high: u64,
+}
+
 #[repr(C)]
 #[derive(Clone)]
 struct Run {
     states: [u8; MAX_LOADS],
     load_rules: [u8; MAX_LOADS],
     row_rules: [u8; MAX_LOADS],
-    set: u64,
+    set: LoadSet,
 }
 
 #[repr(C)]
@@ -312,7 +327,7 @@ impl Planner {
     /// The latest plan, its lines each with its line feed, as `last` shows it: without planning anew. It changes nothing. It is refused with
     /// [`Refusal::NoneFits`] where the plan was, and with [`Refusal::NoPlan`] where a change was accepted since, or no plan was shown or refused so
     /// at all.
-    pub fn last<'a>(&mut self, out: &'a mut [u8; FREE_BYTES]) -> Result<&'a [u8], Refusal> {
+    pub fn last<'a>(&mut self, out: &'a mut [u8; RUN_BYTES]) -> Result<&'a [u8], Refusal> {
         let answer = self.call(b"last", out, 0, &mut []);
         answer.refusal.map_or(Ok(&out[..answer.count]), Err)
     }

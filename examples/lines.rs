@@ -1,7 +1,7 @@
 //! The line program again, in Rust over the safe wrapper: lines from standard input, answers to standard output.
 
 use hulmeide::{stretch, stretch_row, Planner, Refusal};
-use hulmeide::{FREE_BYTES, LINE_BYTES, LINE_PROGRAM_CELLS, MAX_NEED, PAGE_BYTES, ROW_BYTES, SAVE_BYTES};
+use hulmeide::{LINE_BYTES, LINE_PROGRAM_CELLS, MAX_NEED, PAGE_BYTES, ROW_BYTES, RUN_BYTES, SAVE_BYTES};
 use std::io::{self, BufRead, Write};
 
 /// Of a line that is too long one byte more is kept than a line may have.
@@ -105,7 +105,7 @@ fn latest_after(latest: Option<String>, line: &[u8], text: &str) -> Option<Strin
 
 /// Does `last` show this plan, or refuse as it did, or say that none is current? The planner stays as it is.
 fn shows(planner: &mut Planner, latest: &Option<String>) -> bool {
-    match (planner.last(&mut [0; FREE_BYTES]), latest) {
+    match (planner.last(&mut [0; RUN_BYTES]), latest) {
         (Ok(shown), Some(text)) => shown == text.as_bytes(),
         (Err(refusal), Some(text)) => refusal == Refusal::NoneFits && text == "no,9\n",
         (shown, None) => shown == Err(Refusal::NoPlan),
@@ -117,7 +117,7 @@ fn beginning(latest: &str) -> String {
     let fields: Vec<&str> = latest.lines().next().unwrap_or("").split(',').collect();
     let mark = if latest.contains("\n1,1,") { "on " } else { "off" };
     match fields[..] {
-        ["plan", worth, power, _] => format!("worth {worth:0>5} {power:0>3}W    001 {mark} "),
+        ["plan", worth, power, _] => format!("worth {worth:0>6} {power:0>3}W   001 {mark} "),
         _ => format!("{:1$}", "no plan", PAGE_BYTES),
     }
 }

@@ -38,21 +38,16 @@ struct display {
 };
 
 static struct display display = {HULMEIDE_NO_PLAN, 0, 0, 0};
-static uint8_t polled[HULMEIDE_FREE_BYTES]; /* enough for `last` and `need` */
+static uint8_t polled[HULMEIDE_RUN_BYTES]; /* enough for `last` and `need` */
 
-/* What an answer shows: the set of loads that are on, load k as bit k - 1, and the run, three numbers for each load. */
+/* What an answer shows: the set of loads that are on, and the run, three numbers for each load. */
 struct shown {
-    uint64_t set;
+    struct hulmeide_load_set set;
     uint32_t run[3 * HULMEIDE_MAX_LOADS];
     size_t length;
 };
 
 /* ---- The cabinet's ports ---- */
-
-static bool is_on(uint64_t set, size_t load)
-{
-    return (set >> (load - 1) & 1) != 0;
-}
 
 /* Switches the port of a load. Here a port has the number of its load. A switch goes through a table from loads to ports, and forget_port moves
  * the entries of that table too. */
@@ -77,15 +72,15 @@ static void log_ports(void)
 
 /* Switches every port that is not as the set has it. Those that go off go first, so that the supply never carries the old loads and the new
  * ones together. */
-static void switch_ports(uint64_t set)
+static void switch_ports(struct hulmeide_load_set set)
 {
     for (size_t load = 1; load <= HULMEIDE_MAX_LOADS; load++) {
-        if (port_on[load - 1] && !is_on(set, load)) {
+        if (port_on[load - 1] && !hulmeide_has_load(set, load)) {
             set_port(load, false);
         }
     }
     for (size_t load = 1; load <= HULMEIDE_MAX_LOADS; load++) {
-        if (!port_on[load - 1] && is_on(set, load)) {
+        if (!port_on[load - 1] && hulmeide_has_load(set, load)) {
             set_port(load, true);
         }
     }
@@ -192,13 +187,15 @@ static void log_supply(void)
 /* Reads what is shown off an answer with one line "load,mark,state,load rule,row rule" for each load. */
 static void read_shown(const uint8_t *text, size_t count, struct shown *shown)
 {
+    const struct hulmeide_load_set empty = {0, 0};
     size_t at = second_line(text, count);
-    shown->set = 0;
+    shown->set = empty;
     shown->length = 0;
     while (at < count && shown->length < 3 * HULMEIDE_MAX_LOADS) {
         uint32_t load = next_number(text, count, &at);
-        uint32_t mark = next_number(text, count, &at);
-        shown->set |= (uint64_t)mark << (load - 1);
+        if (next_number(text, count, &at) == 1) {
+            shown->set = hulmeide_with_load(shown->set, load);
+        }
         for (size_t end = shown->length + 3; shown->length < end; shown->length++) {
             shown->run[shown->length] = next_number(text, count, &at);
         }

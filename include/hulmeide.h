@@ -49,8 +49,14 @@ extern "C" {
  *      `status` now. There is no 1.7.
  * 1.9: `need` is a command, and HULMEIDE_TOO_POOR its refusal. It works in the cells of a plan. Other lines, answers and layout are those of
  *      1.8.
+ * 1.10: a planner takes 128 loads, 64 before. A line has up to 144 bytes, 80 before, and a number up to six digits, five before: one of six was
+ *       HULMEIDE_BAD_FORM, and is held to its range now. `need` takes a worth up to 128,000, 64,000 before, and row 1 of a page has six digits of
+ *       worth, five before. `plan`, `last` and `check` need HULMEIDE_RUN_BYTES free bytes, 1,024 before, and saves HULMEIDE_SAVE_BYTES, 3,000
+ *       before: a caller that lends by numbers of its own has to lend more, or has these lines turned away. Saves of earlier versions are taken
+ *       as before. One of more than 64 loads is refused by 1.8 and 1.9, with HULMEIDE_FULL at its sixty-fifth load. The set of a run is a
+ *       struct hulmeide_load_set, which hulmeide_has_load reads. A planner has 1,472 bytes, and behind its book another layout.
  */
-#define HULMEIDE_VERSION 10900
+#define HULMEIDE_VERSION 11000
 
 /* ---- Sizes ----
  *
@@ -58,18 +64,22 @@ extern "C" {
  */
 
 /* A line has at most this many bytes, its line feed not counted. A longer one is HULMEIDE_LONG_LINE. */
-#define HULMEIDE_LINE_BYTES 80
+#define HULMEIDE_LINE_BYTES 144
 
 /* A number in a line has at most this many digits, zeros in front of it among them: such zeros change nothing. */
-#define HULMEIDE_MAX_DIGITS 5
+#define HULMEIDE_MAX_DIGITS 6
 
-/* So many bytes must be free in the output from the place on, for every line but `save` and `save1`, `last` and `need` among them. No answer but a
- * save is longer. */
+/* So many bytes must be free in the output from the place on, for every line but those of the next two: for changes, for `need`, for a line that
+ * breaks its form, and for one over HULMEIDE_LINE_BYTES bytes. No answer to such a line is longer. */
 #define HULMEIDE_FREE_BYTES 1024
 
+/* So many must be free for `plan`, `last` and `check`, whose answers have a line for each load, also where they are refused. None of these is
+ * longer. A line that only begins like one, as `plan,` and `check,2` do, needs HULMEIDE_FREE_BYTES. */
+#define HULMEIDE_RUN_BYTES 2048
+
 /* So many must be free for `save` and for `save1`, and no save is longer: a caller that passes every line on lends this. A line that only begins
- * like one, as `save,1` and `save1,` do, or one over HULMEIDE_LINE_BYTES bytes, needs HULMEIDE_FREE_BYTES. */
-#define HULMEIDE_SAVE_BYTES 3000
+ * like one, as `save,1` and `save1,` do, needs HULMEIDE_FREE_BYTES. */
+#define HULMEIDE_SAVE_BYTES 4096
 
 /* The line program's number, and no limit of the library: the cells of 32 bits that it lends as work. Another caller lends what its plans
  * need, hulmeide_cells_needed, or HULMEIDE_MAX_CELLS, which is enough for every plan. */
@@ -77,7 +87,7 @@ extern "C" {
 
 /* The largest cabinet. There are at most HULMEIDE_MAX_RULES rules of each sort, load rules of every kind counted together. Power and budget are
  * in watts. A kind is 0 to HULMEIDE_MAX_KIND. */
-#define HULMEIDE_MAX_LOADS 64
+#define HULMEIDE_MAX_LOADS 128
 #define HULMEIDE_MAX_RULES 32
 #define HULMEIDE_MAX_STATES 8
 #define HULMEIDE_MAX_STAGES 8
@@ -85,6 +95,9 @@ extern "C" {
 #define HULMEIDE_MAX_WORTH 1000
 #define HULMEIDE_MAX_BUDGET 500
 #define HULMEIDE_MAX_KIND 3
+
+/* The loads of one word of a set of loads. */
+#define HULMEIDE_WORD_LOADS 64
 
 /* The greatest worth that `need` may be asked for: no set of loads is worth more. */
 #define HULMEIDE_MAX_NEED (HULMEIDE_MAX_LOADS * HULMEIDE_MAX_WORTH)
@@ -109,9 +122,9 @@ extern "C" {
 enum hulmeide_number {
     /* A line was accepted. The judge: yes, the numbers are a run. A page was drawn. */
     HULMEIDE_ACCEPTED = 0,
-    /* Fewer free bytes from the place on than the line needs (HULMEIDE_SAVE_BYTES for `save` and `save1`, HULMEIDE_FREE_BYTES for every other
-     * line), a place past the end, or a planner that breaks a limit, in its tables or in its outcome (the judge and a drawing: only the last).
-     * Nothing is written, and everything is left as it was. */
+    /* Fewer free bytes from the place on than the line needs (HULMEIDE_SAVE_BYTES for `save` and `save1`, HULMEIDE_RUN_BYTES for `plan`, `last`
+     * and `check`, HULMEIDE_FREE_BYTES for every other line), a place past the end, or a planner that breaks a limit, in its tables or in its
+     * outcome (the judge and a drawing: only the last). Nothing is written, and everything is left as it was. */
     HULMEIDE_TURNED_AWAY = 1,
     /* A line over HULMEIDE_LINE_BYTES bytes. */
     HULMEIDE_LONG_LINE = 2,
@@ -202,13 +215,20 @@ enum hulmeide_outcome_status {
     HULMEIDE_OUTCOME_PLANNED = 2
 };
 
-/* A run: the state, the load rule and the row rule of load k at place k - 1 of each list, and its set, in which load k is on where bit k - 1 is
- * set. Load 1 has row rule 0. The places beyond the loads hold 0. */
+/* A set of loads in two words: load k is in it where bit k - 1 of `low` is set, or, above HULMEIDE_WORD_LOADS, bit k - 1 - HULMEIDE_WORD_LOADS of
+ * `high`. hulmeide_has_load reads it. */
+struct hulmeide_load_set {
+    uint64_t low;
+    uint64_t high;
+};
+
+/* A run: the state, the load rule and the row rule of load k at place k - 1 of each list, and the set of the loads that are on. Load 1 has row
+ * rule 0. The places beyond the loads hold 0. */
 struct hulmeide_run {
     uint8_t states[HULMEIDE_MAX_LOADS];
     uint8_t load_rules[HULMEIDE_MAX_LOADS];
     uint8_t row_rules[HULMEIDE_MAX_LOADS];
-    uint64_t set;
+    struct hulmeide_load_set set;
 };
 
 /* The outcome of the latest plan, an enum hulmeide_outcome_status and the run. Where it is no plan, every place of the run holds 0 and the set
@@ -248,8 +268,12 @@ struct hulmeide_part {
     size_t count;
 };
 
-/* An output with room for a save has room for every answer. */
-HULMEIDE_ASSERT(HULMEIDE_SAVE_BYTES >= HULMEIDE_FREE_BYTES, "HULMEIDE_SAVE_BYTES");
+/* An output with room for a save has room for every answer, and one with room for a plan for every answer but a save. */
+HULMEIDE_ASSERT(HULMEIDE_SAVE_BYTES >= HULMEIDE_RUN_BYTES, "HULMEIDE_SAVE_BYTES");
+HULMEIDE_ASSERT(HULMEIDE_RUN_BYTES >= HULMEIDE_FREE_BYTES, "HULMEIDE_RUN_BYTES");
+
+/* Two words hold a mark for every load. */
+HULMEIDE_ASSERT(HULMEIDE_MAX_LOADS == 2 * HULMEIDE_WORD_LOADS, "HULMEIDE_WORD_LOADS");
 
 /* The layouts are those that the archive was built with. */
 HULMEIDE_ASSERT(sizeof(size_t) == 8, "the archive is for x86-64");
@@ -263,24 +287,26 @@ HULMEIDE_ASSERT(sizeof(struct hulmeide_load) == 6, "hulmeide_load");
 HULMEIDE_ASSERT(offsetof(struct hulmeide_load, kind) == 1, "hulmeide_load.kind");
 HULMEIDE_ASSERT(offsetof(struct hulmeide_load, power) == 2, "hulmeide_load.power");
 HULMEIDE_ASSERT(offsetof(struct hulmeide_load, worth) == 4, "hulmeide_load.worth");
-HULMEIDE_ASSERT(sizeof(struct hulmeide_loads) == 392, "hulmeide_loads");
-HULMEIDE_ASSERT(offsetof(struct hulmeide_loads, count) == 384, "hulmeide_loads.count");
+HULMEIDE_ASSERT(sizeof(struct hulmeide_loads) == 776, "hulmeide_loads");
+HULMEIDE_ASSERT(offsetof(struct hulmeide_loads, count) == 768, "hulmeide_loads.count");
 HULMEIDE_ASSERT(sizeof(struct hulmeide_book) == 280, "hulmeide_book");
 HULMEIDE_ASSERT(offsetof(struct hulmeide_book, stages) == 1, "hulmeide_book.stages");
 HULMEIDE_ASSERT(offsetof(struct hulmeide_book, starts) == 2, "hulmeide_book.starts");
 HULMEIDE_ASSERT(offsetof(struct hulmeide_book, ends) == 3, "hulmeide_book.ends");
 HULMEIDE_ASSERT(offsetof(struct hulmeide_book, load_rules) == 8, "hulmeide_book.load_rules");
 HULMEIDE_ASSERT(offsetof(struct hulmeide_book, row_rules) == 144, "hulmeide_book.row_rules");
-HULMEIDE_ASSERT(sizeof(struct hulmeide_run) == 200, "hulmeide_run");
-HULMEIDE_ASSERT(offsetof(struct hulmeide_run, load_rules) == 64, "hulmeide_run.load_rules");
-HULMEIDE_ASSERT(offsetof(struct hulmeide_run, row_rules) == 128, "hulmeide_run.row_rules");
-HULMEIDE_ASSERT(offsetof(struct hulmeide_run, set) == 192, "hulmeide_run.set");
-HULMEIDE_ASSERT(sizeof(struct hulmeide_outcome) == 208, "hulmeide_outcome");
+HULMEIDE_ASSERT(sizeof(struct hulmeide_load_set) == 16, "hulmeide_load_set");
+HULMEIDE_ASSERT(offsetof(struct hulmeide_load_set, high) == 8, "hulmeide_load_set.high");
+HULMEIDE_ASSERT(sizeof(struct hulmeide_run) == 400, "hulmeide_run");
+HULMEIDE_ASSERT(offsetof(struct hulmeide_run, load_rules) == 128, "hulmeide_run.load_rules");
+HULMEIDE_ASSERT(offsetof(struct hulmeide_run, row_rules) == 256, "hulmeide_run.row_rules");
+HULMEIDE_ASSERT(offsetof(struct hulmeide_run, set) == 384, "hulmeide_run.set");
+HULMEIDE_ASSERT(sizeof(struct hulmeide_outcome) == 408, "hulmeide_outcome");
 HULMEIDE_ASSERT(offsetof(struct hulmeide_outcome, run) == 8, "hulmeide_outcome.run");
-HULMEIDE_ASSERT(sizeof(struct hulmeide_planner) == 888, "hulmeide_planner");
+HULMEIDE_ASSERT(sizeof(struct hulmeide_planner) == 1472, "hulmeide_planner");
 HULMEIDE_ASSERT(offsetof(struct hulmeide_planner, loads) == 280, "hulmeide_planner.loads");
-HULMEIDE_ASSERT(offsetof(struct hulmeide_planner, budget) == 672, "hulmeide_planner.budget");
-HULMEIDE_ASSERT(offsetof(struct hulmeide_planner, outcome) == 680, "hulmeide_planner.outcome");
+HULMEIDE_ASSERT(offsetof(struct hulmeide_planner, budget) == 1056, "hulmeide_planner.budget");
+HULMEIDE_ASSERT(offsetof(struct hulmeide_planner, outcome) == 1064, "hulmeide_planner.outcome");
 HULMEIDE_ASSERT(sizeof(struct hulmeide_reply) == 16, "hulmeide_reply");
 HULMEIDE_ASSERT(offsetof(struct hulmeide_reply, count) == 8, "hulmeide_reply.count");
 HULMEIDE_ASSERT(sizeof(struct hulmeide_part) == 16, "hulmeide_part");
@@ -324,7 +350,7 @@ uint32_t hulmeide_judge(const struct hulmeide_planner *planner, const uint32_t *
  * Draws the latest plan on a page, for the electrician's handheld. Row 1 has the worth and the power of the plan. Each row below it has a
  * load, from the one asked for on: its number, `on` or `off`, and its own power, whether it is on or off. Every row is filled with blanks:
  *
- *     worth 00070 030W
+ *     worth 000070 030W
  *     003 on  005W
  *     004 off 007W
  *
@@ -353,6 +379,28 @@ size_t hulmeide_stretch_row(const uint8_t *glass, size_t glass_length, const uin
 static inline size_t hulmeide_cells_needed(const struct hulmeide_planner *planner)
 {
     return HULMEIDE_CELLS_NEEDED(planner->loads.count, planner->book.states, planner->book.stages, planner->budget);
+}
+
+/* Is this load in the set? 1 or 0; and 0 for a number outside 1 to HULMEIDE_MAX_LOADS. */
+static inline int hulmeide_has_load(struct hulmeide_load_set set, size_t load)
+{
+    if (load == 0 || load > HULMEIDE_MAX_LOADS) {
+        return 0;
+    }
+    uint64_t word = load <= HULMEIDE_WORD_LOADS ? set.low : set.high;
+    return (int)(word >> ((load - 1) % HULMEIDE_WORD_LOADS) & 1);
+}
+
+/* The set with this load in it. A number outside 1 to HULMEIDE_MAX_LOADS changes nothing. */
+static inline struct hulmeide_load_set hulmeide_with_load(struct hulmeide_load_set set, size_t load)
+{
+    uint64_t mark = (uint64_t)1 << ((load - 1) % HULMEIDE_WORD_LOADS);
+    if (load >= 1 && load <= HULMEIDE_WORD_LOADS) {
+        set.low |= mark;
+    } else if (load > HULMEIDE_WORD_LOADS && load <= HULMEIDE_MAX_LOADS) {
+        set.high |= mark;
+    }
+    return set;
 }
 
 /* As hulmeide_call, but a line, an output or a work of length 0 may be null. */
