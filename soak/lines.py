@@ -254,8 +254,8 @@ def kinds_past_all():
 
 # Lines of load rules and of loads with kinds at every edge, and lines that are nearly such.
 NEAR_KINDS = (
-    b'rule,1,0,1', b'rule,1,0,1,0', b'rule,1,0,1,00000', b'rule,1,0,1,1', b'rule,1,0,1,1', b'rule,1,0,1,3', b'rule,1,0,1,00003', b'rule,1,0,1,4',
-    b'rule,1,0,1,256', b'rule,1,0,1,', b'rule,1,0,1,0,0', b'rule,1,0,1,000000', b'row,1,1,1,0', b'row,1,1,1,1', b'row,1,1,1,', b'row,1,1,1',
+    b'rule,1,0,1', b'rule,1,0,1,0', b'rule,1,0,1,000000', b'rule,1,0,1,1', b'rule,1,0,1,1', b'rule,1,0,1,3', b'rule,1,0,1,000003', b'rule,1,0,1,4',
+    b'rule,1,0,1,256', b'rule,1,0,1,', b'rule,1,0,1,0,0', b'rule,1,0,1,0000000', b'row,1,1,1,0', b'row,1,1,1,1', b'row,1,1,1,', b'row,1,1,1',
     b'load,0,1,1,3', b'load,1,1,1,4', b'load,1,1,1,65536', b'load,1,1,1,', b'load,1,1,1,0,0', b'load,1,1,1', b'load,1,1,1,0', b'load,2,2,2,2',
 )
 
@@ -270,12 +270,35 @@ def of_kinds():
 
 
 def all_cells():
-    """Plans and needs that take every cell that is lent, and more."""
-    loads = Model.most_loads // 2
-    budget = Model.cells_lent // (2 * loads) - 1
-    lines = [b'book,1,1', b'load,0,0,0'] + [b'load,1,0,0'] * (loads - 1)
-    asked = [b'plan', b'need,0', b'need,%d' % Model.most_need, b'need,%d' % (Model.most_need + 1)]
-    return lines + [b'budget,%d' % budget, *asked, b'budget,%d' % (budget + 1), *asked]
+    """Plans and needs that take every cell that is lent, and more, of half of the loads that there may be and of all."""
+    lines, asked = [b'book,1,1', b'load,0,0,0'], [b'plan', b'need,0', b'need,%d' % Model.most_need, b'need,%d' % (Model.most_need + 1)]
+    for entering, loads in ((Model.most_loads // 2 - 1, Model.most_loads // 2), (Model.most_loads - Model.most_loads // 2, Model.most_loads)):
+        budget = Model.cells_lent // (2 * loads) - 1
+        lines += [b'load,1,0,0'] * entering + [b'budget,%d' % budget, *asked, b'budget,%d' % (budget + 1), *asked]
+    return lines
+
+
+HALF = Model.most_loads // 2  # the loads whose marks are in the first word of a set
+
+
+def checks_of_all():
+    """Checks of as many loads as there may be, of which the first half are a chain: all of these on with others or none, these off, and bits that
+    are one too many or too few."""
+    ends = b'0' * HALF, b'1' * HALF, b'01' * (HALF // 2), b'1'.ljust(HALF, b'0'), b'1'.rjust(HALF, b'0')
+    checks = [b'check,' + b'1' * HALF + end for end in ends] + [b'check,' + b'0' * HALF + end for end in ends]
+    return [*checks, checks[0] + b'0', checks[0][:-1]]
+
+
+def most_loads():
+    """As many loads as there may be, and one more: a chain to the half, and then a row below its end, with plans, checks and drops among loads of
+    both halves. A load may be on only if its parent is."""
+    last = Model.most_loads
+    loads = [b'load,%d,%d,%d' % (min(k, HALF), k % 4 // 3, k % 7) for k in range(last + 1)]
+    asked = [b'plan', b'last', *checks_of_all(), b'need,100', b'save', b'save1']
+    drops = [b'drop,%d' % k for k in (last + 1, HALF, HALF + 1, last, last - 1)]
+    figures = [b'power,%d,9' % last, b'worth,%d,9' % last, b'power,%d,9' % (last + 1), b'worth,%d,9' % (last + 1)]
+    lines = [b'clear', *BELOW.encode().split(), *loads, b'budget,31', *asked, *drops, b'plan', b'last']
+    return lines + [b'load,%d,1,1' % HALF, b'load,1,1,1', b'load,1,1,1', *asked, *figures, b'plan', b'save']
 
 
 def cameras(*powers):
@@ -306,9 +329,9 @@ def polled():
 
 # Lines that ask for the least budget, at every edge of the worth, and lines that are nearly such.
 NEEDS = (
-    b'need,0', b'need,00000', b'need,1', b'need,20', b'need,00020', b'need,21', b'need,40', b'need,41', b'need,%d' % Model.most_need,
-    b'need,%d' % (Model.most_need + 1), b'need,65556', b'need,99999', b'need,100000', b'need,000020', b'need', b'need,', b'need,20,', b'need,20,0',
-    b'needs,20', b'Need,20', b'need,-1', b'need,'.ljust(Model.most_bytes + 1, b'0'),
+    b'need,0', b'need,000000', b'need,1', b'need,20', b'need,000020', b'need,21', b'need,40', b'need,41', b'need,64000', b'need,64001',
+    b'need,%d' % Model.most_need, b'need,%d' % (Model.most_need + 1), b'need,65556', b'need,99999', b'need,131092', b'need,999999', b'need,1000000',
+    b'need,0000020', b'need', b'need,', b'need,20,', b'need,20,0', b'needs,20', b'Need,20', b'need,-1', b'need,'.ljust(Model.most_bytes + 1, b'0'),
 )
 
 
@@ -326,7 +349,8 @@ def seldom():
     """What random lines seldom have, in a session of its own."""
     sizes = [b'book,%d,1' % (Model.most_states + 1), b'book,1,%d' % (Model.most_stages + 1)]
     others = [b'\0plan', b'\0budget,1', b'check,', b'save']
-    return sizes + one_rule_more() + kinds_past_all() + all_cells() + others + cameras(9, 6) + cameras(6, 9) + polled() + of_kinds() + needed()
+    lines = sizes + one_rule_more() + kinds_past_all() + all_cells() + others + cameras(9, 6) + cameras(6, 9) + polled() + of_kinds() + needed()
+    return lines + most_loads()
 
 
 def session(rng, model, count):

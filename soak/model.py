@@ -117,6 +117,10 @@ class Model:
         """"a rule serves only loads of its kind"."""
         return rule[3] == load[3]
 
+    def is_on(self, k, mark):
+        """Is load k on, if its line has this mark?"""
+        return mark == 1
+
     def cause(self, word, values):
         """The lowest number that applies and that the tables settle, or 0."""
         if word in (b'plan', b'check', b'need') and not self.loads:

@@ -60,7 +60,7 @@ def is_run(model, entries):
 
 def figures(model, entries):
     """The worth, the power and the number of the loads with mark 1."""
-    on = [load for load, entry in zip(model.loads, entries) if entry[0] == 1]
+    on = [load for k, (load, entry) in enumerate(zip(model.loads, entries), 1) if model.is_on(k, entry[0])]
     return sum(load[2] for load in on), sum(load[1] for load in on), len(on)
 
 

@@ -1,4 +1,5 @@
 """Models that are wrong on purpose, each in one place. A comparison that cannot tell them from the program would show nothing."""
+from limits import WORD_LOADS  # of tests/, which model.py put on the path
 from model import Model
 
 
@@ -156,6 +157,21 @@ class MoreBudget(Model):
 class MoreLoads(Model):
     """There may be one load more."""
     most_loads = Model.most_loads + 1
+
+
+class FewerLoads(Model):
+    """There may be one load fewer."""
+    most_loads = Model.most_loads - 1
+
+
+class LoadsAsBefore(Model):
+    """There may be 64 loads, as before request Ten."""
+    most_loads = WORD_LOADS
+
+
+class LineAsBefore(Model):
+    """A line may have 80 bytes, as before request Ten."""
+    most_bytes = 80
 
 
 class FewerRules(Model):
@@ -848,6 +864,11 @@ class NeedNotTested(Model):
     most_need = 10 ** Model.most_digits - 1
 
 
+class NeedAsBefore(Model):
+    """A worth may be that of 64 loads, as before request Ten."""
+    most_need = WORD_LOADS * Model.most_worth
+
+
 class NeedUnknown(Model):
     """`need` is no command."""
 
@@ -930,6 +951,50 @@ class NeedSetsBudget(Model):
         if settled[:2] == (0, b'need'):
             self.set_budget(0)
         return settled
+
+
+# ---- 128 loads
+
+
+class HighMarksLost(Model):
+    """The marks of loads above 64 do not count for the figures of a plan."""
+
+    def is_on(self, k, mark):
+        return k <= WORD_LOADS and super().is_on(k, mark)
+
+
+class HighBitsLost(Model):
+    """The bits of a check above 64 are 0."""
+
+    def bits(self, field):
+        values = super().bits(field)
+        return values and values[:WORD_LOADS] + [0] * len(values[WORD_LOADS:])
+
+
+class HighBitsLow(Model):
+    """The bits of a check above 64 are taken for the low ones."""
+
+    def bits(self, field):
+        values = super().bits(field)
+        if not values:
+            return values
+        high = values[WORD_LOADS:2 * WORD_LOADS]
+        low = [max(pair) for pair in zip(values, [*high, *[0] * WORD_LOADS])]
+        return low[:WORD_LOADS] + [0] * len(values[WORD_LOADS:])
+
+
+class ParentInAWord(Model):
+    """Of a parent's number above 64 only what is above 64 is stored."""
+
+    def load(self, *figures):
+        super().load(figures[0] - WORD_LOADS if figures[0] > WORD_LOADS else figures[0], *figures[1:])
+
+
+class HighLoadsNotStored(Model):
+    """A load above 64 is answered `ok`, and its figures are those of an unused place."""
+
+    def load(self, *figures):
+        super().load(*(figures if len(self.loads) < WORD_LOADS else (figures[0], 0, 0, 0)))
 
 
 def keeping(words):

@@ -3,8 +3,8 @@
 
   commissioning.py PROGRAM [PAGE]
 
-The port is a terminal of this machine's, with the line program behind it in the switch's place. What the commands print and keep is compared
-with the oracle. The last line is 'N passed, M failed'.
+The port is a terminal of this machine's, with the line program behind it in the switch's place, once with the worked cabinet and once with one of
+the most loads. What the commands print and keep is compared with the oracle. The last line is 'N passed, M failed'.
 """
 import os
 import re
@@ -14,9 +14,11 @@ import tempfile
 import tty
 from pathlib import Path
 
+from limits import MAX_LOADS
 from oracle import Oracle
 
 WORKED = Path('crates/load_planner/stdin').read_bytes().split(b'\n')[:15]
+MOST_LOADS = [*WORKED, *(b'load,%d,%d,%d,%d' % (k, k, 7 * k, k % 4) for k in range(4, MAX_LOADS))]
 FURTHER = [b'worth,2,45', b'drop,3']
 SECONDS = 10
 
@@ -52,13 +54,13 @@ def line_from(port):
     return text
 
 
-def over_a_port(program, commands, folder):
-    """What they print where a line program that holds the worked cabinet is behind the port."""
+def over_a_port(program, cabinet, commands, folder):
+    """What they print where a line program that was given these lines is behind the port."""
     switch, port = os.openpty()
     tty.setraw(port)
     running = subprocess.Popen([program], stdin=switch, stdout=switch)
     try:
-        for line in WORKED:
+        for line in cabinet:
             os.write(port, line + b'\n')
             line_from(port)
         return typed(commands, folder, port=os.ttyname(port))
@@ -69,20 +71,23 @@ def over_a_port(program, commands, folder):
         os.close(port)
 
 
+def held_of_port(program, cabinet, commands, folder):
+    """What holds of the commands over a port, with a cabinet behind it, point by point. They leave its save in the folder."""
+    same, save = over_a_port(program, cabinet, commands, folder), save_after(*cabinet)
+    kept = [Path(folder, name).read_bytes() for name in ('cabinet.save', 'again.save')]
+    return [same == b'the same\n', kept == [save, save]]
+
+
 def held(program, page):
     """What holds of the commands of the page, point by point."""
     port, laptop = blocks(page)
     with tempfile.TemporaryDirectory() as folder:
-        same = over_a_port(program, port, folder)
-        kept = [Path(folder, name).read_bytes() for name in ('cabinet.save', 'again.save')]
+        points = held_of_port(program, MOST_LOADS, port, folder) + held_of_port(program, WORKED, port, folder)
         Path(folder, 'other.lines').write_bytes(b''.join(line + b'\n' for line in FURTHER))
         shown = typed(laptop, folder, PATH='%s:%s' % (os.path.dirname(program), os.environ['PATH']))
         changed = Path(folder, 'changed.save').read_bytes()
-    save = save_after(*WORKED)
-    lines = save.split(b'\n')[:-1]
-    return [
-        same == b'the same\n',
-        kept == [save, save],
+    lines = save_after(*WORKED).split(b'\n')[:-1]
+    return points + [
         shown == answered(*lines, b'plan') + answered(*lines, b'budget,22', b'plan'),
         changed == save_after(*WORKED, *FURTHER),
     ]

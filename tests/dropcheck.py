@@ -17,7 +17,7 @@ import sys
 
 from crosscheck import Kinds, book_lines, printed, with_kind
 from edges import BELOW, EVERY_OTHER, TOGETHER
-from limits import CELLS, MAX_KIND, MAX_LOADS
+from limits import CELLS, MAX_DIGITS, MAX_KIND, MAX_LOADS
 from oracle import Oracle
 from texts import entered_without, grouped
 from wrong_oracles import WRONG_DROPS, keeping
@@ -26,7 +26,7 @@ BOOKS = [book.split() for book in (BELOW, EVERY_OTHER, TOGETHER)]
 KINDS = (0,), (0, 1), (0, 0, 0, 3), range(MAX_KIND + 1)  # those of the loads of a session
 MOST_WAYS = 6  # states and stages of a book
 STEPS = 400  # loads that enter or leave, in a session in which they come and go
-SMALL, SMALL_STEPS, SMALL_SESSIONS = 6, 200, 6  # the most loads, the steps and the sessions that an oracle is given
+SMALL, SMALL_STEPS, SMALL_SESSIONS = 6, 350, 6  # the most loads, the steps and the sessions that an oracle is given
 WRONG = [*WRONG_DROPS, keeping('drop'), keeping('load')]
 
 
@@ -108,7 +108,7 @@ class Session:
         self.say(self.budget(), 'ok')
         self.say('plan')
         self.say('save')
-        self.say('drop,' + str(load).zfill(self.rng.choice((1, 1, 5))), 'ok')
+        self.say('drop,' + str(load).zfill(self.rng.choice((1, 1, MAX_DIGITS))), 'ok')
         self.loads = entered_without(self.loads, load)
         question = Question(load, len(self.lines) - 2, ['save', 'save1', 'last', 'plan', *self.needs(), 'last', *self.checks()])
         self.questions.append(question)

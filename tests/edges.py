@@ -1,13 +1,13 @@
 """Sessions by name, each with its answers as paper 02 has them: of loads that leave (request Three), of equal plans, of which the cooler one
-wins (request Four), of the last plan, shown again (request Five), of kinds of load (request Eight), and of how little supply would do (request
-Nine). The answers are written by hand but for the listings of the fullest trees, which a formula makes.
+wins (request Four), of the last plan, shown again (request Five), of kinds of load (request Eight), of how little supply would do (request Nine),
+and of 128 loads (request Ten). The answers are written by hand but for the listings of the fullest trees, which a formula makes.
 
 In the text of a session a row is `LINE LINE .. -> ANSWER`: each of the lines has this answer, and an answer's lines are parted by blanks. Where
 the answer of `save` has a line without a kind, the kind 0 is added to it. That of `save1` stands as it is.
 """
 import re
 
-from limits import CELLS, LINE_BYTES, MAX_BUDGET, MAX_KIND, MAX_LOADS, MAX_NEED, MAX_RULES, MAX_STAGES, MAX_STATES, MAX_WORTH
+from limits import CELLS, LINE_BYTES, MAX_BUDGET, MAX_KIND, MAX_LOADS, MAX_NEED, MAX_RULES, MAX_STAGES, MAX_STATES, MAX_WORTH, WORD_LOADS
 
 # A load may be on only if its parent is.
 BELOW = 'book,2,2 start,1 start,2 end,1 end,2 rule,1,0,2 rule,1,1,1 rule,2,0,2 row,1,1,1 row,2,2,2'
@@ -41,7 +41,7 @@ PLAN_32 = 'plan,90,32,3 1,1,1,2,0 2,1,1,2,1 3,0,1,1,1 4,1,1,2,1'
 NEAR_DROPS = (
     b'drop', b'drop,', b'drop,,', b'drop,,2', b'drop,2,', b'drop,1,2', b'drop,2,2', b'Drop,2', b'DROP,2', b'drops,2', b'dro,2', b'drop2',
     b'drop;2', b' drop,2', b'drop ,2', b'drop, 2', b'drop,2 ', b'drop,2\r', b'drop,2\0', b'\0drop,2', b',drop,2', b'drop,-2', b'drop,+2',
-    b'drop,2.0', b'drop,0x2', b'drop,x', b'drop,000002', b'drop,100000', b'drop,'.ljust(LINE_BYTES, b'0'),
+    b'drop,2.0', b'drop,0x2', b'drop,x', b'drop,0000002', b'drop,1000000', b'drop,'.ljust(LINE_BYTES, b'0'),
 )
 LONG_DROP = b'drop,'.ljust(LINE_BYTES + 1, b'0')
 
@@ -55,10 +55,10 @@ LONG_LAST = b'last,'.ljust(LINE_BYTES + 1, b'0')
 
 # Lines that are nearly a load rule or a load with a kind, or another line with one more field, which none has: each is answered with 3.
 NEAR_KINDS = (
-    b'rule,1,0,1,', b'rule,1,0,1,,', b'rule,1,0,1,,0', b'rule,1,0,1,0,', b'rule,1,0,1,0,0', b'rule,1,0,1,1,1', b'rule,1,0,1,000000',
-    b'rule,1,0,1,000001', b'rule,1,0,1,100000', b'rule,1,0,1,-1', b'rule,1,0,1,+1', b'rule,1,0,1, 1', b'rule,1,0,1,1 ', b'rule,1,0,1,1\r',
+    b'rule,1,0,1,', b'rule,1,0,1,,', b'rule,1,0,1,,0', b'rule,1,0,1,0,', b'rule,1,0,1,0,0', b'rule,1,0,1,1,1', b'rule,1,0,1,0000000',
+    b'rule,1,0,1,0000001', b'rule,1,0,1,1000000', b'rule,1,0,1,-1', b'rule,1,0,1,+1', b'rule,1,0,1, 1', b'rule,1,0,1,1 ', b'rule,1,0,1,1\r',
     b'rule,1,0,1,x', b'rule,1,0,1;1', b'rule,1,0,,1', b'rule,,0,1,1', b'rule,1,0', b'rules,1,0,1,1', b'load,1,2,3,', b'load,1,2,3,,',
-    b'load,1,2,3,,0', b'load,1,2,3,0,', b'load,1,2,3,0,0', b'load,1,2,3,1,1', b'load,1,2,3,000000', b'load,1,2,3,000003', b'load,1,2,3,-1',
+    b'load,1,2,3,,0', b'load,1,2,3,0,', b'load,1,2,3,0,0', b'load,1,2,3,1,1', b'load,1,2,3,0000000', b'load,1,2,3,0000003', b'load,1,2,3,-1',
     b'load,1,2,3,1\0', b'load,1,2,3,1 ', b'load,1,2,3,x', b'load,1,2,,1', b'load,,2,3,1', b'load,1,2', b'loads,1,2,3,1', b'row,1,1,1,',
     b'row,1,1,1,0', b'row,1,1,1,1', b'row,1,1,1,3', b'row,1,1,1,4', b'row,1,1,1,00000', b'row,1,1,1,0,0', b'power,1,1,0', b'worth,1,1,1',
     b'drop,1,0', b'start,1,0', b'end,1,1', b'book,1,1,0', b'budget,1,0', b'kind,1,1', b'rule1,1,0,1', b'load1,1,2,3',
@@ -76,8 +76,8 @@ LONG_SAVE = b'save1'.ljust(LINE_BYTES + 1, b'1')
 NEAR_NEEDS = (
     b'need', b'need,', b'need,,', b'need,,70', b'need,70,', b'need,70,0', b'need,70,70', b'Need,70', b'NEED,70', b'needs,70', b'needed,70',
     b'nee,70', b'need70', b'need;70', b' need,70', b'need ,70', b'need, 70', b'need,70 ', b'need,70\t', b'need,70\r', b'need,70\0', b'\0need,70',
-    b',need,70', b'70,need', b'need,-1', b'need,+70', b'need,70.0', b'need,0x46', b'need,x', b'need,plan', b'need,000000', b'need,000070',
-    b'need,064000', b'need,100000', b'need,\xb7', b'\xeeeed,70', b'need,'.ljust(LINE_BYTES, b'0'), b'need,'.ljust(LINE_BYTES, b','),
+    b',need,70', b'70,need', b'need,-1', b'need,+70', b'need,70.0', b'need,0x46', b'need,x', b'need,plan', b'need,0000000', b'need,0000070',
+    b'need,0%d' % MAX_NEED, b'need,1000000', b'need,\xb7', b'\xeeeed,70', b'need,'.ljust(LINE_BYTES, b'0'), b'need,'.ljust(LINE_BYTES, b','),
 )
 LONG_NEED = b'need,'.ljust(LINE_BYTES + 1, b'0')
 
@@ -113,7 +113,7 @@ def near_drops():
         *steps('clear load,0,1,1 load,1,2,2 -> ok'),
         *((line, ['no,3']) for line in NEAR_DROPS),
         (LONG_DROP, ['no,2']),
-        *steps('save -> clear load,0,1,1 load,1,2,2 budget,0\ndrop,00002 -> ok\nsave -> clear load,0,1,1 budget,0'),
+        *steps('save -> clear load,0,1,1 load,1,2,2 budget,0\ndrop,000002 -> ok\nsave -> clear load,0,1,1 budget,0'),
     ])
 
 
@@ -159,15 +159,15 @@ def near_needs():
 
 # A root and as many loads below it as there may be, of worth 2 and so on. No load draws anything.
 STAR = ['load,0,0,1'] + ['load,1,0,%d' % worth for worth in range(2, MAX_LOADS + 1)]
-# That without the load of worth 30 and the last one, and with two loads that came later; and its plan, which has every load on.
+# That without the load of worth 30 and the last one, and with two loads that came later.
 STAR_LATER = STAR[:29] + STAR[30:-1] + ['load,1,0,%d' % (MAX_LOADS + 1), 'load,%d,0,%d' % (MAX_LOADS - 1, MAX_LOADS + 2)]
-STAR_WORTH = sum(range(1, MAX_LOADS)) - 30 + MAX_LOADS + 1 + MAX_LOADS + 2
+# A plan that has every load on.
 STAR_RUN = ['1,1,1,1,0'] + ['%d,1,1,1,1' % k for k in range(2, MAX_LOADS + 1)]
 
 DROP_EDGES = {
     'near drops': near_drops(),
     'no loads': session('''
-drop,1 drop,0 drop,2 drop,64 drop,65 drop,99999 -> no,5
+drop,1 drop,0 drop,2 drop,64 drop,65 drop,128 drop,129 drop,99999 drop,999999 -> no,5
 book,1,1 budget,9 -> ok
 drop,1 drop,0 -> no,5
 plan -> no,4
@@ -175,7 +175,7 @@ save -> clear book,1,1 budget,9
 '''),
     'number 0, of which load 1 is the child': session('''
 load,0,1,1 -> ok
-drop,0 drop,00000 -> no,5
+drop,0 drop,00000 drop,000000 -> no,5
 load,1,2,2 load,2,3,3 -> ok
 drop,0 drop,000 -> no,5
 save -> clear load,0,1,1 load,1,2,2 load,2,3,3 budget,0
@@ -184,7 +184,7 @@ save -> clear load,0,1,1 load,1,2,2 load,2,3,3 budget,0
 load,0,1,1 -> ok
 drop,2 drop,00002 -> no,5
 load,1,2,2 load,1,3,3 -> ok
-drop,4 drop,5 drop,64 drop,258 drop,65538 drop,99999 -> no,5
+drop,4 drop,5 drop,64 drop,128 drop,130 drop,258 drop,65538 drop,99999 drop,131074 drop,999999 -> no,5
 save -> clear load,0,1,1 load,1,2,2 load,1,3,3 budget,0
 '''),
     'the root alone': session(f'''
@@ -267,7 +267,6 @@ drop,{MAX_LOADS - 1} load,{MAX_LOADS - 1},0,{MAX_LOADS + 2} -> ok
 load,{MAX_LOADS},0,0 -> no,6
 drop,{MAX_LOADS - 1} -> no,11
 save -> clear {ALL_ON} {' '.join(STAR_LATER)} budget,0
-plan -> plan,{STAR_WORTH},0,{MAX_LOADS} {' '.join(STAR_RUN)}
 drop,{MAX_LOADS} -> ok
 drop,{MAX_LOADS} -> no,5
 drop,{MAX_LOADS - 1} -> ok
@@ -658,11 +657,12 @@ last -> {PLAN_30}
 last last -> {PLAN_30}
 save -> clear {BELOW} {CABINET} budget,30
 '''),
+    # There is no book, and so no plan.
     'lists that are full': session(f'''
-{ALL_ON} {' '.join(STAR)} -> ok
-plan last -> plan,{sum(range(MAX_LOADS + 1))},0,{MAX_LOADS} {' '.join(STAR_RUN)}
+{' '.join(STAR)} -> ok
+plan last -> no,9
 load,1,0,0 load,{MAX_LOADS},500,1000 -> no,6
-last -> plan,{sum(range(MAX_LOADS + 1))},0,{MAX_LOADS} {' '.join(STAR_RUN)}
+last -> no,9
 drop,{MAX_LOADS} -> ok
 last -> no,12
 '''),
@@ -808,10 +808,10 @@ load,1,6,6,{MAX_KIND + 1} load,1,6,6,5 load,1,6,6,255 load,1,6,6,256 load,1,6,6,
 save -> clear book,1,1 rule,1,0,1,0 rule,1,0,1,1 rule,1,0,1,2 rule,1,0,1,3 load,0,1,1,3 load,1,2,2,2 load,1,3,3,1 load,1,4,4,0 load,1,5,5,0 budget,0
 '''),
     'kinds with zeros in front': session('''
-book,1,1 rule,1,0,1,00003 rule,01,00,001,02 rule,1,0,1,00000 load,0,1,1,00003 load,001,00002,2,000 -> ok
+book,1,1 rule,1,0,1,000003 rule,01,00,001,02 rule,1,0,1,00000 load,0,1,1,000003 load,001,00002,2,000 -> ok
 rule,1,0,1,3 rule,1,0,1,003 rule,1,0,1,2 rule,1,0,1 rule,1,0,1,0 -> no,7
-rule,1,0,1,00004 load,1,1,1,00004 load,1,1,1,0010 -> no,5
-rule,1,1,1,000003 load,1,1,1,000000 -> no,3
+rule,1,0,1,00004 load,1,1,1,000004 load,1,1,1,0010 -> no,5
+rule,1,1,1,0000003 load,1,1,1,0000000 -> no,3
 save -> clear book,1,1 rule,1,0,1,3 rule,1,0,1,2 rule,1,0,1,0 load,0,1,1,3 load,1,2,2,0 budget,0
 '''),
     # A kind out of its range is 5 with a book and without one, among other values out of theirs, and before 6 and 7.
@@ -860,7 +860,7 @@ rule,1,0,3,2 rule,1,0,1,0 rule,1,0,1,1 rule,1,0,1,3 rule,1,0,1,2 -> no,6
     'as many loads as there may be, of every kind': session(f'''
 {' '.join('load,%d,1,1,%d' % (min(k, 1), k % 4) for k in range(MAX_LOADS))} -> ok
 load,1,1,1,1 load,1,1,1,3 load,1,1,1 -> no,6
-load,1,1,1,4 load,65,1,1,1 load,0,1,1,0 -> no,5
+load,1,1,1,4 load,{MAX_LOADS + 1},1,1,1 load,0,1,1,0 -> no,5
 save1 -> no,14
 save -> clear {' '.join('load,%d,1,1,%d' % (min(k, 1), k % 4) for k in range(MAX_LOADS))} budget,0
 '''),
@@ -1108,25 +1108,26 @@ budget,15 -> ok
 need,1 need,30 -> need,15
 need,31 -> no,15
 '''),
-    # "v is 0 to 64,000"
+    # "`need` up to 128,000" (request Ten)
     'a worth out of its range': session(f'''
 {WORKED} budget,30 -> ok
-need,{MAX_NEED} need,{MAX_NEED - 1} need,1000 need,1001 need,4000 need,4001 -> no,15
-need,{MAX_NEED + 1} need,65535 need,65536 need,65606 need,99999 -> no,5
-need,100000 need,0{MAX_NEED} need,131142 -> no,3
+need,{MAX_NEED} need,{MAX_NEED - 1} need,1000 need,1001 need,4000 need,4001 need,64000 need,64001 need,65535 need,65536 need,65606 -> no,15
+need,99999 need,100000 -> no,15
+need,{MAX_NEED + 1} need,131071 need,131072 need,131142 need,999999 -> no,5
+need,1000000 need,0{MAX_NEED} need,1000070 -> no,3
 need,70 -> need,30
 '''),
     'a worth with zeros in front': session(f'''
 {WORKED} budget,30 -> ok
-need,070 need,0070 need,00070 -> need,30
-need,00 need,000 need,00000 -> need,0
-need,00071 -> no,15
-need,000070 need,000000 -> no,3
+need,070 need,0070 need,00070 need,000070 -> need,30
+need,00 need,000 need,00000 need,000000 -> need,0
+need,00071 need,000071 -> no,15
+need,0000070 need,0000000 -> no,3
 '''),
     # "meets 4": before 5, whatever the worth is.
     'a need of no loads': session(f'''
-need,0 need,1 need,{MAX_NEED} need,{MAX_NEED + 1} need,99999 -> no,4
-need, need,000001 -> no,3
+need,0 need,1 need,{MAX_NEED} need,{MAX_NEED + 1} need,999999 -> no,4
+need, need,0000001 -> no,3
 {BELOW} budget,30 -> ok
 need,0 need,{MAX_NEED + 1} -> no,4
 load,0,10,5 -> ok
@@ -1357,8 +1358,180 @@ IN_TURN = ['load,0,0,1'] + ['load,1,0,%d,%d' % (k, k % 2) for k in range(1, MAX_
 IN_TURN_RUN = ['1,1,1,1,0'] + ['%d,1,1,%d,1' % (k + 1, k % 2 + 1) for k in range(1, MAX_LOADS)]
 IN_TURN_WORTH = 1 + sum(range(1, MAX_LOADS))
 
-# Of equal plans, of kinds and of needs too, but of trees so large that enumeration takes its time.
+
+
+def marked(loads, count=MAX_LOADS):
+    """The bits of a set of so many loads that has these."""
+    return ''.join('1' if k in loads else '0' for k in range(1, count + 1))
+
+
+def free_run(loads, count=MAX_LOADS):
+    """The lines of a run of ON_FIRST in which these loads are on."""
+    return ' '.join('%d,%d,1,%d,%d' % (k, k in loads, 1 if k in loads else 2, min(1, k - 1)) for k in range(1, count + 1))
+
+
+def filled_to(length, text, filling='0'):
+    """A line of so many bytes."""
+    return text.ljust(length, filling)
+
+
+# The last load whose mark is in the first word of a set, the next one, and the last one.
+LOW, HIGH, LAST = WORD_LOADS, WORD_LOADS + 1, MAX_LOADS
+ODD = range(1, MAX_LOADS + 1, 2)
+# Loads of worth 0 that draw a watt each, as many as there may be: a plan has none of them on.
+IDLE = ['load,0,1,0'] + ['load,1,1,0'] * (MAX_LOADS - 1)
+SEVEN_ZEROS = '0000000'
+
+TEN_EDGES = {
+    # A parent that is there is 6, one that is not is 5.
+    'the last load, and one more': session(f'''
+load,0,1,1 {'load,1,0,0 ' * (MAX_LOADS - 2)}-> ok
+load,{LAST},0,0 load,{LAST + 1},0,0 load,0,0,0 -> no,5
+load,{LAST - 1},500,1000 -> ok
+load,1,0,0 load,{LOW},0,0 load,{HIGH},0,0 load,{LAST - 1},0,0 load,{LAST},500,1000 load,000001,000000,000000,000003 -> no,6
+load,{LAST + 1},0,0 load,0,0,0 load,999999,0,0 load,{LAST},501,0 load,1,0,1001 load,1,0,0,4 load,256,0,0 load,257,0,0 -> no,5
+power,{LAST},7 worth,{LAST},8 power,{LOW},9 worth,{HIGH},9 -> ok
+power,{LAST + 1},0 worth,{LAST + 1},0 power,0,0 worth,256,0 power,{LAST},501 worth,{LAST},1001 drop,{LAST + 1} drop,0 drop,257 -> no,5
+drop,{LAST - 1} -> no,11
+drop,{LAST} -> ok
+drop,{LAST} power,{LAST},0 worth,{LAST},0 load,{LAST},0,0 -> no,5
+load,{HIGH},5,5,3 -> ok
+load,1,0,0 -> no,6
+drop,{HIGH} -> no,11
+drop,{LAST} drop,{HIGH} -> ok
+save -> clear load,0,1,1 {'load,1,0,0 ' * (LOW - 2)}load,1,9,0 {'load,1,0,0 ' * (MAX_LOADS - LOW - 2)}budget,0
+'''),
+    # A line of as many bytes as it may have, in form or not, and one byte more.
+    'the longest line, and one byte more': session(f'''
+{filled_to(LINE_BYTES, 'check,')} {filled_to(LINE_BYTES, 'check,', '1')} {filled_to(LINE_BYTES - 1, 'check,')} {filled_to(81, 'check,')} -> no,4
+{filled_to(LINE_BYTES + 1, 'check,')} {filled_to(LINE_BYTES + 1, 'check,', '1')} {filled_to(LINE_BYTES + 2, 'check,')} -> no,2
+{filled_to(LINE_BYTES, 'x', 'x')} {filled_to(LINE_BYTES, 'plan,', 'a')} {filled_to(LINE_BYTES, 'budget,')} {filled_to(81, 'clear', ',')} -> no,3
+{filled_to(LINE_BYTES, 'save', 'e')} {filled_to(LINE_BYTES, 'check,', '2')} {filled_to(LINE_BYTES - 1, 'check,')}2 -> no,3
+{filled_to(LINE_BYTES, ',', ',')} {filled_to(LINE_BYTES, 'need,')} -> no,3
+{filled_to(LINE_BYTES + 1, 'x', 'x')} {filled_to(LINE_BYTES + 1, 'plan,', 'a')} {filled_to(LINE_BYTES + 1, 'budget,')} -> no,2
+{filled_to(LINE_BYTES + 1, 'save', 'e')} {filled_to(LINE_BYTES, 'check,')}2 {filled_to(1000, 'clear', ',')} {filled_to(4097, 'check,')} -> no,2
+load,0,1,1 -> ok
+{filled_to(LINE_BYTES, 'check,')} {filled_to(LINE_BYTES, 'check,', '1')} -> no,5
+{filled_to(LINE_BYTES + 1, 'check,')} -> no,2
+save -> clear load,0,1,1 budget,0
+'''),
+    'six digits, and seven': session(f'''
+book,000002,000002 start,000001 start,000002 end,000001 end,000002 rule,000001,000000,000002 rule,000001,000001,000001,000000 -> ok
+rule,000002,000000,000002 row,000001,000001,000001 row,000002,000002,000002 load,000000,000010,000000 load,000001,000015,000040,000000 -> ok
+load,000001,000005,000030 load,000002,000007,000050 budget,000000 budget,000030 -> ok
+plan -> {PLAN_30}
+need,000070 -> need,30
+power,000004,000500 power,000004,000007 worth,000004,001000 worth,000004,000050 drop,000004 load,000002,000007,000050 -> ok
+budget,100000 budget,999999 budget,000501 budget,65566 budget,131102 book,100001,1 book,1,999999 start,100001 end,131073 -> no,5
+rule,100001,0,1 rule,1,100000,1 rule,1,0,100001 rule,1,1,2,100000 row,100001,1,1 row,1,100001,1 row,1,1,131073 -> no,5
+load,100001,1,1 load,131073,1,1 load,1,100000,1 load,1,1,100000 load,1,1,1,100000 power,1,100000 power,100001,1 worth,1,100000 drop,131076 -> no,5
+need,100000 need,{MAX_NEED} -> no,15
+need,{MAX_NEED + 1} need,999999 -> no,5
+budget,1000000 budget,0000030 budget,{SEVEN_ZEROS} book,0000002,2 start,0000001 end,0000001 rule,1,{SEVEN_ZEROS},2 rule,1,1,2,{SEVEN_ZEROS} -> no,3
+row,1,1,0000001 load,1,1,0000001 load,0000001,1,1 load,1,1,1,{SEVEN_ZEROS} power,1,0000010 worth,0000001,0 drop,0000004 need,0000070 -> no,3
+save -> clear {BELOW} {CABINET} budget,30
+'''),
+    # A save of more than 64 loads, fed back.
+    'a save of the most loads': session(f'''
+{ON_BY_ROW} {' '.join(STAR)} budget,{MAX_BUDGET} -> ok
+save -> clear {ON_BY_ROW} {' '.join(STAR)} budget,{MAX_BUDGET}
+clear {' '.join(with_kinds(f'{ON_BY_ROW} {" ".join(STAR)}'.split()))} budget,{MAX_BUDGET} -> ok
+save -> clear {ON_BY_ROW} {' '.join(STAR)} budget,{MAX_BUDGET}
+save1 -> clear {ON_BY_ROW} {' '.join(STAR)} budget,{MAX_BUDGET}
+drop,{HIGH} -> ok
+save1 -> clear {ON_BY_ROW} {' '.join(STAR[:HIGH - 1] + STAR[HIGH:])} budget,{MAX_BUDGET}
+'''),
+}
+
+# Of 128 loads too, but of trees that leave so many loads the choice that only fronts.py can answer.
+WIDE_EDGES = {
+    # The sixty-fifth load is no more than another one.
+    'around the first word': session(f'''
+{ON_FIRST} load,0,1,0 {'load,1,1,0 ' * (LOW - 2)}budget,1 -> ok
+plan last -> plan,0,0,0 {free_run((), LOW - 1)}
+load,1,1,3 -> ok
+plan last -> plan,3,1,1 {free_run((LOW,), LOW)}
+check,{marked((LOW,), LOW)} -> yes {free_run((LOW,), LOW)}
+load,{LOW},1,4 -> ok
+plan last -> plan,4,1,1 {free_run((HIGH,), HIGH)}
+check,{marked((HIGH,), HIGH)} -> yes {free_run((HIGH,), HIGH)}
+check,{marked((1,), HIGH)} -> yes {free_run((1,), HIGH)}
+check,{marked((LOW,), LOW)} check,{marked((HIGH,), HIGH + 1)} -> no,5
+load,{HIGH},1,5 -> ok
+plan last -> plan,5,1,1 {free_run((HIGH + 1,), HIGH + 1)}
+drop,{LOW} drop,{HIGH} -> no,11
+drop,{HIGH + 1} -> ok
+last -> no,12
+plan last -> plan,4,1,1 {free_run((HIGH,), HIGH)}
+drop,{HIGH} -> ok
+plan last -> plan,3,1,1 {free_run((LOW,), LOW)}
+'''),
+    # A check of the most loads has 134 bytes. Low and high bits are not the same.
+    'checks of the most loads': session(f'''
+{ON_FIRST} {' '.join(IDLE)} -> ok
+check,{marked(())} -> yes {free_run(())}
+check,{marked(range(LAST + 1))} -> yes {free_run(range(LAST + 1))}
+check,{marked((HIGH,))} -> yes {free_run((HIGH,))}
+check,{marked((LAST,))} -> yes {free_run((LAST,))}
+check,{marked((LOW,))} -> yes {free_run((LOW,))}
+check,{marked((1,))} -> yes {free_run((1,))}
+check,{marked(range(1, HIGH))} -> yes {free_run(range(1, HIGH))}
+check,{marked(range(HIGH, LAST + 1))} -> yes {free_run(range(HIGH, LAST + 1))}
+check,{marked(ODD)} -> yes {free_run(ODD)}
+check,{marked((), LAST - 1)} check,{marked((), LAST + 1)} check,{marked((), LOW)} check,{marked((HIGH,), HIGH)} check,1 -> no,5
+check,{marked((), LAST - 1)}2 check,{marked((), LAST)},1 -> no,3
+last -> no,12
+'''),
+    # The root has to be on if another load is: with the words in each other's place it is off.
+    "checks with the words in each other's place": session(f'''
+{BELOW} {' '.join(IDLE)} -> ok
+check,{marked((1, LAST))} -> yes 1,1,1,2,0 {' '.join('%d,0,1,1,1' % k for k in range(2, LAST))} {LAST},1,1,2,1
+check,{marked((HIGH, LOW))} check,{marked((HIGH,))} check,{marked((LAST,))} check,{marked(range(HIGH, LAST + 1))} -> no,10
+check,{marked((1,))} -> yes 1,1,1,2,0 {' '.join('%d,0,1,1,1' % k for k in range(2, LAST + 1))}
+'''),
+    # The marks of a plan, of `last` and of a check are those of loads of both words, or of the second one alone.
+    'plans with marks in the second word': session(f'''
+{ON_FIRST} {' '.join(IDLE)} worth,{HIGH},5 worth,{LAST},6 budget,2 -> ok
+plan last -> plan,11,2,2 {free_run((HIGH, LAST))}
+need,11 need,7 -> need,2
+need,6 need,1 -> need,1
+need,12 -> no,15
+worth,1,7 worth,{LOW},8 budget,4 -> ok
+plan last -> plan,26,4,4 {free_run((1, LOW, HIGH, LAST))}
+budget,3 -> ok
+plan last -> plan,21,3,3 {free_run((1, LOW, LAST))}
+budget,1 -> ok
+plan last -> plan,8,1,1 {free_run((LOW,))}
+drop,2 budget,2 -> ok
+plan last -> plan,15,2,2 {free_run((1, LOW - 1), LAST - 1)}
+budget,3 -> ok
+plan last -> plan,21,3,3 {free_run((1, LOW - 1, LAST - 1), LAST - 1)}
+'''),
+}
+
+# The longest plan: every load is on in the last state, by the last load rule and the last row rule.
+LAST_RULES = [
+    *('rule,%d,%d,%d' % (n % 7 + 1, n // 7 % 2, n // 14 + 1) for n in range(MAX_RULES - 1)), f'rule,{MAX_STATES},1,{MAX_STAGES}',
+    *('row,%d,%d,1' % (n % 7 + 1, n // 7 + 1) for n in range(MAX_RULES - 1)), f'row,{MAX_STAGES},{MAX_STATES},{MAX_STAGES}',
+]
+LONGEST_RUN = [f'1,1,{MAX_STATES},{MAX_RULES},0'] + [f'{k},1,{MAX_STATES},{MAX_RULES},{MAX_RULES}' for k in range(2, MAX_LOADS + 1)]
+
+# Of equal plans, of kinds, of needs and of 128 loads too, but of trees so large that enumeration takes its time.
 LARGEST_EDGES = {
+    'a plan of loads that came and went': session(f'''
+{ALL_ON} {' '.join(STAR)} drop,30 load,1,0,{MAX_LOADS + 1} drop,{MAX_LOADS - 1} load,{MAX_LOADS - 1},0,{MAX_LOADS + 2} -> ok
+plan last -> plan,{sum(range(1, MAX_LOADS)) - 30 + MAX_LOADS + 1 + MAX_LOADS + 2},0,{MAX_LOADS} {' '.join(STAR_RUN)}
+load,1,0,0 load,{MAX_LOADS},500,1000 -> no,6
+last -> plan,{sum(range(1, MAX_LOADS)) - 30 + MAX_LOADS + 1 + MAX_LOADS + 2},0,{MAX_LOADS} {' '.join(STAR_RUN)}
+drop,{MAX_LOADS} -> ok
+last -> no,12
+'''),
+    'the longest plan': session(f'''
+book,{MAX_STATES},{MAX_STAGES} start,{MAX_STATES} end,{MAX_STAGES} {' '.join(LAST_RULES)} {' '.join(RICHEST)} -> ok
+plan last -> plan,{WORTH_OF_ALL},0,{MAX_LOADS} {' '.join(LONGEST_RUN)}
+check,{marked(range(LAST + 1))} -> yes {' '.join(LONGEST_RUN)}
+check,{marked(range(LAST))} -> no,10
+'''),
     'the whole budget over a long chain': session(f'''
 {ALL_ON} {' '.join(CHAIN)} budget,{MAX_BUDGET} -> ok
 plan -> plan,0,{MAX_BUDGET},{CHAIN_LOADS} {' '.join(CHAIN_RUN)}
@@ -1423,6 +1596,6 @@ need,{MAX_NEED - MAX_WORTH} -> need,0
 need,{MAX_NEED - MAX_WORTH + 1} need,{MAX_NEED} -> no,15
 '''),
 }
-SORTS = DROP_EDGES, COOLER_EDGES, LAST_EDGES, KIND_EDGES, NEED_EDGES, LARGEST_EDGES
+SORTS = DROP_EDGES, COOLER_EDGES, LAST_EDGES, KIND_EDGES, NEED_EDGES, TEN_EDGES, LARGEST_EDGES, WIDE_EDGES
 EDGES = {name: case for edges in SORTS for name, case in edges.items()}
 assert len(EDGES) == sum(map(len, SORTS)), 'two sessions have one name'

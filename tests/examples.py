@@ -22,7 +22,7 @@ import sys
 from pathlib import Path
 
 from crosscheck import session
-from limits import CELLS, LINE_BYTES, MAX_BUDGET, MAX_LOADS, MAX_NEED, MAX_WORTH
+from limits import CELLS, LINE_BYTES, MAX_BUDGET, MAX_DIGITS, MAX_LOADS, MAX_NEED, MAX_WORTH
 from oracle import Oracle
 from texts import grouped
 
@@ -35,8 +35,9 @@ def joined(lines):
 
 
 def long_lines(rng):
-    """Lines around the most bytes, and far beyond it."""
-    lengths = [0, 1, *range(LINE_BYTES - 1, LINE_BYTES + 3), 2 * LINE_BYTES, 255, 256, 257, 4095, 4096, 4097, 20000]
+    """Lines around the most digits and the most bytes, and far beyond them."""
+    digits = range(MAX_DIGITS - 1, MAX_DIGITS + 2)
+    lengths = [0, 1, *digits, *range(LINE_BYTES - 7, LINE_BYTES + 3), 2 * LINE_BYTES, 255, 256, 257, 4095, 4096, 4097, 20000]
     lines = [word + b'1' * length for length in lengths for word in (b'check,', b'save', b'save1', b'drop,', b'last', b'need,')]
     lines += [bytes(rng.choice(b'01,plan\r\x00\xff') for _ in range(length)) for length in lengths]
     return joined(lines + [b'plan'])
@@ -82,7 +83,8 @@ def large_cabinet(rng, kinds):
     for budget in (0, 1, 20, last - 1, last, last + 1, MAX_BUDGET):
         lines += [b'budget,%d' % budget, b'last', b'plan', b'check,' + bytes(rng.choice(b'01') for _ in range(MAX_LOADS)), b'last']
         lines += [any_need(rng), any_need(rng), b'last']
-    lines += [b'check,' + b'0' * MAX_LOADS, b'check,' + b'1' * MAX_LOADS, b'save', b'save1', b'budget,%d' % last]
+    lines += [b'check,' + bit * count for bit in (b'0', b'1') for count in range(MAX_LOADS - 1, MAX_LOADS + 2)]
+    lines += [b'save', b'save1', b'budget,%d' % last]
     return joined(lines + come_and_go(rng, kinds))
 
 

@@ -20,7 +20,7 @@ from pages import cut
 from script import Script
 
 # The whole output, work and bytes to draw on, of which a part is lent.
-ALL_BYTES = 3100
+ALL_BYTES = 4200
 ALL_CELLS = 620
 ALL_DRAWN_ON = 200
 

@@ -3,7 +3,8 @@
  * paper 01's session, and the memory after the planner must be as it was; what the header's helpers answer; the outcome of the session's plan,
  * as it is stored, shown by `last`, wiped, and out of range; the pages of that plan, and the stretches of every set of rows that differ; the
  * session's saves, with the free bytes that the header names; kinds, in range and out of it; the least budgets for worths, with the cells and
- * the free bytes that the header names; and the places of the loads when one leaves and another comes. It is C99, C11 and C++11.
+ * the free bytes that the header names; the places of the loads when one leaves and another comes; sets of loads in their two words; and a
+ * cabinet of the most loads, with its plan in both words, and the longest lines. It is C99, C11 and C++11.
  * The last line printed is 'N passed, M failed'.
  */
 #include "hulmeide.h"
@@ -14,8 +15,9 @@
 #define GUARD_BYTES 64
 #define GUARD_BYTE 0xa5
 
-/* The cells that the session's plan needs. */
+/* The cells that the session's plan needs, and those of a plan of the most loads, under the session's book, at budget 0. */
 #define SESSION_CELLS 496
+#define FULL_CELLS 512
 
 static const char *const lines[] = {
     "book,2,2", "start,1", "start,2", "end,1", "end,2", "rule,1,0,2", "rule,1,1,1", "rule,2,0,2",
@@ -25,7 +27,7 @@ static const char *const lines[] = {
 /* The page of the session's plan from load 3 on, and that of a plan that is refused. */
 #define BLANK_ROW "                    "
 static const char planned_page[] =
-    "worth 00070 030W    003 on  005W        004 off 007W        " BLANK_ROW BLANK_ROW BLANK_ROW BLANK_ROW BLANK_ROW;
+    "worth 000070 030W   003 on  005W        004 off 007W        " BLANK_ROW BLANK_ROW BLANK_ROW BLANK_ROW BLANK_ROW;
 static const char refused_page[] = "no plan             " BLANK_ROW BLANK_ROW BLANK_ROW BLANK_ROW BLANK_ROW BLANK_ROW BLANK_ROW;
 
 static struct {
@@ -38,7 +40,7 @@ static uint8_t around[GUARD_BYTES + HULMEIDE_PAGE_BYTES + GUARD_BYTES];
 static uint8_t *const page = around + GUARD_BYTES;
 
 static uint8_t out[HULMEIDE_SAVE_BYTES];
-static uint32_t work[SESSION_CELLS];
+static uint32_t work[FULL_CELLS];
 static int passed;
 static int failed;
 
@@ -111,6 +113,12 @@ static void expect_entry(const char *what, size_t load, size_t state, size_t loa
     expect(what, run->row_rules[load - 1], row_rule);
 }
 
+static void expect_set(const char *what, struct hulmeide_load_set set, uint64_t low, uint64_t high)
+{
+    expect(what, set.low, low);
+    expect(what, set.high, high);
+}
+
 /* No run: each place of the outcome holds 0, and so does its set. */
 static void expect_no_run(const char *what, size_t status)
 {
@@ -121,7 +129,7 @@ static void expect_no_run(const char *what, size_t status)
     }
     expect(what, outcome->status, status);
     expect(what, used, 0);
-    expect(what, outcome->run.set, 0);
+    expect_set(what, outcome->run.set, 0, 0);
 }
 
 static void expect_plan(const char *what)
@@ -134,23 +142,23 @@ static void expect_plan(const char *what)
     expect_entry("load 4 of a plan", 4, 1, 1, 1);
     expect_entry("the place after the last load", 5, 0, 0, 0);
     expect_entry("the last place", HULMEIDE_MAX_LOADS, 0, 0, 0);
-    expect("the set of a plan", outcome->run.set, 7);
+    expect_set("the set of a plan", outcome->run.set, 7, 0);
 }
 
 /* The session's plan is stored and shown, with no cells, until a change is accepted. A budget of 30 is no other budget, but a change. */
 static void expect_last(void)
 {
     struct hulmeide_planner *planner = &kept.planner;
-    char planned[HULMEIDE_FREE_BYTES];
+    char planned[HULMEIDE_RUN_BYTES];
     expect_line("last", HULMEIDE_NO_PLAN, 6);
     expect_no_run("nothing stored", HULMEIDE_OUTCOME_NOTHING);
     expect_reply("plan", hulmeide_call_text(planner, "plan", out, sizeof out, 0, work, SESSION_CELLS), HULMEIDE_ACCEPTED, 53);
     expect_plan("a plan");
     memcpy(planned, out, 53);
     memset(out, 0, sizeof out);
-    expect_reply("last", hulmeide_call_text(planner, "last", out, HULMEIDE_FREE_BYTES, 0, NULL, 0), HULMEIDE_ACCEPTED, 53);
+    expect_reply("last", hulmeide_call_text(planner, "last", out, HULMEIDE_RUN_BYTES, 0, NULL, 0), HULMEIDE_ACCEPTED, 53);
     expect("last is another text", memcmp(out, planned, 53) != 0, 0);
-    expect_reply("one byte less", hulmeide_call_text(planner, "last", out, HULMEIDE_FREE_BYTES - 1, 0, NULL, 0), HULMEIDE_TURNED_AWAY, 0);
+    expect_reply("one byte less", hulmeide_call_text(planner, "last", out, HULMEIDE_RUN_BYTES - 1, 0, NULL, 0), HULMEIDE_TURNED_AWAY, 0);
     expect_line("last,1", HULMEIDE_BAD_FORM, 5);
     expect_line("budget,501", HULMEIDE_OUT_OF_RANGE, 5);
     expect_line("plan", HULMEIDE_FEW_CELLS, 5);
@@ -180,15 +188,18 @@ static void expect_outcome_tested(void)
     const uint32_t run[] = {1, 2, 0, 1, 2, 1, 1, 2, 1, 1, 1, 1};
     struct hulmeide_planner *planner = &kept.planner;
     expect_reply("plan", hulmeide_call_text(planner, "plan", out, sizeof out, 0, work, SESSION_CELLS), HULMEIDE_ACCEPTED, 53);
-    planner->outcome.run.set = 15;
+    planner->outcome.run.set.low = 15;
     expect_line("last", HULMEIDE_ACCEPTED, 54);
     expect("last of all loads", memcmp(out, "plan,120,37,4\n", 14) != 0, 0);
-    planner->outcome.run.set = 16;
+    planner->outcome.run.set.high = 1;
+    expect_line("last", HULMEIDE_TURNED_AWAY, 0);
+    planner->outcome.run.set.high = 0;
+    planner->outcome.run.set.low = 16;
     expect_line("last", HULMEIDE_TURNED_AWAY, 0);
     expect_line("save", HULMEIDE_TURNED_AWAY, 0);
     expect_line("budget,30", HULMEIDE_TURNED_AWAY, 0);
     expect("judge", hulmeide_judge(planner, run, sizeof run / sizeof *run), HULMEIDE_TURNED_AWAY);
-    planner->outcome.run.set = 7;
+    planner->outcome.run.set.low = 7;
     expect("judge", hulmeide_judge(planner, run, sizeof run / sizeof *run), HULMEIDE_ACCEPTED);
     expect_line("last", HULMEIDE_ACCEPTED, 53);
     memset(&planner->outcome, 0, sizeof planner->outcome);
@@ -264,11 +275,11 @@ static void expect_pages(void)
     expect_drawing("a page", 3, HULMEIDE_PAGE_BYTES, HULMEIDE_ACCEPTED, planned_page);
     expect_drawing("no such load", 5, HULMEIDE_PAGE_BYTES, HULMEIDE_OUT_OF_RANGE, NULL);
     expect_drawing("load 0", 0, HULMEIDE_PAGE_BYTES, HULMEIDE_OUT_OF_RANGE, NULL);
-    planner->outcome.run.set = 16;
+    planner->outcome.run.set.low = 16;
     expect_drawing("a planner that breaks a limit", 5, HULMEIDE_PAGE_BYTES, HULMEIDE_TURNED_AWAY, NULL);
     expect_drawing("a shorter page", 5, HULMEIDE_PAGE_BYTES - 1, HULMEIDE_NOT_A_PAGE, NULL);
     expect_drawing("a longer page", 5, HULMEIDE_PAGE_BYTES + 1, HULMEIDE_NOT_A_PAGE, NULL);
-    planner->outcome.run.set = 7;
+    planner->outcome.run.set.low = 7;
     expect_line("last", HULMEIDE_ACCEPTED, 53);
     memset(&planner->outcome, 0, sizeof planner->outcome);
     planner->outcome.status = HULMEIDE_OUTCOME_NO_SET;
@@ -339,7 +350,7 @@ static void expect_kinds(void)
 static size_t cells_with(uint32_t value)
 {
     size_t same = 0;
-    for (size_t i = 0; i < SESSION_CELLS; i++) {
+    for (size_t i = 0; i < FULL_CELLS; i++) {
         same += work[i] == value;
     }
     return same;
@@ -370,7 +381,7 @@ static void expect_need(const char *line, size_t free_bytes, size_t cells, size_
     expect("the answer is another text", memcmp(out + place, text, strlen(text)) != 0, 0);
     expect("bytes kept around it", bytes_kept(out, sizeof out), sizeof out - strlen(text));
     expect("cells that are 0", cells_with(0), zeros);
-    expect("cells kept", cells_with(0x01010101u * GUARD_BYTE), SESSION_CELLS - zeros);
+    expect("cells kept", cells_with(0x01010101u * GUARD_BYTE), FULL_CELLS - zeros);
     expect("a planner that differs", !same_planner(&kept.planner, &before), 0);
 }
 
@@ -380,21 +391,21 @@ static void expect_needs(void)
 {
     const size_t room = HULMEIDE_FREE_BYTES;
     struct hulmeide_planner *planner = &kept.planner;
-    expect("the greatest worth", HULMEIDE_MAX_NEED, 64000);
+    expect("the greatest worth", HULMEIDE_MAX_NEED, 128000);
     expect_reply("plan", hulmeide_call_text(planner, "plan", out, sizeof out, 0, work, SESSION_CELLS), HULMEIDE_ACCEPTED, 53);
     expect_need("need,70", room, SESSION_CELLS, HULMEIDE_ACCEPTED, "need,30\n", SESSION_CELLS);
-    expect_need("need,00030", room, SESSION_CELLS, HULMEIDE_ACCEPTED, "need,15\n", SESSION_CELLS);
+    expect_need("need,000030", room, SESSION_CELLS, HULMEIDE_ACCEPTED, "need,15\n", SESSION_CELLS);
     expect_need("need,0", room, SESSION_CELLS, HULMEIDE_ACCEPTED, "need,0\n", SESSION_CELLS);
     expect_need("need,71", room, SESSION_CELLS, HULMEIDE_TOO_POOR, "no,15\n", SESSION_CELLS);
-    expect_need("need,64000", room, SESSION_CELLS, HULMEIDE_TOO_POOR, "no,15\n", SESSION_CELLS);
+    expect_need("need,128000", room, SESSION_CELLS, HULMEIDE_TOO_POOR, "no,15\n", SESSION_CELLS);
     expect_need("need,71", room, SESSION_CELLS - 1, HULMEIDE_FEW_CELLS, "no,8\n", 0);
-    expect_need("need,64001", room, 0, HULMEIDE_OUT_OF_RANGE, "no,5\n", 0);
-    expect_need("need,064000", room, 0, HULMEIDE_BAD_FORM, "no,3\n", 0);
+    expect_need("need,128001", room, 0, HULMEIDE_OUT_OF_RANGE, "no,5\n", 0);
+    expect_need("need,0128000", room, 0, HULMEIDE_BAD_FORM, "no,3\n", 0);
     expect_need("need,70", room - 1, SESSION_CELLS, HULMEIDE_TURNED_AWAY, "", 0);
     expect_line("last", HULMEIDE_ACCEPTED, 53);
     expect_plan("the plan after needs");
     planner->book.starts = 0;
-    expect_need("need,64000", room, SESSION_CELLS, HULMEIDE_NONE_FITS, "no,9\n", SESSION_CELLS);
+    expect_need("need,128000", room, SESSION_CELLS, HULMEIDE_NONE_FITS, "no,9\n", SESSION_CELLS);
     expect_need("need,0", room, SESSION_CELLS - 1, HULMEIDE_FEW_CELLS, "no,8\n", 0);
     planner->book.starts = 3;
     expect_plan("the plan after a need that no set fits");
@@ -424,10 +435,99 @@ static void expect_drop(void)
     expect_load("the place that is free again", loads->items[4], 0, 0, 0, 0);
 }
 
-int main(void)
+/* Every number from 0 to two past the most loads, added to the empty set and to that of all loads: which loads are in it, and in which word. */
+static void expect_sets(void)
 {
-    expect("the archive's version", hulmeide_version(), HULMEIDE_VERSION);
-    make_planner();
+    const struct hulmeide_load_set empty = {0, 0};
+    const struct hulmeide_load_set all = {~(uint64_t)0, ~(uint64_t)0};
+    size_t right = 0;
+    for (size_t load = 0; load <= HULMEIDE_MAX_LOADS + 2; load++) {
+        int there = load >= 1 && load <= HULMEIDE_MAX_LOADS;
+        struct hulmeide_load_set one = hulmeide_with_load(empty, load);
+        struct hulmeide_load_set same = hulmeide_with_load(all, load);
+        uint64_t low = there && load <= 64 ? (uint64_t)1 << (load - 1) : 0;
+        uint64_t high = there && load > 64 ? (uint64_t)1 << (load - 65) : 0;
+        right += one.low == low && one.high == high && same.low == all.low && same.high == all.high;
+        right += hulmeide_has_load(one, load) == there && hulmeide_has_load(all, load) == there && !hulmeide_has_load(empty, load);
+    }
+    expect("sets that are right", right, 2 * (HULMEIDE_MAX_LOADS + 3));
+    expect("load 1 is in that of load 65", (size_t)hulmeide_has_load(hulmeide_with_load(empty, 65), 1), 0);
+    expect("load 65 is in that of load 1", (size_t)hulmeide_has_load(hulmeide_with_load(empty, 1), 65), 0);
+}
+
+/* The session's book over the most loads, all below load 1 and worth 1 each. Loads 2, 64, 65 and 128 draw 1 W, the others nothing. */
+static void make_full(void)
+{
+    expect_line("budget,0", HULMEIDE_ACCEPTED, 3);
+    while (kept.planner.loads.count > 0) {
+        char line[HULMEIDE_LINE_BYTES];
+        snprintf(line, sizeof line, "drop,%zu", kept.planner.loads.count);
+        expect_line(line, HULMEIDE_ACCEPTED, 3);
+    }
+    expect_line("load,0,0,1", HULMEIDE_ACCEPTED, 3);
+    for (size_t load = 2; load <= HULMEIDE_MAX_LOADS; load++) {
+        int draws = load == 2 || load == 64 || load == 65 || load == 128;
+        expect_line(draws ? "load,1,1,1" : "load,1,0,1", HULMEIDE_ACCEPTED, 3);
+    }
+    expect_line("load,1,0,1", HULMEIDE_FULL, 5);
+    expect("the most loads", kept.planner.loads.count, 128);
+    expect_load("the last load", kept.planner.loads.items[HULMEIDE_MAX_LOADS - 1], 1, 1, 1, 0);
+}
+
+/* A line with so many free bytes. */
+static void expect_with(size_t free_bytes, const char *line, size_t number, size_t count)
+{
+    expect_reply(line, hulmeide_call_text(&kept.planner, line, out, free_bytes, 0, work, FULL_CELLS), number, count);
+}
+
+/* A `check` with so many bits, all of them 1 but those of the loads that draw. */
+static void expect_check(size_t free_bytes, size_t bits, size_t number, size_t count)
+{
+    char line[2 * HULMEIDE_LINE_BYTES] = "check,";
+    memset(line + 6, '1', bits);
+    line[6 + 1] = line[6 + 63] = line[6 + 64] = line[6 + 127] = '0';
+    expect_with(free_bytes, line, number, count);
+}
+
+/* A budget of 0 with so many digits. */
+static void expect_zeros(size_t digits, size_t number, size_t count)
+{
+    char line[2 * HULMEIDE_LINE_BYTES] = "budget,";
+    memset(line + 7, '0', digits);
+    expect_with(HULMEIDE_FREE_BYTES, line, number, count);
+}
+
+/* The plan of the most loads leaves those off that draw. Its answer has 9 lines of 10 bytes, 90 of 11 and 29 of 12 after its first. */
+static void expect_full(void)
+{
+    const uint64_t low = ~(uint64_t)0 - 2 - ((uint64_t)1 << 63);
+    const uint64_t high = ~(uint64_t)0 - 1 - ((uint64_t)1 << 63);
+    const size_t rows = 9 * 10 + 90 * 11 + 29 * 12;
+    make_full();
+    expect("cells of the most loads", hulmeide_cells_needed(&kept.planner), FULL_CELLS);
+    expect_with(HULMEIDE_RUN_BYTES - 1, "plan", HULMEIDE_TURNED_AWAY, 0);
+    expect_no_run("nothing stored by a plan turned away", HULMEIDE_OUTCOME_NOTHING);
+    expect_with(HULMEIDE_RUN_BYTES, "plan", HULMEIDE_ACCEPTED, 15 + rows);
+    expect("the plan's first line", memcmp(out, "plan,124,0,124\n", 15) != 0, 0);
+    expect_set("the set of the most loads", kept.planner.outcome.run.set, low, high);
+    expect_entry("load 127 of the most", 127, 1, 2, 1);
+    expect_entry("load 128 of the most", 128, 1, 1, 1);
+    expect_with(HULMEIDE_RUN_BYTES, "last", HULMEIDE_ACCEPTED, 15 + rows);
+    expect_with(HULMEIDE_FREE_BYTES, "last", HULMEIDE_TURNED_AWAY, 0);
+    expect_check(HULMEIDE_RUN_BYTES, 128, HULMEIDE_ACCEPTED, 4 + rows);
+    expect_check(HULMEIDE_RUN_BYTES - 1, 128, HULMEIDE_TURNED_AWAY, 0);
+    expect_check(HULMEIDE_RUN_BYTES, HULMEIDE_LINE_BYTES - 6, HULMEIDE_OUT_OF_RANGE, 5);
+    expect_check(HULMEIDE_FREE_BYTES, HULMEIDE_LINE_BYTES - 5, HULMEIDE_LONG_LINE, 5);
+    expect_with(HULMEIDE_FREE_BYTES, "check,2", HULMEIDE_BAD_FORM, 5);
+    expect_with(HULMEIDE_FREE_BYTES, "plan,", HULMEIDE_BAD_FORM, 5);
+    expect_with(HULMEIDE_FREE_BYTES, "budget,100000", HULMEIDE_OUT_OF_RANGE, 5);
+    expect_zeros(HULMEIDE_MAX_DIGITS + 1, HULMEIDE_BAD_FORM, 5);
+    expect_zeros(HULMEIDE_MAX_DIGITS, HULMEIDE_ACCEPTED, 3);
+}
+
+/* The tables of the session, field by field. */
+static void expect_tables(void)
+{
     const struct hulmeide_book *book = &kept.planner.book;
     expect("states", book->states, 2);
     expect("stages", book->stages, 2);
@@ -442,8 +542,15 @@ int main(void)
     expect("loads", kept.planner.loads.count, 4);
     expect_load("load 1", kept.planner.loads.items[0], 0, 10, 0, 0);
     expect_load("load 4", kept.planner.loads.items[3], 2, 7, 50, 0);
-    expect_load("load 64", kept.planner.loads.items[HULMEIDE_MAX_LOADS - 1], 0, 0, 0, 0);
+    expect_load("the last place of the loads", kept.planner.loads.items[HULMEIDE_MAX_LOADS - 1], 0, 0, 0, 0);
     expect("budget", kept.planner.budget, 30);
+}
+
+int main(void)
+{
+    expect("the archive's version", hulmeide_version(), HULMEIDE_VERSION);
+    make_planner();
+    expect_tables();
     expect_last();
     expect_last_of_none();
     expect_outcome_tested();
@@ -454,6 +561,8 @@ int main(void)
     expect_saves();
     expect_kinds();
     expect_drop();
+    expect_sets();
+    expect_full();
     expect("bytes kept after the planner", bytes_kept(kept.guard, GUARD_BYTES), GUARD_BYTES);
     printf("%d passed, %d failed\n", passed, failed);
     return failed != 0;

@@ -3,10 +3,11 @@
 
   handheldcheck.py LINE_PROGRAM HANDHELD [--sessions N] [--seed S] [--interrupted LIBRARY]
 
-On the stored session, tests/handheld, it must print the stored bytes, which the model has too, with answers by plain enumeration; also where
-every other read and write is interrupted. The inputs of examples.py, with `page,K` lines among them, must be answered as the line program answers
-them, with the rows sent to the glass between the answers. On a terminal the frame must show the same pages, one row after the other, with its
-lamp, and the answers must stay below it. Models that are wrong on purpose must be told apart on the stored session.
+On the stored session, tests/handheld, whose last cabinet has the most loads, it must print the stored bytes, which the model has too, with answers
+by plain enumeration; also where every other read and write is interrupted. The inputs of examples.py, with `page,K` lines among them, must be
+answered as the line program answers them, with the rows sent to the glass between the answers. On a terminal the frame must show the same pages,
+one row after the other, with its lamp, and the answers must stay below it. Models that are wrong on purpose must be told apart on the stored
+session.
 The last line is 'N passed, M failed'.
 """
 import argparse
@@ -18,14 +19,14 @@ import sys
 from pathlib import Path
 
 from examples import answers_at_once, endures, inputs, printed
-from limits import MAX_LOADS, NUMBERS, PAGE_BYTES, PAGE_ROWS, ROW_BYTES
+from limits import MAX_DIGITS, MAX_LOADS, NUMBERS, PAGE_BYTES, PAGE_ROWS, ROW_BYTES
 from oracle import Oracle
 from pages import Asked, Pages, cut, put
 from script import Followed, stored
 from texts import grouped
 
 STORED = Path('tests/handheld')
-SCROLL = re.compile(rb'page,([0-9]{1,5})')
+SCROLL = re.compile(rb'page,([0-9]{1,%d})' % MAX_DIGITS)
 BLANK = b' ' * PAGE_BYTES
 EDGE = b'+' + b'-' * ROW_BYTES + b'+'
 OUT_OF_RANGE = NUMBERS['OUT_OF_RANGE']
@@ -254,8 +255,8 @@ def with_scrolls(rng, data):
     """An input with lines of the handheld's own among the others."""
     lines = in_lines(data)
     for _ in range(len(lines) // 8):
-        load = rng.choice((0, 1, 1, 2, 3, 4, 5, 9, MAX_LOADS - 6, MAX_LOADS, MAX_LOADS + 1, rng.randint(1, MAX_LOADS), 99999))
-        lines.insert(rng.randrange(len(lines) + 1), b'page,' + str(load).zfill(rng.choice((1, 1, 3, 5))).encode())
+        load = rng.choice((0, 1, 1, 2, 3, 4, 5, 9, MAX_LOADS - 6, MAX_LOADS, MAX_LOADS + 1, rng.randint(1, MAX_LOADS), 10**MAX_DIGITS - 1))
+        lines.insert(rng.randrange(len(lines) + 1), b'page,' + str(load).zfill(rng.choice((1, 1, 3, MAX_DIGITS, MAX_DIGITS + 1))).encode())
     return b'\n'.join(lines) + rng.choice((b'', b'\n'))
 
 

@@ -6,7 +6,7 @@ touch.
 import ctypes
 
 import script
-from limits import CELLS, PLANNER_BYTES, SAVE_BYTES, VERSION, Part, Reply, StoredPlanner
+from limits import CELLS, PLANNER_BYTES, SAVE_BYTES, VERSION, WORD_LOADS, Part, Reply, StoredPlanner
 
 GUARD = bytes(range(160, 224))
 
@@ -108,7 +108,8 @@ def content_with(p):
     book.row_rules.items[:], book.row_rules.count = p.row_rules, p.row_rule_count
     loads.items[:], loads.count = [(parent, kind, power, worth) for parent, power, worth, kind in p.loads], p.load_count
     planner.budget = p.budget
-    planner.outcome.status, run.set = p.status, p.set
+    planner.outcome.status = p.status
+    run.set.low, run.set.high = p.set % 2**WORD_LOADS, p.set >> WORD_LOADS
     run.states[:], run.load_rules[:], run.row_rules[:] = zip(*p.run)
     return bytes(planner)
 
@@ -122,7 +123,7 @@ def held(content):
     p.row_rules, p.row_rule_count = rules_in(book.row_rules), book.row_rules.count
     p.loads, p.load_count = [(load.parent, load.power, load.worth, load.kind) for load in loads.items], loads.count
     p.budget = planner.budget
-    p.status, p.set = planner.outcome.status, run.set
+    p.status, p.set = planner.outcome.status, run.set.low + (run.set.high << WORD_LOADS)
     p.run = list(zip(run.states, run.load_rules, run.row_rules))
     return p
 

@@ -10,19 +10,23 @@ session ends with, each with the free bytes that it needs, must make the planner
 Then the planner is handed in with any outcome in the place of its own, and now and then with any kind, in range or not. Callers that are wrong on
 purpose are given the same lines, with the same output and work, and each must be told apart.
 The sessions of edges.py, with what the line program lends, must have the answers that stand there, and planners that are wrong on purpose must
-be told apart in one of them. The last line is 'N passed, M failed'.
+be told apart in one of them. The free bytes that lines need are given to the last byte, by name, on a cabinet of the most loads and on a fresh
+planner. The last line is 'N passed, M failed'.
 """
 import argparse
+import copy
 import random
 import sys
 from collections import Counter, namedtuple
 
 import script
 from crosscheck import NAMED, sessions
-from edges import EDGES
+from edges import EDGES, LAST, ON_FIRST, marked
+from fronts import Fronts
 from library import Lent, Library, Planner, content_with, held
-from limits import FREE_BYTES, MAX_BUDGET, MAX_NEED, NO_SET, NOTHING, PLANNED, PLANNER_BYTES, SAVE_BYTES
-from oracle import Oracle, bytes_needed
+from limits import FREE_BYTES, LINE_BYTES, MAX_BUDGET, MAX_LOADS, MAX_NEED, NO_SET, NOTHING, PLANNED, PLANNER_BYTES, RUN_BYTES, SAVE_BYTES
+from limits import WORD_LOADS
+from oracle import Oracle, bytes_needed, parse
 from outcomes import with_any_kind, with_any_outcome
 from script import is_plan, number_of, searches, stored, zero_cells
 from wrong_oracles import CellsOfLeast, FewCellsWipe, budget_in
@@ -40,7 +44,7 @@ def rubbish(rng, count):
 def lent(rng, line, cells):
     """An output, a place in it, and a work: mostly enough for the line, now and then too little."""
     needed = bytes_needed(line)
-    room = rng.choice((needed, needed, needed + 9, needed - 1, FREE_BYTES, 0))
+    room = rng.choice((needed, needed, needed, needed + 9, needed - 1, FREE_BYTES, RUN_BYTES, 0))
     place = rng.choice((0, 0, 1, 40))
     output = rubbish(rng, room + place)
     if rng.random() < 0.05:
@@ -91,7 +95,17 @@ class Caller(Oracle):
         return number, len(text), written(output, place, text), bytes(zeros) + work[zeros:]
 
 
+class LargeCaller(Fronts, Caller):
+    """The caller with fronts in the place of enumeration, for large trees."""
+
+
 # ---- callers that are wrong on purpose in what no line program can tell
+
+
+def parse_word(line):
+    """The word of a line that is in form, or None."""
+    command = parse(line) if len(line) <= LINE_BYTES else None
+    return command and command[0]
 
 
 class FewCells(FewCellsWipe, Caller):
@@ -147,6 +161,94 @@ class NineNeedsLittleRoom(Caller):
 
     def needed(self, line):
         return len('no,9\n') if line == b'last' and self.outcome == NO_SET else super().needed(line)
+
+
+class RunNeedsLittleRoom(Caller):
+    """A command that shows a run needs as many free bytes as any other line, as before request Ten. Those below name it."""
+    word = b''
+
+    def needed(self, line):
+        return FREE_BYTES if parse_word(line) == self.word else super().needed(line)
+
+
+class PlanNeedsLittleRoom(RunNeedsLittleRoom):
+    """1,024 bytes are enough for `plan`."""
+    word = 'plan'
+
+
+class LastNeedsLittleRoom(RunNeedsLittleRoom):
+    """1,024 bytes are enough for `last`."""
+    word = 'last'
+
+
+class CheckNeedsLittleRoom(RunNeedsLittleRoom):
+    """1,024 bytes are enough for `check`."""
+    word = 'check'
+
+
+class RefusedCheckNeedsLittleRoom(Caller):
+    """1,024 bytes are enough for a check of another number of bits than there are loads."""
+
+    def needed(self, line):
+        is_refused = parse_word(line) == 'check' and not self.in_range(*parse(line))
+        return FREE_BYTES if is_refused else super().needed(line)
+
+
+class BrokenCheckNeedsRoom(Caller):
+    """A line that only begins like a check needs as many free bytes as one."""
+
+    def needed(self, line):
+        return RUN_BYTES if line.startswith(b'check,') else super().needed(line)
+
+
+class BrokenPlanNeedsRoom(Caller):
+    """A line that only begins like `plan` or `last` needs as many free bytes as it does."""
+
+    def needed(self, line):
+        return RUN_BYTES if line.startswith((b'plan', b'last')) else super().needed(line)
+
+
+class ChangeNeedsRoomOfRun(Caller):
+    """Every line but a save needs as many free bytes as a plan."""
+
+    def needed(self, line):
+        return max(RUN_BYTES, super().needed(line))
+
+
+class NeedNeedsRoomOfRun(Caller):
+    """`need` needs as many free bytes as a plan."""
+
+    def needed(self, line):
+        return RUN_BYTES if is_need(line) else super().needed(line)
+
+
+class RunNeedsRoomOfSave(Caller):
+    """`plan`, `last` and `check` need as many free bytes as a save."""
+
+    def needed(self, line):
+        return SAVE_BYTES if super().needed(line) == RUN_BYTES else super().needed(line)
+
+
+class ByteLess(Caller):
+    """A line that needs more than others needs one byte less than it does."""
+
+    def needed(self, line):
+        needed = super().needed(line)
+        return needed - 1 if needed > FREE_BYTES else needed
+
+
+class SaveNeedsRoomAsBefore(Caller):
+    """A save needs 3,000 free bytes, as before request Ten."""
+
+    def needed(self, line):
+        return 3000 if super().needed(line) == SAVE_BYTES else super().needed(line)
+
+
+class SaveNeedsRoomOfRun(Caller):
+    """A save needs as many free bytes as a plan."""
+
+    def needed(self, line):
+        return min(RUN_BYTES, super().needed(line))
 
 
 class Save1NeedsLittleRoom(Caller):
@@ -259,7 +361,9 @@ WRONG = [
     FewCells, TurnedAwayWipes, TurnedAwayStores, LastFillsWork, LastNeedsCells, LastNeedsRoomOfSave, NoPlanNeedsLittleRoom, NineNeedsLittleRoom,
     Save1NeedsLittleRoom, KindsNeedLittleRoom, BrokenSave1NeedsRoom, Save1FillsWork, NeedNeedsRoomOfSave, NeedNeedsLittleRoom,
     NeedKeepsWork, PoorKeepsWork, NoneFitsNeedKeepsWork, OutOfRangeZeroes, FewCellsZeroes, CellsOfLeastZeroes,
-    NeedWithFewerCells, TurnedAwayNeedWipes,
+    NeedWithFewerCells, TurnedAwayNeedWipes, PlanNeedsLittleRoom, LastNeedsLittleRoom, CheckNeedsLittleRoom, RefusedCheckNeedsLittleRoom,
+    BrokenCheckNeedsRoom, BrokenPlanNeedsRoom, ChangeNeedsRoomOfRun, NeedNeedsRoomOfRun, RunNeedsRoomOfSave, ByteLess, SaveNeedsRoomAsBefore,
+    SaveNeedsRoomOfRun,
 ]
 
 
@@ -268,9 +372,9 @@ WRONG = [
 Call = namedtuple('Call', 'line given got left')  # given: output, place and work; left: the planner
 
 
-def calls_of(rng, planner, lines):
+def calls_of(rng, planner, lines, caller=Caller):
     """The calls of a session. The tables as the paper has them say how many cells a plan needs. In half of the sessions a change is lent enough."""
-    caller, made, built = Caller(), [], rng.random() < 0.5
+    caller, made, built = caller(), [], rng.random() < 0.5
     for line in lines:
         is_change = line.split(b',')[0] not in SHOWING
         given = enough(rng, line) if built and is_change else lent(rng, line, caller.cells())
@@ -393,10 +497,10 @@ class RunKept(Planner):
 WRONG_PLANNERS = [PlaceKept, KindKept, KindsKept, RunKept]
 
 
-def edge_fault(planner, case):
+def edge_fault(planner, name):
     """None, or the first line of a session by name that is not answered as it stands there, or leaves another planner."""
-    oracle = Oracle()
-    for line, answer in zip(*case):
+    oracle = Fronts()
+    for line, answer in zip(*EDGES[name]):
         got = planner.answer(line)
         oracle.answer(line)
         if got != answer:
@@ -408,7 +512,43 @@ def edge_fault(planner, case):
 
 def edge_faults(kind, library):
     """What is wrong in each session by name, with a planner of this kind."""
-    return [edge_fault(kind(library).fresh(), case) for case in EDGES.values()]
+    return (edge_fault(kind(library).fresh(), name) for name in EDGES)
+
+
+# ---- free bytes, to the last one
+
+
+# The lines of a cabinet of the most loads, each of which is on or off as it likes.
+FREE_CABINET = [line.encode() for line in (*ON_FIRST.split(), 'load,0,1,1', *['load,1,1,1'] * (MAX_LOADS - 1), 'budget,9')]
+BITS = marked((WORD_LOADS, WORD_LOADS + 1, LAST)).encode()
+# Lines, each with the free bytes that it needs, on that cabinet and on a fresh planner.
+ROOMS = {
+    **dict.fromkeys((b'plan', b'last', b'check,' + BITS, b'check,0' + BITS, b'check,1', b'check,'.ljust(LINE_BYTES, b'1')), RUN_BYTES),
+    **dict.fromkeys((b'save', b'save1'), SAVE_BYTES),
+    **dict.fromkeys((b'', b'plan,', b'Plan', b'last,', b'check', b'check,', b'check,2', b'check,' + BITS[1:] + b'2', b'check,1,1'), FREE_BYTES),
+    **dict.fromkeys((b'check,'.ljust(LINE_BYTES + 1, b'1'), b'plan'.ljust(LINE_BYTES, b'n'), b'save'.ljust(LINE_BYTES + 1, b'e')), FREE_BYTES),
+    **dict.fromkeys((b'need,0', b'need,%d' % (MAX_NEED + 1), b'need,', b'save,', b'save1,', b'save,1', b'saves'), FREE_BYTES),
+    **dict.fromkeys((b'clear', b'budget,500', b'budget,501', b'load,1,1,1', b'load,0,1,1', b'drop,%d' % LAST, b'power,%d,0' % LAST), FREE_BYTES),
+}
+
+
+def room_fault(rng, library, tables, line, free):
+    """None, or that a line on a planner with these tables is not answered as it is to be with so many free bytes."""
+    planner, caller = Planner(library, content_with(stored(tables))), copy.deepcopy(tables)
+    given = rubbish(rng, free + 9), 9, rubbish(rng, 4 * caller.cells())
+    want, got = caller.call(line, *given), planner.call(line, *given)
+    if got == want and (got[0] == 1) == (free < ROOMS[line]) and held(planner.state.content()).same(stored(caller)):
+        return None
+    return '%r with %d free bytes: %r for %r' % (line, free, got[:2], want[:2])
+
+
+def room_faults(rng, library):
+    """What is wrong with each line with just the free bytes that it needs, with one less, and with those that other lines need."""
+    fresh, full = LargeCaller(), LargeCaller()
+    for line in FREE_CABINET:
+        full.answer(line)
+    rooms = FREE_BYTES - 1, FREE_BYTES, RUN_BYTES - 1, RUN_BYTES, SAVE_BYTES - 1, SAVE_BYTES
+    return [room_fault(rng, library, tables, line, free) for tables in (fresh, full) for line in ROOMS for free in rooms]
 
 
 # ---- all of it
@@ -435,8 +575,8 @@ class Checked:
         self.faults += outcome_faults(self.rng, self.library, calls[-1].left, asked, HANDED_IN, self.seen)
 
     def named(self):
-        self.faults += edge_faults(Planner, self.library)
-        asked = (b'last', b'save', b'save1', b'drop,64', b'need,0')
+        self.faults += [*edge_faults(Planner, self.library), *room_faults(self.rng, self.library)]
+        asked = (b'last', b'save', b'save1', b'drop,%d' % MAX_LOADS, b'need,0')
         self.faults += outcome_faults(self.rng, self.library, fullest(self.library), asked, FULLEST, self.seen)
         untold = sorted(caller.__name__ for caller in self.untold)
         untold += [kind.__name__ for kind in WRONG_PLANNERS if not any(edge_faults(kind, self.library))]

@@ -1,11 +1,11 @@
-"""Paper 01 and requests One to Five, Eight and Nine of paper 02 by plain enumeration: every run of every set, straight from the text. It shares no
+"""Paper 01 and requests One to Five and Eight to Ten of paper 02 by plain enumeration: every run of every set, straight from the text. It shares no
 code with the product, and with the header of the product only the limits.
 
-It is slow on purpose. Trees of up to five or six loads and small books are what it is for.
+It is slow on purpose. Trees of up to five or six loads and small books are what it is for. For large trees there is fronts.py.
 """
 import re
 
-from limits import CELLS, FREE_BYTES, LINE_BYTES, SAVE_BYTES
+from limits import CELLS, FREE_BYTES, LINE_BYTES, RUN_BYTES, SAVE_BYTES
 from limits import MAX_BUDGET, MAX_DIGITS, MAX_KIND, MAX_LOADS, MAX_NEED, MAX_POWER, MAX_RULES, MAX_STAGES, MAX_STATES, MAX_WORTH
 from limits import NO_SET, NOTHING
 
@@ -39,13 +39,19 @@ def parse(line):
     return name, [int(f) for f in fields]
 
 
+NEEDED = {'plan': RUN_BYTES, 'last': RUN_BYTES, 'check': RUN_BYTES, 'save': SAVE_BYTES, 'save1': SAVE_BYTES}
+
+
 def bytes_needed(line):
-    """How many bytes must be free for the answer to a line."""
-    return SAVE_BYTES if len(line) <= LINE_BYTES and parse(line) in (('save', []), ('save1', [])) else FREE_BYTES
+    """How many bytes must be free for the answer to a line: "`plan`, `last` and `check` need 2,048 free bytes, saves 4,096"."""
+    command = parse(line) if len(line) <= LINE_BYTES else None
+    return NEEDED.get(command[0], FREE_BYTES) if command else FREE_BYTES
 
 
 class Oracle:
     """The tables of a planner and the outcome that it stores, and what each line answers."""
+    most_bytes = LINE_BYTES  # of a line
+    most_loads = MAX_LOADS
     most_kind = MAX_KIND
     most_need = MAX_NEED
 
@@ -317,7 +323,7 @@ class Oracle:
             return 4
         if not self.in_range(word, f):
             return 5
-        kept, most = {'load': (self.loads, MAX_LOADS), 'rule': (self.rules, MAX_RULES), 'row': (self.rows, MAX_RULES)}.get(word, ([], 1))
+        kept, most = {'load': (self.loads, self.most_loads), 'rule': (self.rules, MAX_RULES), 'row': (self.rows, MAX_RULES)}.get(word, ([], 1))
         if len(kept) >= most:
             return 6
         if word in ('rule', 'row') and any(self.is_same(tuple(f), rule) for rule in kept):
@@ -371,7 +377,7 @@ class Oracle:
 
     def answer(self, line, cells=CELLS):
         """The lines printed for a line."""
-        if len(line) > LINE_BYTES:
+        if len(line) > self.most_bytes:
             return ['no,2']
         command = parse(line)
         number = self.refusal(command, cells)

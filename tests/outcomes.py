@@ -1,7 +1,7 @@
 """Outcomes and kinds by chance, in range and out of it, for planners that are handed in."""
 import copy
 
-from limits import MAX_KIND, MAX_LOADS, MAX_RULES, NO_SET, NOTHING, PLANNED
+from limits import MAX_KIND, MAX_LOADS, MAX_RULES, NO_SET, NOTHING, PLANNED, WORD_LOADS
 from script import padded
 
 
@@ -20,7 +20,8 @@ def any_run(rng, p):
 
 def damage(rng, q):
     """Changes one figure of an outcome."""
-    place = rng.choice((0, max(0, q.load_count - 1), min(q.load_count, MAX_LOADS - 1), rng.randrange(MAX_LOADS), MAX_LOADS - 1))
+    ends = max(0, q.load_count - 1), min(q.load_count, MAX_LOADS - 1), WORD_LOADS - 1, WORD_LOADS, MAX_LOADS - 1
+    place = rng.choice((0, *ends, rng.randrange(MAX_LOADS)))
     state, rule, row = q.run[place]
     figure = rng.choice(('state', 'rule', 'row', 'set', 'status'))
     if figure == 'state':

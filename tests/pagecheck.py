@@ -24,7 +24,7 @@ from pathlib import Path
 from crosscheck import EVERY_KIND, Figures, any_book, budget_line, load_line, session
 from edges import ALL_ON
 from library import Library, Planner, content_with
-from limits import MAX_BUDGET, MAX_LOADS, MAX_POWER, MAX_WORTH, NO_SET, NOTHING, PAGE_BYTES, PAGE_ROWS, PLANNED, ROW_BYTES
+from limits import MAX_BUDGET, MAX_LOADS, MAX_POWER, MAX_WORTH, NO_SET, NOTHING, PAGE_BYTES, PAGE_ROWS, PLANNED, ROW_BYTES, WORD_LOADS
 from oracle import Oracle
 from outcomes import with_any_outcome
 from page_edges import EDGES
@@ -33,21 +33,21 @@ from script import DARK, Followed, changed, keeps_limits, padded, stored
 from wrong_pages import WRONG
 
 WIDE = Figures(range(MAX_POWER + 1), range(MAX_WORTH + 1), range(MAX_BUDGET + 1))
-COUNTS = 0, 1, 2, 6, 7, 8, 13, 14, 15, 33, MAX_LOADS - 1, MAX_LOADS
+COUNTS = 0, 1, 2, 6, 7, 8, 13, 14, 15, 33, WORD_LOADS, WORD_LOADS + 1, MAX_LOADS - 1, MAX_LOADS
 LENGTHS = PAGE_BYTES, PAGE_BYTES - 1, PAGE_BYTES + 1, 0, 1, ROW_BYTES, 2 * PAGE_BYTES, 2**8 + PAGE_BYTES
 IN_SESSION = 2  # pages drawn after each line
 HANDED_IN = 8  # and of each planner handed in
 BROKEN = (
-    'size 9 1', 'size 0 1', 'marks 255 0', 'marks 0 255', 'budget 501', 'counts 33 0 0', 'counts 0 33 0', 'counts 0 0 65', 'rubbish',
+    'size 9 1', 'size 0 1', 'marks 255 0', 'marks 0 255', 'budget 501', 'counts 33 0 0', 'counts 0 33 0', 'counts 0 0 129', 'rubbish',
     'rule of sort 1 at place 31: 0 0 1', 'rule of sort 2 at place 31: 1 0 0', 'load at place 0: 1 0 0', 'load at place 0: 0 501 0',
-    'load at place 0: 0 0 1001', 'load at place 63: 64 0 0', 'load at place 0: 0 0 0 4', 'rule of sort 1 at place 0: 1 0 1 4',
+    'load at place 0: 0 0 1001', 'load at place 127: 128 0 0', 'load at place 0: 0 0 0 4', 'rule of sort 1 at place 0: 1 0 1 4',
     'rule of sort 2 at place 0: 1 1 1 1', 'rule of sort 1 at place 31: 0 0 0 1', 'rule of sort 2 at place 31: 0 0 0 1',
 )
 
 
 def loads_near(count):
     """The numbers of loads around every end, with so many loads."""
-    near = 0, 1, 2, count - 7, count - 6, count - 5, count - 1, count, count + 1, MAX_LOADS, MAX_LOADS + 1
+    near = 0, 1, 2, count - 7, count - 6, count - 5, count - 1, count, count + 1, WORD_LOADS - 3, WORD_LOADS + 1, MAX_LOADS, MAX_LOADS + 1
     return sorted({k for k in near if k >= 0}) + [2**8 + 1, 2**16 + 1, 2**32, 2**32 + 1, 2**63 + 1, 2**64 - 7, 2**64 - 1]
 
 
@@ -81,11 +81,18 @@ def cabinet(rng):
 
 def plain_cabinet(count, status):
     """So many loads, no two with the same figures, and an outcome of this status, with every third load on where it is a plan."""
-    p = with_lines([*ALL_ON.split(), *('load,%d,%d,%d' % (min(k, 1), 7 * k, 1000 - k) for k in range(count))])
+    p = with_lines([*ALL_ON.split(), *('load,%d,%d,%d' % (min(k, 1), 3 * k, 1000 - k) for k in range(count))])
     p.status = status
     if status == PLANNED:
         p.run, p.set = padded([(1, 1, min(k, 1)) for k in range(count)], MAX_LOADS), sum(1 << k for k in range(0, count, 3))
     return p
+
+
+def with_all_on(p):
+    """The planner with each load on in the plan that is stored: of the most loads the worth has six digits."""
+    q = copy.copy(p)
+    q.set = 2**p.load_count - 1
+    return q
 
 
 def made_old(p, latest):
@@ -169,9 +176,11 @@ def of_cabinet(rng, observed):
 
 
 def of_every_end(rng, observed):
-    """Pages of cabinets of several sizes, with each status of an outcome and one that there is not, from each load around an end, on each length."""
+    """Pages of cabinets of several sizes, with some loads on and with all, with each other status of an outcome and one that there is not, from
+    each load around an end, on each length."""
     for count in COUNTS:
-        for p in [plain_cabinet(count, status) for status in (NOTHING, NO_SET, PLANNED, PLANNED + 1)]:
+        planned = plain_cabinet(count, PLANNED)
+        for p in [planned, with_all_on(planned), *(plain_cabinet(count, status) for status in (NOTHING, NO_SET, PLANNED + 1))]:
             planner, kept = Planner(observed.library, content_with(p)), keeps_limits(p)
             for load in loads_near(count):
                 for length in LENGTHS:

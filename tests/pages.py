@@ -1,5 +1,5 @@
-"""The handheld page, request Six of paper 02, sentence by sentence: pages, drawings and stretches. It shares no code with the product, and with
-the header of the product only the limits.
+"""The handheld page, request Six of paper 02 with the six digits of request Ten, sentence by sentence: pages, drawings and stretches. It shares no
+code with the product, and with the header of the product only the limits.
 """
 from collections import namedtuple
 
@@ -17,6 +17,7 @@ def cut(page, row):
 
 class Pages:
     """What is drawn, and what of it goes to the glass. wrong_pages.py gets each of these wrong on purpose."""
+    worth_digits = 6  # "the page's worth six digits" (request Ten)
 
     # ---- "A page is 8 rows of 20 ASCII bytes."
 
@@ -37,11 +38,11 @@ class Pages:
         return sum(load[2] for load in on), sum(load[1] for load in on)
 
     def first_row(self, p):
-        """"Row one is `worth `, five digits, a blank, three digits of power and `W`, or `no plan` after refusal 9"."""
+        """"Row one is `worth `, [six] digits, a blank, three digits of power and `W`, or `no plan` after refusal 9"."""
         if p.status == NO_SET:
             return 'no plan'
         worth, power = self.worth_and_power(p)
-        return 'worth ' + self.digits(worth, 5) + ' ' + self.digits(power, 3) + 'W'
+        return 'worth ' + self.digits(worth, self.worth_digits) + ' ' + self.digits(power, 3) + 'W'
 
     def own_power(self, p, k):
         """"the load's own power, on or off"."""

@@ -1,5 +1,5 @@
 """Scripts of tests: what every call and every run has to be answered, worked out without the product. oracle.py answers the lines, by plain
-enumeration.
+enumeration, and fronts.py those on large trees.
 
 Each line of a script is one step, a word and what follows it:
 
@@ -13,13 +13,14 @@ Each line of a script is one step, a word and what follows it:
     with CHANGE and CHANGE ..         calls, runs and pages for the planner with changes from outside, which are then forgotten
 
 LINEs are parted by one blank each, so two blanks stand around an empty one. crates/planner_tests/stdin is a script, of every step but `with`.
-tests/damaged is another, where `%` and two digits of base 16 stand for a byte of a LINE. A CHANGE is one of these, with places counted from 0:
+tests/largest is another, for which planner_tests has no room, and tests/damaged a third, where `%` and two digits of base 16 stand for a byte of a
+LINE. A CHANGE is one of these, with places counted from 0:
 
     size STATES STAGES                marks STARTS ENDS (the numbers that hold the marks)
     budget WATTS                      counts LOAD-RULES ROW-RULES LOADS
     rule of sort 1 at place I: STATE MARK STAGE      rule of sort 2 at place I: STAGE STATE NEXT
     load at place I: PARENT POWER WORTH              rubbish (255 in every byte)
-    status STATUS (of the outcome)                   set NUMBER (that holds the outcome's loads)
+    status STATUS (of the outcome)                   set LOW HIGH (the words that hold the outcome's loads, HIGH being 0 without it)
     run at place I: STATE LOAD-RULE ROW-RULE (of the outcome)
 
 A rule, of either sort, and a load may have a kind as last number, which is 0 without it.
@@ -28,8 +29,9 @@ import copy
 import re
 import sys
 
+from fronts import Fronts, is_run
 from limits import LINE_BYTES, MAX_BUDGET, MAX_KIND, MAX_LOADS, MAX_NEED, MAX_POWER, MAX_RULES, MAX_STAGES, MAX_STATES, MAX_WORTH
-from limits import NO_SET, NOTHING, PAGE_BYTES, PLANNED
+from limits import NO_SET, NOTHING, PAGE_BYTES, PLANNED, WORD_LOADS
 from oracle import Oracle, bytes_needed, parse
 from pages import Asked, Pages, put
 
@@ -38,11 +40,12 @@ UNUSED = (0, 0, 0, 0)  # and one of the rules or of the loads
 WORKED_RUN = [1, 2, 0, 1, 2, 1, 1, 2, 1, 1, 1, 1]
 HANDED_IN = (
     b'last', b'plan', b'', b'clear', b'check,1110', b'save', b'save1', b'drop,4', b'last,', b'need,70', b'need,0', b'need,%d' % (MAX_NEED + 1),
-    b'need,', b'x' * 99,
+    b'need,', b'x' * (LINE_BYTES + 1),
 )
 HANDED_IN_PAGES = (1, PAGE_BYTES), (4, PAGE_BYTES), (5, PAGE_BYTES), (MAX_LOADS, PAGE_BYTES), (1, PAGE_BYTES - 1), (0, PAGE_BYTES + 1)
 RUBBISH_BYTE = b'\xaa'  # what an output, a page and a glass hold before: no byte of an answer and of a page is this one
 DARK = RUBBISH_BYTE * PAGE_BYTES
+ENUMERATED = 9  # trees of more loads are not enumerated
 
 
 class Planner:
@@ -177,7 +180,7 @@ def keeps_limits(p, tables=TableLimits(), outcome=OutcomeLimits()):
 
 
 def tables_of(p):
-    tables = Oracle()
+    tables = Oracle() if p.load_count <= ENUMERATED else Fronts()
     tables.states, tables.stages = p.states, p.stages
     tables.starts, tables.ends = marks_on(p.starts), marks_on(p.ends)
     tables.rules = p.load_rules[: p.load_rule_count]
@@ -238,7 +241,7 @@ class Lent:
         return self.place <= self.size and self.size - self.place >= bytes_needed(line)
 
 
-ROOM = Lent(3090, 610, 20)
+ROOM = Lent(4190, 610, 20)
 
 
 class Reply:
@@ -286,18 +289,22 @@ def reply(p, lent, line):
 
 
 def verdict(p, run):
-    """The number of a refusal, or yes exactly if the run is among all runs."""
+    """The number of a refusal, or yes exactly if the run is one."""
     if not keeps_limits(p):
         return '1'
     if p.load_count == 0:
         return '4'
     if len(run) != 3 * p.load_count:
         return '5'
-    asked = {k + 1: tuple(run[3 * k : 3 * k + 3]) for k in range(p.load_count)}
-    for _, _, entries in tables_of(p).tree_runs():
-        if {k: entry[1:] for k, entry in entries.items()} == asked:
-            return 'yes'
-    return 'no'
+    return 'yes' if is_among_runs(tables_of(p), run) else 'no'
+
+
+def is_among_runs(tables, run):
+    """Is a run among all runs? On a large tree they are not enumerated."""
+    if len(tables.loads) > ENUMERATED:
+        return is_run(tables, run)
+    asked = {k + 1: tuple(run[3 * k : 3 * k + 3]) for k in range(len(tables.loads))}
+    return any({k: entry[1:] for k, entry in entries.items()} == asked for _, _, entries in tables.tree_runs())
 
 
 # ---- Changes from outside
@@ -315,7 +322,7 @@ def fill(p):
     p.loads = [(2**8 - 1, 2**16 - 1, 2**16 - 1, 2**8 - 1)] * MAX_LOADS
     p.load_rule_count = p.row_rule_count = p.load_count = 2**64 - 1
     p.budget = 2**16 - 1
-    p.status, p.run, p.set = 2**8 - 1, [(2**8 - 1,) * 3] * MAX_LOADS, 2**64 - 1
+    p.status, p.run, p.set = 2**8 - 1, [(2**8 - 1,) * 3] * MAX_LOADS, 2**MAX_LOADS - 1
 
 
 def with_kind(figures):
@@ -351,7 +358,7 @@ def make(q, change):
     elif name == 'status':
         (q.status,) = n
     elif name == 'set':
-        (q.set,) = n
+        q.set = n[0] + (n[1] << WORD_LOADS if len(n) > 1 else 0)
     elif name == 'run':
         q.run[n[0]] = tuple(n[1:])
     elif name == 'rubbish':

@@ -5,7 +5,7 @@
 
 Compared are the number, the count, every byte of the output, every cell of the work and every field of the planner after each call, the
 judge's answer on each run, and number, page, stretch and glass of each drawing. Which planners were turned away, in calls, by the judge and in
-drawings, must tell the limits of kinds and of a stored outcome from such as are wrong on purpose (wrong_limits.py).
+drawings, must tell the limits of kinds, of the most loads and of a stored outcome from such as are wrong on purpose (wrong_limits.py).
 The last line is 'N passed, M failed'.
 """
 import argparse
@@ -22,6 +22,12 @@ from wrong_limits import WRONG, keeps
 RUBBISH_CELL = b'rubb'
 VERDICTS = {'yes': 0, 'no': NOT_A_RUN}
 TURNED_AWAY = NUMBERS['TURNED_AWAY']
+
+
+def note(handed_in, p, away):
+    """Adds a planner that was handed in, with whether it was turned away, if it is not the latest one with the same."""
+    if not handed_in or handed_in[-1][0] is not p or handed_in[-1][1] != away:
+        handed_in.append((p, away))
 
 
 class Compared(Script):
@@ -50,13 +56,13 @@ class Compared(Script):
         want_work = bytes(4 * reply.zero_cells) + work[4 * reply.zero_cells:]
         got = planner.call(line, output, lent.place, work)
         if lent.has_room(line):
-            self.called_with.append((p, got[0] == TURNED_AWAY))
+            note(self.called_with, p, got[0] == TURNED_AWAY)
         self.compare(line, got, (reply.number, len(text), want_output, want_work))
         self.compare('the planner after %r' % line, vars(held(planner.state.content())), vars(reply.planner))
 
     def judged(self, p, run, verdict):
         got = Planner(self.library, content_with(p)).judge(run)
-        self.judged_with.append((p, got == TURNED_AWAY))
+        note(self.judged_with, p, got == TURNED_AWAY)
         self.compare('judge %r' % run, got, VERDICTS[verdict] if verdict in VERDICTS else int(verdict))
 
     def paged(self, asked, drawn, stretch, glass):
@@ -64,7 +70,7 @@ class Compared(Script):
         start, count, row = self.library.stretch(self.glass, page)
         shown = self.glass if number else put(self.glass, row, page[start:start + count])
         if len(page) == PAGE_BYTES:
-            self.drawn_with.append((asked.p, number == TURNED_AWAY))
+            note(self.drawn_with, asked.p, number == TURNED_AWAY)
         what = 'page %d %d' % (asked.load, len(asked.page))
         self.compare(what, ((number, page), (start, count, row), shown), (drawn, stretch, glass))
 

@@ -1,6 +1,8 @@
-"""Limits of kinds and of a stored outcome (script.py) that are wrong on purpose, each in one place. A script that cannot tell them from the
-product's would show nothing."""
-from limits import MAX_KIND, MAX_LOADS, NO_SET, NOTHING, PLANNED
+"""Limits of kinds, of the most loads and of a stored outcome (script.py) that are wrong on purpose, each in one place. A script that cannot tell
+them from the product's would show nothing."""
+import copy
+
+from limits import MAX_KIND, MAX_LOADS, NO_SET, NOTHING, PLANNED, WORD_LOADS
 from script import NONE, UNUSED, OutcomeLimits, TableLimits, keeps_limits, verdict
 
 # ---- kinds
@@ -118,6 +120,59 @@ class KindWithRule(TableLimits):
     def keep(self, p):
         kinds = {rule[3] for rule in p.load_rules[:p.load_rule_count]}
         return super().keep(p) and (not kinds or all(load[3] in kinds for load in p.loads[:p.load_count]))
+
+
+# ---- the most loads
+
+
+class LoadMore(TableLimits):
+    """There may be one load more."""
+
+    def loads_keep(self, loads, count):
+        return super().loads_keep(loads, min(count, MAX_LOADS) if count == MAX_LOADS + 1 else count)
+
+
+class LoadFewer(TableLimits):
+    """There may be one load fewer."""
+
+    def loads_keep(self, loads, count):
+        return count < MAX_LOADS and super().loads_keep(loads, count)
+
+
+class LoadsOfOneWord(TableLimits):
+    """There may be 64 loads, as before request Ten."""
+
+    def loads_keep(self, loads, count):
+        return count <= WORD_LOADS and super().loads_keep(loads, count)
+
+
+class LoadsAboveAWordNotTested(TableLimits):
+    """The figures of loads above 64 are not tested."""
+
+    def load_keeps(self, number, load):
+        return number > WORD_LOADS or super().load_keeps(number, load)
+
+
+class LastLoadNotTested(TableLimits):
+    """The figures of the last load that there may be are not tested."""
+
+    def load_keeps(self, number, load):
+        return number == MAX_LOADS or super().load_keeps(number, load)
+
+
+class ParentsOfOneWord(TableLimits):
+    """A parent has a number up to 64."""
+
+    def load_keeps(self, number, load):
+        return load[0] <= WORD_LOADS and super().load_keeps(number, load)
+
+
+class UnusedAboveAWordNotTested(TableLimits):
+    """Unused places for loads above 64 are not tested."""
+
+    def loads_keep(self, loads, count):
+        tested = max(count, WORD_LOADS)
+        return super().loads_keep(loads[:tested] + [UNUSED] * len(loads[tested:]), count)
 
 
 # ---- a stored outcome
@@ -303,7 +358,55 @@ class SetNotTested(OutcomeLimits):
     """The set may have any loads."""
 
     def sets(self, p):
-        return range(2**64)
+        return range(2**MAX_LOADS)
+
+
+class HighWordNotTested(OutcomeLimits):
+    """The second word of the set may have any loads."""
+
+    def keep(self, p):
+        q = copy.copy(p)
+        q.set = p.set % 2**WORD_LOADS
+        return super().keep(q)
+
+
+class HighWordOfMoreNotTested(OutcomeLimits):
+    """Where there are more than 64 loads the set may have any."""
+
+    def sets(self, p):
+        return range(2**MAX_LOADS) if self.used(p) > WORD_LOADS else super().sets(p)
+
+
+class HighWordEmpty(OutcomeLimits):
+    """The set has no load above 64."""
+
+    def sets(self, p):
+        return range(2 ** min(WORD_LOADS, self.used(p)))
+
+
+class LowWordNotTested(OutcomeLimits):
+    """The first word of the set may have any loads."""
+
+    def keep(self, p):
+        q = copy.copy(p)
+        q.set = p.set >> WORD_LOADS << WORD_LOADS
+        return super().keep(q)
+
+
+class EntriesAboveAWordNotTested(OutcomeLimits):
+    """The figures of loads above 64 are not tested."""
+
+    def entry_keeps(self, p, number, entry):
+        return number > WORD_LOADS or super().entry_keeps(p, number, entry)
+
+
+class UnusedRunAboveAWordNotTested(OutcomeLimits):
+    """The places above 64 that are beyond the loads may hold anything."""
+
+    def keep(self, p):
+        q, tested = copy.copy(p), max(self.used(p), WORD_LOADS)
+        q.run = p.run[:tested] + [NONE] * len(p.run[tested:])
+        return super().keep(q)
 
 
 class SetWithNextLoad(OutcomeLimits):

@@ -1,5 +1,5 @@
 """Oracles that are wrong on purpose, each in one place. A comparison that cannot tell them from the product would show nothing."""
-from limits import CELLS, MAX_BUDGET, MAX_DIGITS, MAX_KIND, MAX_LOADS, MAX_NEED, MAX_RULES, MAX_WORTH, NO_SET, NOTHING
+from limits import CELLS, LINE_BYTES, MAX_BUDGET, MAX_DIGITS, MAX_KIND, MAX_LOADS, MAX_NEED, MAX_RULES, MAX_WORTH, NO_SET, NOTHING, WORD_LOADS
 from oracle import WITH_KIND, Oracle, parse
 
 
@@ -722,7 +722,7 @@ class KindFewer(Oracle):
 
 class KindNotTested(Oracle):
     """A kind may be any number."""
-    most_kind = 99999
+    most_kind = 10**MAX_DIGITS - 1
 
 
 def with_last(line, change):
@@ -1381,13 +1381,16 @@ class NeedOfNoField(Oracle):
         return super().answer(b'need,0' if line in (b'need', b'need,') else line, cells)
 
 
-class NeedInSixDigits(Oracle):
-    """A worth may have six digits."""
+def of_more_digits(field):
+    """A number of one digit more than it may have as one that is in form."""
+    return b'%d' % min(int(field), 10**MAX_DIGITS - 1) if len(field) == MAX_DIGITS + 1 else field
+
+
+class NeedInMoreDigits(Oracle):
+    """A worth that is asked for may have one digit more."""
 
     def answer(self, line, cells=CELLS):
-        digits = line[len(b'need,'):]
-        six = line.startswith(b'need,') and digits.isdigit() and len(digits) == MAX_DIGITS + 1
-        return super().answer(b'need,%d' % min(int(digits), 10**MAX_DIGITS - 1) if six else line, cells)
+        return super().answer(with_fields(line, of_more_digits) if line.startswith(b'need,') else line, cells)
 
 
 class NeedShowsWorth(Oracle):
@@ -1516,6 +1519,216 @@ class NeedOfLast(Oracle):
         return 12 if number == 0 and needed(command) is not None and self.outcome == NOTHING else number
 
 
+# ---- 128 loads: limits
+
+
+class LoadMore(Oracle):
+    """There may be one load more."""
+    most_loads = MAX_LOADS + 1
+
+
+class LoadFewer(Oracle):
+    """There may be one load fewer."""
+    most_loads = MAX_LOADS - 1
+
+
+class LoadsAsBefore(Oracle):
+    """There may be as many loads as before request Ten: those of one word."""
+    most_loads = WORD_LOADS
+
+
+class LineLonger(Oracle):
+    """A line may have one byte more."""
+    most_bytes = LINE_BYTES + 1
+
+
+class LineShorter(Oracle):
+    """A line may have one byte fewer."""
+    most_bytes = LINE_BYTES - 1
+
+
+class LineAsBefore(Oracle):
+    """A line may have as many bytes as before request Ten."""
+    most_bytes = 80
+
+
+class DigitMore(Oracle):
+    """A number may have one digit more."""
+
+    def answer(self, line, cells=CELLS):
+        return super().answer(with_fields(line, of_more_digits), cells)
+
+
+class DigitsAsBefore(Oracle):
+    """A number may have one digit fewer, as before request Ten."""
+
+    def answer(self, line, cells=CELLS):
+        return super().answer(with_fields(line, lambda field: b'x' if len(field) == MAX_DIGITS else field), cells)
+
+
+class NeedAsBefore(Oracle):
+    """A worth may be as great as before request Ten: that of the loads of one word."""
+    most_need = WORD_LOADS * MAX_WORTH
+
+
+class ParentInAWord(Oracle):
+    """Of a parent's number above 64 only what is above 64 counts."""
+
+    def act(self, word, f):
+        above = word == 'load' and f[0] > WORD_LOADS
+        super().act(word, [f[0] - WORD_LOADS, *f[1:]] if above else f)
+
+
+# ---- 128 loads: the two words of a set
+
+
+class OtherMarks(Oracle):
+    """A run of a plan has other marks than those of its rules. Those below say which."""
+
+    def other(self, marks):
+        """Other marks for those of the loads in order."""
+
+    def with_others(self, run):
+        marks = self.other([run[k][0] for k in sorted(run)])
+        return {k: (mark, *run[k][1:]) for k, mark in zip(sorted(run), marks)}
+
+    def plan(self):
+        run = super().plan()
+        return None if run is None else self.with_others(run)
+
+
+def in_words(marks):
+    """The marks of the first word, and those of the second one."""
+    return marks[:WORD_LOADS], marks[WORD_LOADS:]
+
+
+class HighMarksLost(OtherMarks):
+    """No mark of the second word is kept."""
+
+    def other(self, marks):
+        low, high = in_words(marks)
+        return low + [0] * len(high)
+
+
+class HighMarksLow(OtherMarks):
+    """A mark of the second word is kept in the first one."""
+
+    def other(self, marks):
+        low, high = in_words(marks)
+        return [mark or k < len(high) and high[k] for k, mark in enumerate(low)] + [0] * len(high)
+
+
+class WordsShared(OtherMarks):
+    """There is one word: a load and the one 64 behind it have one mark."""
+
+    def other(self, marks):
+        return [max(marks[k % WORD_LOADS::WORD_LOADS]) for k in range(len(marks))]
+
+
+class LowMarksLost(OtherMarks):
+    """With more loads than a word has marks those of the first word are lost."""
+
+    def other(self, marks):
+        low, high = in_words(marks)
+        return [0] * len(low) + high if high else low
+
+
+class LastMarkLost(OtherMarks):
+    """The last load that there may be has no mark."""
+
+    def other(self, marks):
+        return marks[:MAX_LOADS - 1] + [0] * len(marks[MAX_LOADS - 1:])
+
+
+class FirstHighMarkLost(OtherMarks):
+    """The first load of the second word has no mark."""
+
+    def other(self, marks):
+        return [0 if k == WORD_LOADS else mark for k, mark in enumerate(marks)]
+
+
+class CheckedBits(Oracle):
+    """A check is of another set. Those below say which."""
+
+    def other(self, bits):
+        """The bits that are checked."""
+
+    def check(self, bits):
+        return super().check(self.other(bits))
+
+
+class HighBitsLost(CheckedBits):
+    """Bits above 64 are 0."""
+
+    def other(self, bits):
+        return HighMarksLost.other(self, bits)
+
+
+class HighBitsLow(CheckedBits):
+    """Bits above 64 are taken for the low ones."""
+
+    def other(self, bits):
+        return HighMarksLow.other(self, bits)
+
+
+class HighBitsRepeat(CheckedBits):
+    """The bits above 64 are those of the first word again."""
+
+    def other(self, bits):
+        low, high = in_words(bits)
+        return low + low[:len(high)]
+
+
+class BitsSwapped(CheckedBits):
+    """Of as many loads as there may be the bits of the two words are in each other's place."""
+
+    def other(self, bits):
+        low, high = in_words(bits)
+        return high + low if len(low) == len(high) else bits
+
+
+class ShownOtherwise(Oracle):
+    """A plan's first line has another figure. Those below say which."""
+
+    def other(self, worth, power, count):
+        """The figures that are shown."""
+
+    def shown(self):
+        lines = super().shown()
+        if not lines[0].startswith('plan,'):
+            return lines
+        return ['plan,%d,%d,%d' % self.other(*map(int, lines[0].split(',')[1:])), *lines[1:]]
+
+
+class CountOfFirstWord(ShownOtherwise):
+    """The number of loads on is that of the first word."""
+
+    def other(self, worth, power, count):
+        return worth, power, sum(entry[0] for k, entry in self.outcome.items() if k <= WORD_LOADS)
+
+
+class CountOfSecondWord(ShownOtherwise):
+    """With more loads than a word has marks the number of loads on is that of the second word."""
+
+    def other(self, worth, power, count):
+        high = sum(entry[0] for k, entry in self.outcome.items() if k > WORD_LOADS)
+        return worth, power, high if len(self.loads) > WORD_LOADS else count
+
+
+class WorthInTwoBytes(ShownOtherwise):
+    """Of the worth the last 16 binary digits are shown."""
+
+    def other(self, worth, power, count):
+        return worth % 2**16, power, count
+
+
+class WorthInFiveDigits(ShownOtherwise):
+    """Of the worth the last five digits are shown."""
+
+    def other(self, worth, power, count):
+        return worth % 10**5, power, count
+
+
 # Those that are wrong in a drop that has its form, in `last`, in kinds and in needs, and all of them. FewCellsWipe is not among them: with the
 # line program's cells a plan that was stored is never refused with 8 (librarycheck.py).
 WRONG_DROPS = [
@@ -1543,12 +1756,18 @@ WRONG_NEEDS = [
     HalfAndHalf, WarmestOfWorth, NeedBlind, BudgetsAbove, PoorBeforeNone, PoorBeforeNoneButOfNothing, PoorFirst, NoneBeforeCells, RangeAfterCells,
     RangeAfterNone, RangeBeforeLoads, PoorIsNine, PoorIsFive, PoorIsFourteen, PoorNotRefused, NoneIsNothing, NeedMore, NeedLess, NeedOfOneLoad,
     NeedNotTested, NeedOfLoadsThere, NeedOfWorthThere, NeedInTwoBytes, NeedOfNoLoads, NeedWithoutCells, CellsOfLeast, NeedUnknown, NeedTakesMore,
-    NeedOfNoField, NeedInSixDigits, NeedShowsWorth, NeedShowsPlan, NeedPadded, BudgetSet, BudgetTried, NeedWipes, NeedStores, NeedStoresInForce,
+    NeedOfNoField, NeedInMoreDigits, NeedShowsWorth, NeedShowsPlan, NeedPadded, BudgetSet, BudgetTried, NeedWipes, NeedStores, NeedStoresInForce,
     PoorWipes, PoorStores, NoneFitsNeedStores, NoneFitsNeedWipes, NeedOfLast,
+]
+WRONG_LIMITS = [LoadMore, LoadFewer, LoadsAsBefore, LineLonger, LineShorter, LineAsBefore, DigitMore, DigitsAsBefore, NeedAsBefore]
+# These are wrong only with more loads than plain enumeration takes (largecheck.py).
+WRONG_LARGE = [
+    ParentInAWord, HighMarksLost, HighMarksLow, WordsShared, LowMarksLost, LastMarkLost, FirstHighMarkLost, HighBitsLost, HighBitsLow, HighBitsRepeat,
+    BitsSwapped, CountOfFirstWord, CountOfSecondWord, WorthInTwoBytes, WorthInFiveDigits,
 ]
 WRONG = [
     StageRestarts, LeafAlwaysEnds, HighestFirst, PowerKept, FirstBudget, StoresNothing, ZerosBarred, ZerosNotCounted,
     EndsFirst, RowsFirst, MarksDescend, BookOfNone, NoBudgetOfNone, PaddedSave, NoSaveOfNoLoads, SaveTakesFields, DropTakesMore, *WRONG_DROPS,
     WorthAlone, PowerAtRootAlone, BranchesByWorth, RowsByWorth, WarmerOfEquals, PowerBeforeWorth, FewerLoads, OffDraws, WholeBudgetIsNone,
-    PowerIntoWorth, *WRONG_LASTS, *WRONG_KINDS, *WRONG_NEEDS,
+    PowerIntoWorth, *WRONG_LASTS, *WRONG_KINDS, *WRONG_NEEDS, *WRONG_LIMITS,
 ]

@@ -2,7 +2,7 @@
 show nothing."""
 from itertools import permutations
 
-from limits import NO_SET, NOTHING, PAGE_BYTES, PAGE_ROWS, ROW_BYTES
+from limits import NO_SET, NOTHING, PAGE_BYTES, PAGE_ROWS, ROW_BYTES, WORD_LOADS
 from pages import Pages, cut
 from script import TableLimits
 
@@ -51,11 +51,30 @@ class AtMost999(Pages):
         return super().digits(min(number, 10**count - 1), count)
 
 
-class WorthInFourDigits(Pages):
-    """The worth has four digits."""
+class WorthInFiveDigits(Pages):
+    """The worth has five digits, as before request Ten."""
+    worth_digits = Pages.worth_digits - 1
 
-    def digits(self, number, count):
-        return super().digits(number, 4 if count == 5 else count)
+
+class WorthInSevenDigits(Pages):
+    """The worth has seven digits."""
+    worth_digits = Pages.worth_digits + 1
+
+
+class WorthCutToFive(Pages):
+    """Of the worth the last five digits are shown, after a zero."""
+
+    def first_row(self, p):
+        row = super().first_row(p)
+        return row if p.status == NO_SET else row[:len('worth ')] + '0' + row[len('worth ') + 1:]
+
+
+class WorthInTwoBytes(Pages):
+    """Of the worth the last 16 binary digits are shown."""
+
+    def worth_and_power(self, p):
+        worth, power = super().worth_and_power(p)
+        return worth % 2**16, power
 
 
 class NumberInTwoDigits(Pages):
@@ -168,6 +187,49 @@ class SetOf32(Pages):
         return k <= 32 and super().is_on(p, k)
 
 
+class SetOfOneWord(Pages):
+    """No load above 64 is on."""
+
+    def is_on(self, p, k):
+        return k <= WORD_LOADS and super().is_on(p, k)
+
+
+class WordsShared(Pages):
+    """A load above 64 has the mark of the one 64 before it."""
+
+    def is_on(self, p, k):
+        return super().is_on(p, k - WORD_LOADS if k > WORD_LOADS else k)
+
+
+class WordsSwapped(Pages):
+    """The marks of the two words are in each other's place."""
+
+    def is_on(self, p, k):
+        return super().is_on(p, k - WORD_LOADS if k > WORD_LOADS else k + WORD_LOADS)
+
+
+class RowOneOfOneWord(Pages):
+    """Row one has the worth and the power of the loads up to 64."""
+
+    def worth_and_power(self, p):
+        on = [load for k, load in enumerate(p.loads[:min(WORD_LOADS, p.load_count)], 1) if self.is_on(p, k)]
+        return sum(load[2] for load in on), sum(load[1] for load in on)
+
+
+class NoLoadsAboveAWord(Pages):
+    """A load above 64 may not be asked for."""
+
+    def causes(self, asked):
+        return *super().causes(asked), (5, asked.load > WORD_LOADS)
+
+
+class LoadsAboveAWordMissing(Pages):
+    """Loads above 64 are shown as missing."""
+
+    def row_of(self, p, k):
+        return '' if k > WORD_LOADS else super().row_of(p, k)
+
+
 # ---- which loads
 
 
@@ -239,7 +301,7 @@ class NineIsWorthNothing(Pages):
     """Refusal 9 is shown as a plan of worth 0."""
 
     def first_row(self, p):
-        return 'worth 00000 000W'
+        return 'worth ' + self.digits(0, self.worth_digits) + ' 000W'
 
 
 class NineIsBlank(Pages):
@@ -387,7 +449,7 @@ def in_bits(bits):
     return type('LoadIn%dBits' % bits, (Pages,), {'drawn': lambda self, asked: Pages.drawn(self, asked._replace(load=asked.load % 2**bits))})
 
 
-FEWER_BITS = [in_bits(bits) for bits in (7, 8, 16, 32, 63)]
+FEWER_BITS = [in_bits(bits) for bits in (6, 7, 8, 16, 32, 63)]
 
 
 class LastLoadRefused(Pages):
