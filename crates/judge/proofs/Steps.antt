@@ -1,5 +1,5 @@
 -- The walk from load to load: what a branch comes to by its load's step, and a row by its first load's step. Assumes nothing.
-use Prim.Native.Nat.{ℕ, zero, suc, _-_, _≤_, _<_}
+use Prim.Native.Nat.{ℕ, zero, suc, _+_, _-_, _*_, _≤_, _<_}
 use mathlib.Core.Path.{_≡_, refl, sym, ap, _∙_}
 use mathlib.Core.Bool.{Bool, true, false, _&&_}
 use mathlib.Core.List.{List}
@@ -10,6 +10,7 @@ use Rattle.marks.specs.Bits.{hasMark}
 use Rattle.marks.specs.declared.Marks.{Marks}
 use Rattle.tables.specs.declared.rule.Sort.the-variants as sort
 use Rattle.tables.specs.Tables.{Tables, noLoad}
+use Rattle.tables.specs.Limits.{maxLoads}
 use Rattle.tables.specs.Lawful.{Lawful}
 use Rattle.meaning.specs.Forest.{planned}
 use Rattle.meaning.specs.Cells.{loadAt, firstChild, nextSibling}
@@ -64,29 +65,28 @@ module _ (t : Tables) (ρ : ℕ → Assigned) where
         (sym (row-step j g ∙ p .0), p .1)
 
 -- ---- by the figures that were looked up
-module _ {t : Tables} {ρ : ℕ → Assigned} {n : ℕ} {ends : Marks} {parents begins stages nexts : List ℕ}
-    (l : LookedUp t ρ n ends parents begins stages nexts) where
+module _ {t : Tables} {ρ : ℕ → Assigned} {n : ℕ} {ends : Marks} {figures : List ℕ} (l : LookedUp t ρ n ends figures) where
   pub end-of-row : (g : ℕ) → hasMark (ends .0) g ≡ rowRuns t ρ 0 g
   end-of-row g = rw (← (l .endStages)) (row-end t ρ g)
 
   module _ (k : ℕ) (pos : 0 < k) (few : k ≤ n) where
-    begin-at : getD begins (k - 1) 0 ≡ stepAt t ρ k .begin
-    begin-at = at-load (λ k. stepAt t ρ k .begin) begins n (l .begin) k pos few
+    begin-at : getD figures (0 + (k - 1)) 0 ≡ stepAt t ρ k .begin
+    begin-at = at-load (λ k. stepAt t ρ k .begin) figures 0 n (l .begin) k pos few
 
-    stage-at : getD stages (k - 1) 0 ≡ stepAt t ρ k .stage
-    stage-at = at-load (λ k. stepAt t ρ k .stage) stages n (l .stage) k pos few
+    stage-at : getD figures (maxLoads + (k - 1)) 0 ≡ stepAt t ρ k .stage
+    stage-at = at-load (λ k. stepAt t ρ k .stage) figures maxLoads n (l .stage) k pos few
 
-    next-at : getD nexts (k - 1) 0 ≡ stepAt t ρ k .next
-    next-at = at-load (λ k. stepAt t ρ k .next) nexts n (l .next) k pos few
+    next-at : getD figures (2 * maxLoads + (k - 1)) 0 ≡ stepAt t ρ k .next
+    next-at = at-load (λ k. stepAt t ρ k .next) figures (2 * maxLoads) n (l .next) k pos few
 
-    module _ {g : ℕ} (here : g ≡ getD begins (k - 1) 0) where
+    module _ {g : ℕ} (here : g ≡ getD figures (0 + (k - 1)) 0) where
       pub branch-fails : g ≡ 0 → false ≡ branchRuns t ρ k
       branch-fails none = branch-none t ρ (l .lawful) k (sym begin-at ∙ sym here ∙ none)
 
       pub branch-passes : (g ≡ 0 → ⊥) → {c : ℕ} → c ≡ firstChild (t .loads) k → rowRuns t ρ c g ≡ branchRuns t ρ k
       branch-passes some child = rw (child, here, begin-at) (branch-some t ρ (l .lawful) k (omega (arith, here, begin-at)))
 
-    module _ {s g : ℕ} (here : s ≡ getD stages (k - 1) 0) where
+    module _ {s g : ℕ} (here : s ≡ getD figures (maxLoads + (k - 1)) 0) where
       pub row-fails : (s ≡ g → ⊥) → false ≡ rowRuns t ρ k g
       row-fails other = row-stops t ρ (l .lawful) k g pos (λ e. other (here ∙ stage-at ∙ e))
 
@@ -97,7 +97,7 @@ module _ {t : Tables} {ρ : ℕ → Assigned} {n : ℕ} {ends : Marks} {parents 
         pub row-branch-fails : b ≡ false → false ≡ rowRuns t ρ k g
         row-branch-fails off = rw (← branch, off) at (row-here .0)
 
-        pub row-passes : b ≡ true → {c h : ℕ} → c ≡ nextSibling (t .loads) k → h ≡ getD nexts (k - 1) 0
+        pub row-passes : b ≡ true → {c h : ℕ} → c ≡ nextSibling (t .loads) k → h ≡ getD figures (2 * maxLoads + (k - 1)) 0
             → (rowRuns t ρ c h ≡ rowRuns t ρ k g) × (0 < h)
         row-passes on later next =
             let e = next ∙ next-at in

@@ -1,7 +1,7 @@
 -- What the judge looks up of each load before its walk: the numbers of a run, turned into stages.
 -- They stand for "Each load rule begins with its load's state" and "the row rules .. give each child its state" of paper 01, and for "a rule serves
 -- only loads of its kind" of request Eight of paper 02. A stage is at least 1, so 0 stands for none. Assumes nothing.
-use Prim.Native.Nat.{ℕ, suc, _<_}
+use Prim.Native.Nat.{ℕ, suc, _+_, _*_, _<_}
 use mathlib.Core.Path.{_≡_}
 use mathlib.Core.Bool.{_&&_}
 use mathlib.Core.List.{List}
@@ -11,7 +11,8 @@ use Rattle.lists.specs.Argmax.{guard}
 use Rattle.marks.specs.declared.Marks.{Marks}
 use Rattle.tables.specs.declared.rule.Transition.{Transition}
 use Rattle.tables.specs.declared.load.Load.{Load}
-use Rattle.tables.specs.Tables.{Tables, noLoad}
+use Rattle.tables.specs.Tables.{Tables}
+use Rattle.tables.specs.Limits.{maxLoads}
 use Rattle.tables.specs.Lawful.{Lawful}
 use Rattle.meaning.specs.Runs.{rule, Assigned}
 use Rattle.meaning.specs.Cells.{loadAt}
@@ -29,16 +30,20 @@ stepOf ls rs k a = record {
 abbrev pub stepAt : Tables → (ℕ → Assigned) → ℕ → Step
 stepAt t ρ k = stepOf (t .book .loadRules) (t .book .rowRules) (loadAt (t .loads) k .kind) (ρ k)
 
--- a list holds the loads' parents, load k's at place k - 1
-abbrev pub ParentsOf : List Load → List ℕ → Type 0
-ParentsOf ls ps = (j : ℕ) → j < length ls → getD ps j 0 ≡ getD ls j noLoad .parent
+-- in a list, one number for each of n loads stands from a place on: load k's is k - 1 places on
+abbrev pub NumbersAt : List ℕ → (place n : ℕ) → (ℕ → ℕ) → Type 0
+NumbersAt figures place n number = (j : ℕ) → j < n → getD figures (place + j) 0 ≡ number (suc j)
 
--- lists hold the figures of the n loads of tables that keep the limits
-pub record LookedUp (t : Tables) (ρ : ℕ → Assigned) (n : ℕ) (ends : Marks) (parents begins stages nexts : List ℕ) : Type 0 where
+-- the loads' parents stand last
+abbrev pub ParentsOf : List Load → List ℕ → Type 0
+ParentsOf ls figures = NumbersAt figures (3 * maxLoads) (length ls) (λ k. loadAt ls k .parent)
+
+-- a list holds the figures of the n loads of tables that keep the limits: the three numbers of their steps, and their parents
+pub record LookedUp (t : Tables) (ρ : ℕ → Assigned) (n : ℕ) (ends : Marks) (figures : List ℕ) : Type 0 where
   pub lawful : Lawful t
   pub count : length (t .loads) ≡ n
   pub endStages : t .book .ends ≡ ends
-  pub parent : ParentsOf (t .loads) parents
-  pub begin : (j : ℕ) → j < n → getD begins j 0 ≡ stepAt t ρ (suc j) .begin
-  pub stage : (j : ℕ) → j < n → getD stages j 0 ≡ stepAt t ρ (suc j) .stage
-  pub next : (j : ℕ) → j < n → getD nexts j 0 ≡ stepAt t ρ (suc j) .next
+  pub begin : NumbersAt figures 0 n (λ k. stepAt t ρ k .begin)
+  pub stage : NumbersAt figures maxLoads n (λ k. stepAt t ρ k .stage)
+  pub next : NumbersAt figures (2 * maxLoads) n (λ k. stepAt t ρ k .next)
+  pub parent : ParentsOf (t .loads) figures

@@ -26,9 +26,9 @@ module _ (t : Tables) (ρ : ℕ → Assigned) where
       judgeBranch (t .book) ρ k (planned k (loadAt (t .loads) k)) (rowRuns (firstChild (t .loads) k)) (ρ k .state)
 
 -- the code is lent the figures alone: its answer is right for all tables and numbers whose figures they are. A row has a stage, 1 or more
-module _ (n : ℕ) (ends : Marks) (parents begins stages nexts : List ℕ) where
+module _ (n : ℕ) (ends : Marks) (figures : List ℕ) where
   abbrev pub JudgesBranch : ℕ → Bool → Type 0
-  JudgesBranch k r = (t : Tables) (ρ : ℕ → Assigned) → LookedUp t ρ n ends parents begins stages nexts → r ≡ branchRuns t ρ k
+  JudgesBranch k r = (t : Tables) (ρ : ℕ → Assigned) → LookedUp t ρ n ends figures → r ≡ branchRuns t ρ k
 
   abbrev pub JudgesRow : ℕ → ℕ → Bool → Type 0
-  JudgesRow k g r = (t : Tables) (ρ : ℕ → Assigned) → LookedUp t ρ n ends parents begins stages nexts → 0 < g → r ≡ rowRuns t ρ k g
+  JudgesRow k g r = (t : Tables) (ρ : ℕ → Assigned) → LookedUp t ρ n ends figures → 0 < g → r ≡ rowRuns t ρ k g

@@ -1,6 +1,6 @@
 // What the walk needs of each load, looked up once: the loads' parents, and the numbers of a run turned into stages.
-// The walk is lent these lists of numbers, so that no call in it copies the book or the loads: it may be two calls deep for each load, and
-// book and loads are 600 bytes.
+// The walk is lent these numbers in one list, so that no call in it copies the book or the loads, or hands on more than one reference: it may
+// be two calls deep for each load, and book and loads are more than 1,000 bytes.
 ghost use Prim.Native.Nat.{_*_, _≤_};
 ghost use mathlib.Core.Path.{_≡_};
 ghost use mathlib.Core.Bool.{true};
@@ -24,13 +24,17 @@ pub struct Step {
     pub next: u8,
 }
 
-// Of every load, load k's at place k - 1: its parent, and its step.
-pub struct Figures {
-    pub parents: [u8; MAX_LOADS],
-    pub begins: [u8; MAX_LOADS],
-    pub stages: [u8; MAX_LOADS],
-    pub nexts: [u8; MAX_LOADS],
-}
+// Where the three numbers of the loads' steps stand in the list, and where the loads' parents. Load k's is k - 1 places on.
+pub const BEGINS: usize = 0;
+
+pub const STAGES: usize = MAX_LOADS;
+
+pub const NEXTS: usize = 2 * MAX_LOADS;
+
+pub const PARENTS: usize = 3 * MAX_LOADS;
+
+// The numbers of the list.
+pub const FIGURES: usize = 4 * MAX_LOADS;
 
 // The rule with number n, counted from 1. A number that names nothing gives the rule of zeros.
 fn rule_at(rules: TransitionList, n: u32) -> Transition
@@ -76,17 +80,14 @@ fn step_of(
 }
 
 // The figures of every load, by the numbers that the run gives it.
-pub(crate) fn look_up(t: StoredTables, run: &[u32]) -> Figures
+pub(crate) fn look_up(t: StoredTables, run: &[u32]) -> [u8; FIGURES]
     requires { ⌜ (keepsLimits t ≡ true) × (length (now run) ≡ 3 * t .loads .count) ⌝ }
-    ensures { λ r. ⌜ LookedUp (tablesOf t) (proposed (now (run .entry))) (t .loads .count) (t .book .ends) (r .parents) (r .begins) (r .stages) (r .nexts) ⌝ }
+    ensures { λ r. ⌜ LookedUp (tablesOf t) (proposed (now (run .entry))) (t .loads .count) (t .book .ends) r ⌝ }
 {
     let loads = t.loads;
     let load_rules = t.book.load_rules;
     let row_rules = t.book.row_rules;
-    let mut parents = [0u8; MAX_LOADS];
-    let mut begins = [0u8; MAX_LOADS];
-    let mut stages = [0u8; MAX_LOADS];
-    let mut nexts = [0u8; MAX_LOADS];
+    let mut figures = [0u8; FIGURES];
     for i in 0..loads.count {
         let at = 3 * i;
         let l = loads.items[i];
@@ -98,15 +99,10 @@ pub(crate) fn look_up(t: StoredTables, run: &[u32]) -> Figures
             run[at + 1],
             run[at + 2],
         );
-        parents[i] = l.parent;
-        begins[i] = s.begin;
-        stages[i] = s.stage;
-        nexts[i] = s.next;
+        figures[BEGINS + i] = s.begin;
+        figures[STAGES + i] = s.stage;
+        figures[NEXTS + i] = s.next;
+        figures[PARENTS + i] = l.parent;
     }
-    Figures {
-        parents,
-        begins,
-        stages,
-        nexts,
-    }
+    figures
 }

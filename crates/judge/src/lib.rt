@@ -71,16 +71,8 @@ fn tree_runs(t: StoredTables, run: &[u32]) -> bool
     if run[2] != 0 {
         return false;
     }
-    let f = figures::look_up(t, run);
-    walk::branch_runs(
-        t.loads.count,
-        1,
-        t.book.ends,
-        &f.parents,
-        &f.begins,
-        &f.stages,
-        &f.nexts,
-    )
+    let figures = figures::look_up(t, run);
+    walk::branch_runs(t.loads.count, 1, t.book.ends, &figures)
 }
 
 // Is the run proposed for these tables a run?

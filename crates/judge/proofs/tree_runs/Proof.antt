@@ -39,12 +39,12 @@ returns-2 c =
 
 branch-runs-requires : tie.Need-branch-runs-requires
 branch-runs-requires c κs =
-    let s = c .before .before .before .before .before .before .before .before .before .before .before .before in
+    let s = c .before .before .before .before .before .before .before .before in
     (omega arith, s .pre .1, few-loads maxLoads (s .args .t) (search (needs, of-map)) (kept (s .args .t) (s .pre .0)))
 
 returns-3 : tie.Need-returns-3
 returns-3 c =
-    let figures = c .before .before .before .before .before .before in
+    let figures = c .before .before in
     let start = figures .before .before .before .before in
     let s = start .before .before .before in
     let t = tablesOf (s .args .t) in

@@ -1,4 +1,4 @@
--- `look_up` meets its contract: each list is filled from the front with the loads' figures. Assumes nothing.
+-- `look_up` meets its contract: each part of the list is filled from its front with the loads' figures. Assumes nothing.
 use Prim.Native.Nat.{ℕ, suc, _-_, _*_, _≤_, _<_}
 use mathlib.Core.Path.{_≡_, refl, sym, ap, _∙_}
 use mathlib.Core.List.{List}
@@ -18,7 +18,7 @@ use Rattle.judge.specs.declared.figures.Step.{Step}
 use Rattle.judge.specs.Verdict.{proposed}
 use Rattle.judge.specs.Figures.{stepOf}
 use Rattle.tables.proofs.Kept.{kept, few-loads}
-use Rattle.judge.proofs.Places.{Filled, fill-none, fill-next}
+use Rattle.judge.proofs.Places.{Filled, fill-none, fill-next, fill-before, fill-after}
 use Rattle.judge.proofs.figures.look_up.Statement.{statement}
 use Rattle.judge.proofs.figures.look_up.Tie as tie
 
@@ -36,17 +36,17 @@ abbrev stepFor : TransitionList → TransitionList → List ℕ → ℕ → Load
 stepFor load-rules row-rules run j l = stepOf (rulesOf load-rules) (rulesOf row-rules) (l .kind) (proposed run (suc j))
 
 abbrev Inv-loop : tie.InvT-loop
-Inv-loop run loads load-rules row-rules parents₀ begins₀ stages₀ nexts₀ i₀ i-end parents begins stages nexts i =
+Inv-loop run loads load-rules row-rules figures₀ i₀ i-end figures i =
     (i ≤ i-end)
     × (i-end ≤ maxLoads)
     × (length run ≡ 3 * i-end)
-    × Filled maxLoads (parentOf loads) parents i
-    × Filled maxLoads (λ j. stepFor load-rules row-rules run j (loadIn loads j) .begin) begins i
-    × Filled maxLoads (λ j. stepFor load-rules row-rules run j (loadIn loads j) .stage) stages i
-    × Filled maxLoads (λ j. stepFor load-rules row-rules run j (loadIn loads j) .next) nexts i
+    × Filled (4 * maxLoads) 0 (λ j. stepFor load-rules row-rules run j (loadIn loads j) .begin) figures i
+    × Filled (4 * maxLoads) maxLoads (λ j. stepFor load-rules row-rules run j (loadIn loads j) .stage) figures i
+    × Filled (4 * maxLoads) (2 * maxLoads) (λ j. stepFor load-rules row-rules run j (loadIn loads j) .next) figures i
+    × Filled (4 * maxLoads) (3 * maxLoads) (parentOf loads) figures i
 
 abbrev μ-loop : tie.MeasureT-loop
-μ-loop run loads load-rules row-rules parents₀ begins₀ stages₀ nexts₀ i₀ i-end parents begins stages nexts i = i-end - i
+μ-loop run loads load-rules row-rules figures₀ i₀ i-end figures i = i-end - i
 
 loop-holds : tie.Need-loop-holds Inv-loop μ-loop
 loop-holds c =
@@ -54,10 +54,10 @@ loop-holds c =
       omega arith,
       few-loads maxLoads (s .args .t) (search (needs, of-map)) (kept (s .args .t) (s .pre .0)),
       s .pre .1,
-      fill-none maxLoads _ _ refl,
-      fill-none maxLoads _ _ refl,
-      fill-none maxLoads _ _ refl,
-      fill-none maxLoads _ _ refl,
+      fill-none refl,
+      fill-none refl,
+      fill-none refl,
+      fill-none refl,
     )
 
 step-of-requires : tie.Need-step-of-requires Inv-loop μ-loop
@@ -68,17 +68,15 @@ step-of-requires c κs =
 
 loop-again : tie.Need-loop-again Inv-loop μ-loop
 loop-again c =
-    let i = c .before .before .before .before .before .before .loop .i in
     let inv = c .before .before .before .before .before .before .loop .inv in
-    let e = c .step-of .ensures in
-    let l : i < maxLoads = omega arith in (
+    let e = c .step-of .ensures in (
       omega arith,
       inv .1,
       inv .2,
-      fill-next maxLoads _ _ i _ (inv .3) l refl,
-      fill-next maxLoads _ _ i _ (inv .4) l (ap (λ s. s .begin) e),
-      fill-next maxLoads _ _ i _ (inv .5) l (ap (λ s. s .stage) e),
-      fill-next maxLoads _ _ i _ (inv .6) l (ap (λ s. s .next) e),
+      fill-after (fill-after (fill-after (fill-next (inv .3) (omega arith) (ap (λ s. s .begin) e)) _ _ (omega arith)) _ _ (omega arith)) _ _ (omega arith),
+      fill-after (fill-after (fill-next (fill-before (inv .4) _ _ (omega arith)) (omega arith) (ap (λ s. s .stage) e)) _ _ (omega arith)) _ _ (omega arith),
+      fill-after (fill-next (fill-before (fill-before (inv .5) _ _ (omega arith)) _ _ (omega arith)) (omega arith) (ap (λ s. s .next) e)) _ _ (omega arith),
+      fill-next (fill-before (fill-before (fill-before (inv .6) _ _ (omega arith)) _ _ (omega arith)) _ _ (omega arith)) (omega arith) refl,
     )
 
 returns : tie.Need-returns Inv-loop μ-loop
@@ -94,10 +92,10 @@ returns c =
       lawful = k .lawful;
       count = counted;
       endStages = refl;
-      parent = λ j b. inv .3 .filled j (omega arith) ∙ ap (λ l. l .parent) (held loads j (omega (arith, counted)));
-      begin = λ j b. inv .4 .filled j (omega arith) ∙ ap (λ l. stepFor (book .«load_rules») (book .«row_rules») (s .args .run .now) j l .begin) (held loads j b);
-      stage = λ j b. inv .5 .filled j (omega arith);
-      next = λ j b. inv .6 .filled j (omega arith);
+      begin = λ j b. inv .3 .filled j (omega arith) ∙ ap (λ l. stepFor (book .«load_rules») (book .«row_rules») (s .args .run .now) j l .begin) (held loads j b);
+      stage = λ j b. inv .4 .filled j (omega arith);
+      next = λ j b. inv .5 .filled j (omega arith);
+      parent = λ j b. inv .6 .filled j (omega arith) ∙ ap (λ l. l .parent) (held loads j (omega (arith, counted)));
     }
 
 pub look-up-spec : {M : Type 1} → statement M
@@ -119,6 +117,10 @@ look-up-spec =
     (λ c. omega arith)
     (λ c. omega arith)
     step-of-requires
+    (λ c. omega arith)
+    (λ c. omega arith)
+    (λ c. omega arith)
+    (λ c. omega arith)
     (λ c. omega arith)
     (λ c. omega arith)
     (λ c. omega arith)

@@ -15,11 +15,11 @@ use Rattle.judge.proofs.walk.child_after.Statement.{statement}
 use Rattle.judge.proofs.walk.child_after.Tie as tie
 
 abbrev Inv-loop : tie.InvT-loop
-Inv-loop n k p parents i₀ i =
-    (k ≤ i) × (i ≤ n) × ((ls : List Load) → length ls ≡ n → ParentsOf ls parents → after ls k p ≡ after ls i p)
+Inv-loop n k p figures i₀ i =
+    (k ≤ i) × (i ≤ n) × ((ls : List Load) → length ls ≡ n → ParentsOf ls figures → after ls k p ≡ after ls i p)
 
 abbrev μ-loop : tie.MeasureT-loop
-μ-loop n k p parents i₀ i = n - i
+μ-loop n k p figures i₀ i = n - i
 
 loop-holds : tie.Need-loop-holds Inv-loop μ-loop
 loop-holds c = (search needs, search needs, λ ls e h. refl)
@@ -60,6 +60,7 @@ child-after-spec =
     Inv-loop
     μ-loop
     loop-holds
+    (λ c. omega arith)
     (λ c. omega arith)
     (λ c. omega arith)
     returns

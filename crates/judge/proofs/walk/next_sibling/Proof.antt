@@ -1,8 +1,10 @@
 -- `next_sibling` meets its contract: the parent looked for is the load's own. Assumes nothing.
+use Prim.Native.Nat.{_*_}
 use mathlib.Core.Path.{ap, _∙_}
 use native.Mathlib.Omega.{arith}
 use borrow.Author.Needs.{needs}
 use lib.ListN.{length}
+use Rattle.tables.specs.Limits.{maxLoads}
 use Rattle.meaning.specs.Forest.{after}
 use Rattle.meaning.specs.Cells.{loadAt}
 use Rattle.judge.proofs.Places.{at-load}
@@ -13,7 +15,7 @@ returns : tie.Need-returns
 returns c =
     let a = c .before .before .args in (
       λ ls e h.
-          let parent = at-load (λ k. loadAt ls k .parent) (a .parents .now) (length ls) h (a .k) (omega arith) (omega arith) in
+          let parent = at-load (λ k. loadAt ls k .parent) (a .figures .now) (3 * maxLoads) (length ls) h (a .k) (omega arith) (omega arith) in
           c .child-after .ensures .0 ls e h ∙ ap (after ls (a .k)) (c .before .of-load .ensures ∙ parent),
       c .child-after .ensures .1,
     )
