@@ -132,10 +132,10 @@ impl Planner {
         if found.status == NO_SET {
             return not_shown(NOT_ALLOWED);
         }
-        let run = found.run;
+        let shown = found.run;
         Shown {
             answer: Answer::Allowed,
-            run,
+            run: shown,
         }
     }
 
@@ -143,12 +143,12 @@ impl Planner {
         requires { ⌜ Lawful self ⌝ }
         ensures { λ r. ⌜ r ≡ decided (stateIn self) 0 (row (stateIn self) (line.Check set count)) ⌝ }
     {
-        let shown = self.checked(set, count);
-        let answer = shown.answer;
-        let run = shown.run;
+        let found = self.checked(set, count);
+        let answer = found.answer;
+        let shown = found.run;
         Decided {
             answer,
-            run,
+            run: shown,
             planner: self,
         }
     }
