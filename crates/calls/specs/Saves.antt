@@ -31,7 +31,7 @@ use Rattle.calls.specs.Demand3.{Exchange, last}
 use Rattle.calls.specs.Program.{printedBy, sessionWith}
 
 -- ---- a save
--- "It needs 3,000 free bytes": a call on `save`, or on `save1`, that has them
+-- "saves 4,096" of request Ten: a call on `save`, or on `save1`, that has them
 pub record SaveCall (f : SaveForm) (c : Call) : Type 0 where
   pub line : parse (c .line) ≡ line.Save f
   pub free : c .place + saveBytes ≤ length (c .output)

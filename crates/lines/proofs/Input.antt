@@ -1,4 +1,4 @@
--- Input cut into lines: the lines are those of the whole input, kept to 81 bytes each, however it is cut into chunks. Assumes nothing.
+-- Input cut into lines: the lines are those of the whole input, kept to 145 bytes each, however it is cut into chunks. Assumes nothing.
 use Prim.Native.Nat.{ℕ, zero, suc, _+_, _-_, _≤_}
 use mathlib.Core.Path.{_≡_, refl, sym, ap, _∙_}
 use mathlib.Core.Bool.{Bool, true, false}

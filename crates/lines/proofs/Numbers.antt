@@ -26,7 +26,7 @@ good : ℕ → List ℕ → Bool
 good d [] = ltb 0 d
 good d (b ∷ bs) = mayFollow d b && good (d + 1) bs
 
--- it may if there are one to five digits in all, and nothing else
+-- it may if there are one to six digits in all, and nothing else
 good-on : (d : ℕ) (f : List ℕ) → d ≤ mostDigits → good d f ≡ leb 1 (d + length f) && leb (d + length f) mostDigits && every isDigit f
 unfolding good every
 good-on d [] l = let n : d + 0 ≡ d = omega arith in rw (n, le-leb d mostDigits l) (end (ltb 0 d))

@@ -300,6 +300,6 @@ module _ (f : SaveForm) (t : Tables) (h : Limits t) where
         w .places,
       ))
 
-  -- "It needs 3,000 free bytes"
+  -- "saves 4,096" of request Ten of paper 02
   pub save-fits : length (saveText f t) ≤ saveBytes
   save-fits = omega (arith, text-length f (saved-few f t h), saved-most)

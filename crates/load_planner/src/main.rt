@@ -17,7 +17,7 @@ ghost use Rattle.calls.specs.Program.{doneOn, answered, afterChunk, atEnd};
 ghost use Rattle.planner.specs.Calls.{doneOf};
 ghost use Rattle.load_planner.specs.Session.{leftOf, carriedOf, Within, Stepped};
 
-// "The line program lends .. 16,384 cells" and, since request Two, the 3,000 bytes that a save needs.
+// "The line program lends .. 16,384 cells" and, since request Ten, the 4,096 bytes that a save needs.
 const LENT_BYTES: usize = SAVE_BYTES;
 
 const LENT_CELLS: usize = 16384;

@@ -1,5 +1,5 @@
 -- `main` is safe and ends. Its loop's invariant: as long as the program runs, it carries what the chunks read so far lead to, from a fresh
--- planner with 1,024 bytes and 16,384 cells on. Assumes nothing.
+-- planner with 4,096 bytes and 16,384 cells on. Assumes nothing.
 use Prim.Native.Nat.{ℕ}
 use mathlib.Core.Path.{_≡_, refl, sym, ap, _∙_}
 use mathlib.Core.Bool.{true}
