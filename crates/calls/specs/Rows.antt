@@ -163,14 +163,15 @@ row s (line.Check σ n) =
     shows runBytes
     ((no.noLoads if eqb (length (t .loads)) 0) ∷ (no.outOfRange if not (eqb n (length (t .loads)))) ∷ (no.notAllowed if notAllowed t (markIn σ)) ∷ [])
     (showingCheck (checkEntries t (markIn σ)))
--- "The command `save` writes lines that rebuild the state"; ""saves 4,096", "and fewer is refusal 1." `save1` "needs the same free bytes";
+-- "The command `save` writes lines that rebuild the state"; "saves 4,096" of request Ten, "and fewer is refusal 1." `save1` "needs the same free bytes";
 -- "14, `save1` while some load or load rule has a kind other than 0, tested after 5"
 row s (line.Save f) = let t = s .tables in shows saveBytes ((no.kindsInUse if losesKinds f t) ∷ []) (showingSave f t)
 -- "`last` shows the latest outcome of `plan`, refusal 9 included (returned as 9)"; "12, no current plan, tested after 5"
 row s line.Last =
     let o = s .outcome in
     shows runBytes ((no.noneFits if isNoSet o) ∷ (no.noPlan if isNothing o) ∷ []) (showingPlan (s .tables) (entriesOf o))
--- "`need,v` prints `need,b`"; "v is 0 to 64,000", to 128,000 with request Ten. "It needs a plan's cells, meets 4 and 8 .., and says 9 when no allowed set fits the budget in force";
+-- "`need,v` prints `need,b`"; "v is 0 to 64,000", to 128,000 with request Ten. "It needs a plan's cells, meets 4 and 8 .., and says 9 when no allowed set
+-- fits the budget in force";
 -- "15, the plan at the budget in force has worth below v, tested after 9"
 row s (line.Need v) =
     let t = s .tables in

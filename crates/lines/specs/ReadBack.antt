@@ -1,7 +1,7 @@
 -- What is proved of the text of a save: it fits, and its lines are read back as its changes.
--- It stands for "It needs 3,000 free bytes", since request Ten 4,096, "lines that rebuild the state" and "Numbers are written without padding" of request Two of paper 02, and
--- for the form of that request in which `save1` of request Eight writes; and for the planner "as it stood after request Eight or Nine" of request Ten,
--- which has to read these lines too. Assumes nothing.
+-- It stands for "It needs 3,000 free bytes", since request Ten 4,096, "lines that rebuild the state" and "Numbers are written without padding" of request
+-- Two of paper 02, and for the form of that request in which `save1` of request Eight writes; and for the planner "as it stood after request Eight or
+-- Nine" of request Ten, which has to read these lines too. Assumes nothing.
 use Prim.Native.Nat.{ℕ, _≤_}
 use mathlib.Core.Path.{_≡_}
 use mathlib.Core.Bool.{false}
