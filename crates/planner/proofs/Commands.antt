@@ -30,7 +30,7 @@ use Rattle.tables.proofs.Stored.{held-loads}
 use Rattle.tables.proofs.Changes.{rule-added, figure-changed}
 use Rattle.tables.proofs.Removed.{load-dropped}
 use Rattle.runs.specs.Outcome.{nothing, storedOutcome}
-use Rattle.calls.specs.Rows.{Cause, _if_, isLoad, Row, Changing, changes, effectOf, unless, adding, setting, changing}
+use Rattle.calls.specs.Rows.{Cause, _if_, isLoad, Row, changes, effectOf, unless, adding, setting, changing}
 use Rattle.calls.specs.Causes.{lowest}
 use Rattle.calls.specs.Effects.{acted}
 use Rattle.calls.specs.State.{StoredState}
@@ -39,7 +39,7 @@ use Rattle.calls.proofs.Rows.{change-places}
 use Rattle.planner.specs.declared.Planner.{Planner}
 use Rattle.planner.specs.declared.changes.NamedRule.{NamedRule}
 use Rattle.planner.specs.declared.changes.NamedLoad.{NamedLoad}
-use Rattle.planner.specs.Planner.{held, plannerOf, stateIn, Lawful}
+use Rattle.planner.specs.Planner.{held, stateIn, Lawful}
 use Rattle.planner.specs.Changes.{namedRule, namedLoad, told, toldBy, toldFor, settled, madeBy, changedBy}
 
 -- ---- numbers: "value out of its range" comes first, then what the list of rules or loads says

@@ -31,7 +31,7 @@ use Rattle.runs.specs.declared.outcome.StoredOutcome.{StoredOutcome}
 use Rattle.runs.specs.Runs.{runOf, entriesTo}
 use Rattle.runs.specs.Outcome.{Outcome, planned, isNothing, isNoSet, entriesOf, found, storedOutcome, ofStatus, outcomeOf, rangeOf, outcomeIn}
 use Rattle.runs.proofs.Stored.{lines-in, outcome-stored}
-use Rattle.calls.specs.State.{State, StoredState, storedState}
+use Rattle.calls.specs.State.{State, storedState}
 use Rattle.calls.specs.Rows.{_if_, Row, showingPlan, notAllowed, row, causesOf, cellsFor}
 use Rattle.calls.specs.Causes.{lowest}
 use Rattle.calls.specs.Effects.{stateBy}

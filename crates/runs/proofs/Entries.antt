@@ -1,12 +1,12 @@
 -- The entries of a run by value and the run of entries: each is read back from the other. Assumes nothing.
-use Prim.Native.Nat.{ℕ, zero, suc, _+_, _%_, _^_, _≤_, _<_}
+use Prim.Native.Nat.{ℕ, zero, suc, _+_, _≤_, _<_}
 use mathlib.Core.Path.{_≡_, refl, sym, ap, ap₂, _∙_}
 use mathlib.Core.Bool.{Bool, true, false, _&&_}
 use mathlib.Core.List.{List, [], _∷_, _++_, map}
-use native.Mathlib.Nat.{le-refl, mod-eq-of-lt}
+use native.Mathlib.Nat.{le-refl}
 use native.Mathlib.Numerals.{one-add}
 use native.Mathlib.Omega.{arith}
-use borrow.Author.Tests.{eqb-true, eq-eqb, ne-eqb, le-leb, ltb-true}
+use borrow.Author.Tests.{eqb-true, eq-eqb, ne-eqb, le-leb}
 use lib.Dec.{eqb}
 use lib.ListN.{length, getD, take, length-map, length-append}
 use lib.Seq.{take-suc, take-all}
@@ -17,7 +17,6 @@ use Rattle.lists.proofs.Bools.{and-left, and-right}
 use Rattle.lists.proofs.Arrays.{getD-laid}
 use Rattle.lists.proofs.Places.{free-laid}
 use Rattle.marks.specs.declared.LoadSet.{LoadSet}
-use Rattle.marks.specs.Bits.{hasMark}
 use Rattle.marks.specs.Sets.{setWidth, noLoads, joined, hasLoad, loadsUpTo}
 use Rattle.marks.proofs.Sets.{firstOf, first-none, first-more, first-less, first-all}
 use Rattle.tables.specs.declared.entry.Entry.{Entry}

@@ -1,6 +1,6 @@
 -- `search_alone` meets its contract: the cells are filled, and the run is read back. It never calls itself, so every measure will do. Assumes nothing.
 use Prim.Native.Nat.{ℕ, _<_}
-use mathlib.Core.Path.{ap, sym, subst, _∙_}
+use mathlib.Core.Path.{ap, sym, subst}
 use native.Mathlib.Omega.{arith}
 use borrow.Author.Needs.{needs}
 use borrow.Fn.Kinds.{In}
