@@ -39,6 +39,8 @@ impl Marks {
 
 // ---- Half of a set of loads: the numbers from 1 to 64 in one word.
 
+const HALF: usize = 64;
+
 // The half with k in it. A number outside 1 to 64 changes nothing.
 fn half_with(half: u64, k: usize) -> u64
     ensures { λ r. ⌜ r ≡ withMark halfWidth half k ⌝ }
@@ -46,7 +48,7 @@ fn half_with(half: u64, k: usize) -> u64
     if k == 0 {
         return half;
     }
-    if 64 < k {
+    if HALF < k {
         return half;
     }
     half | 1 << (k - 1)
@@ -59,7 +61,7 @@ fn half_has(half: u64, k: usize) -> bool
     if k == 0 {
         return false;
     }
-    if 64 < k {
+    if HALF < k {
         return false;
     }
     (half >> (k - 1)) % 2 == 1
@@ -69,7 +71,7 @@ fn half_has(half: u64, k: usize) -> bool
 fn half_up_to(half: u64, k: usize) -> bool
     ensures { λ r. ⌜ r ≡ upTo k half ⌝ }
 {
-    if 64 <= k {
+    if HALF <= k {
         return true;
     }
     half >> k == 0
@@ -96,7 +98,7 @@ impl LoadSet {
     pub fn with(self, load: usize) -> LoadSet
         ensures { λ r. ⌜ r ≡ joined self load ⌝ }
     {
-        if load <= 64 {
+        if load <= HALF {
             return LoadSet {
                 low: half_with(self.low, load),
                 high: self.high,
@@ -104,7 +106,7 @@ impl LoadSet {
         }
         LoadSet {
             low: self.low,
-            high: half_with(self.high, load - 64),
+            high: half_with(self.high, load - HALF),
         }
     }
 
@@ -112,20 +114,20 @@ impl LoadSet {
     pub fn has(self, load: usize) -> bool
         ensures { λ r. ⌜ r ≡ hasLoad self load ⌝ }
     {
-        if load <= 64 {
+        if load <= HALF {
             return half_has(self.low, load);
         }
-        half_has(self.high, load - 64)
+        half_has(self.high, load - HALF)
     }
 
     // Are all of its loads from 1 to n?
     pub fn up_to(self, n: usize) -> bool
         ensures { λ r. ⌜ r ≡ loadsUpTo n self ⌝ }
     {
-        if n <= 64 {
+        if n <= HALF {
             return half_up_to(self.low, n) & half_up_to(self.high, 0);
         }
-        half_up_to(self.high, n - 64)
+        half_up_to(self.high, n - HALF)
     }
 
     // How many loads are in the set.

@@ -65,8 +65,8 @@ pub record LoadShown (t : Tables) (σ : ℕ → ℕ) (page : List ℕ) (row k : 
   pub mark : wordAt page row 4 3 ≡ onOff (σ k)
   pub power : Reads (wordAt page row 8 powerDigits) (getD (t .loads) (k - 1) noLoad .power)
 
--- the page of a plan whose set is σ: "Row one is `worth `", six digits with request Ten, "a blank, three digits of power"; "Rows two to eight show loads k to k+6";
--- "missing loads .. are blank rows"
+-- the page of a plan whose set is σ: "Row one is `worth `", six digits with request Ten, "a blank, three digits of power"; "Rows two to eight show
+-- loads k to k+6"; "missing loads .. are blank rows"
 pub record PlanPage (t : Tables) (σ : ℕ → ℕ) (load : ℕ) (page : List ℕ) : Type 0 where
   pub worth : Reads (wordAt page 0 6 worthDigits) (worth t σ)
   pub power : Reads (wordAt page 0 13 powerDigits) (power t σ)
