@@ -1,11 +1,12 @@
 -- The test place by place and part by part, as the code goes, is the test of the limits. Assumes nothing.
-use Prim.Native.Nat.{ℕ, zero, suc, _≤_}
-use mathlib.Core.Path.{_≡_, refl, sym}
+use Prim.Native.Nat.{ℕ, zero, suc, _+_, _≤_, _<_}
+use mathlib.Core.Path.{_≡_, refl, sym, ap, _∙_}
 use mathlib.Core.Bool.{Bool, true, false, _&&_, _||_}
+use native.Mathlib.Numerals.{add-one}
 use native.Mathlib.Omega.{arith}
-use borrow.Author.Tests.{ne-eqb, leb-true, le-leb, ltb-true, lt-ltb, le-ltb}
+use borrow.Author.Tests.{ne-eqb, leb-true, le-leb, lt-leb, ltb-true, lt-ltb, le-ltb}
 use lib.Dec.{eqb, leb, ltb}
-use lib.ListN.{length}
+use lib.ListN.{length, getD}
 use Rattle.lists.specs.Tests.{allBelow}
 use Rattle.lists.proofs.Bools.{and-false, same-test}
 use Rattle.lists.proofs.Places.{places-limited, places-numbered}
@@ -18,7 +19,8 @@ use Rattle.tables.specs.declared.tables.StoredTables.{StoredTables}
 use Rattle.tables.specs.Tables.{Sort, Load, noRule, noLoad}
 use Rattle.tables.specs.Limits.{sizeIn, marksIn, ruleIn, sameRule, ruleRange, rulesIn, maxRules, sortIn, bookIn, parentIn, maxPower, maxWorth, maxKind, loadIn, mostPlaces, loadsIn, budgetIn, limits}
 use Rattle.tables.specs.Stored.{heldSize, heldMarks, heldRules, rulesOf, loadsOf, placesOf, bookOf, tablesOf, zeroRule, zeroLoad, rulesFree, loadsFree, keepsLimits}
-use Rattle.tables.specs.Places.{rulePlace, loadPlace, rulesHeld, loadsHeld, sortHeld, bookHeld}
+use Rattle.tables.proofs.Packed.{and-yes}
+use Rattle.tables.specs.Places.{rulePlace, ruleKeeps, loadKeeps, loadPlace, rulesHeld, loadsHeld, sortHeld, bookHeld}
 
 -- ---- a load: the root has parent 0, a later load a smaller number
 below-suc : (a n : ℕ) → ltb a (suc n) ≡ leb a n
@@ -36,13 +38,26 @@ unfolding loadIn
 load-range k l = rw (parent-in k (l .parent))
 
 -- ---- lists
-pub rules-placed : (m : RuleRange) (l : TransitionList) → length (l .items) ≡ maxRules
+rules-placed : (m : RuleRange) (l : TransitionList) → length (l .items) ≡ maxRules
     → allBelow (rulePlace m l) maxRules && leb (l .count) maxRules ≡ rulesHeld m l
-unfolding rulePlace rulesHeld
+unfolding rulePlace ruleKeeps rulesHeld
 rules-placed m l e = places-limited noRule zeroRule maxRules (l .count) (l .items) e (ruleIn m) sameRule
 
+-- the code tests the count first
+pub rules-few : (m : RuleRange) (l : TransitionList) → length (l .items) ≡ maxRules → l .count ≤ maxRules → allBelow (rulePlace m l) maxRules ≡ rulesHeld m l
+rules-few m l e h = sym (and-yes _) ∙ (ap (λ b. allBelow (rulePlace m l) maxRules && b) (sym (le-leb (l .count) maxRules h)) ∙ rules-placed m l e)
+
+pub rules-many : (m : RuleRange) (l : TransitionList) → maxRules < l .count → false ≡ rulesHeld m l
+unfolding rulesHeld
+rules-many m l h = rw (lt-leb (l .count) maxRules h)
+
+-- the code's i + 1 is the number of the load at place i
+pub load-at : (l : LoadList) (i : ℕ) {r : Bool} → r ≡ loadKeeps (ltb i (l .count)) (i + 1) (getD (l .items) i noLoad) → r ≡ loadPlace l i
+unfolding loadPlace
+load-at l i h = h ∙ ap (λ k. loadKeeps (ltb i (l .count)) k (getD (l .items) i noLoad)) (add-one i)
+
 pub loads-placed : (l : LoadList) → allBelow (loadPlace l) (placesOf l) && leb (l .count) (placesOf l) ≡ loadsHeld l
-unfolding loadPlace loadsHeld loadsIn
+unfolding loadPlace loadKeeps loadsHeld loadsIn
 loads-placed l = places-numbered noLoad zeroLoad (placesOf l) (l .count) (l .items) refl loadIn
 
 -- ---- the book, and the tables

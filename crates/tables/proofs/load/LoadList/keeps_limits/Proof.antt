@@ -9,7 +9,7 @@ use Rattle.lists.proofs.Arrays.{of-map}
 use Rattle.lists.proofs.Tests.{below-zero, below-step}
 use Rattle.tables.specs.Limits.{maxLoads}
 use Rattle.tables.specs.Places.{loadPlace}
-use Rattle.tables.proofs.Places.{loads-placed}
+use Rattle.tables.proofs.Places.{load-at, loads-placed}
 use Rattle.tables.proofs.load.LoadList.keeps_limits.Statement.{statement}
 use Rattle.tables.proofs.load.LoadList.keeps_limits.Tie as tie
 
@@ -19,22 +19,22 @@ Inv-loop self kept₀ i₀ kept i = (i ≤ maxLoads) × (kept ≡ allBelow (load
 abbrev μ-loop : tie.MeasureT-loop
 μ-loop self kept₀ i₀ kept i = maxLoads - i
 
-len : (c : tie.Start Inv-loop μ-loop) → length (c .args .self .items) ≡ maxLoads
+len : (c : tie.Start Inv-loop μ-loop) → length (c .args .t1 .items) ≡ maxLoads
 len c = search (needs, of-map)
 
 loop-holds : tie.Need-loop-holds Inv-loop μ-loop
 loop-holds c = (search needs, sym (below-zero _))
 
 loop-again : tie.Need-loop-again Inv-loop μ-loop
-loop-again c = (search needs, below-step _ _ (c .before .before .loop .inv .1) (c .place-keeps .ensures))
+loop-again c = (search needs, below-step _ _ (c .before .before .before .loop .inv .1) (load-at _ _ (c .keeps .ensures)))
 
 returns : tie.Need-returns Inv-loop μ-loop
 returns c =
-    let a = c .before .before in
+    let a = c .before in
     let e : a .loop .i ≡ maxLoads = omega arith in
-    rw (a .loop .inv .1, e, ← len (a .before)) (loads-placed (a .before .args .self))
+    rw (a .loop .inv .1, e, ← len (a .before)) (loads-placed (a .before .args .t1))
 
 pub keeps-limits-spec : {M : Type 1} → statement M
 keeps-limits-spec =
     tie.close
-    (tie.spec Inv-loop μ-loop loop-holds (λ c κs. search needs) (λ c. search needs) (λ c. search needs) loop-again returns)
+    (tie.spec Inv-loop μ-loop loop-holds (λ c. search needs) (λ c. search needs) (λ c. search needs) (λ c κs. search needs) (λ c. search needs) (λ c. search needs) loop-again returns)
