@@ -77,7 +77,7 @@ ordered-drop ls k zero o = let e : k + 0 ≡ k = omega arith in rw e o
 ordered-drop [] k (suc j) o = tt
 ordered-drop (l ∷ ls) k (suc j) o = let e : k + suc j ≡ suc k + j = omega arith in rw e (ordered-drop ls (suc k) j (o .2))
 
-ordered-after : (ls : List Load) → IsTree ls → (j : ℕ) → Ordered (drop (suc j) ls) (suc (suc j))
+pub ordered-after : (ls : List Load) → IsTree ls → (j : ℕ) → Ordered (drop (suc j) ls) (suc (suc j))
 ordered-after [] o j = tt
 ordered-after (l ∷ ls) o j = let e : suc (suc j) ≡ 2 + j = omega arith in rw e (ordered-drop ls 2 j o)
 

@@ -14,7 +14,8 @@ use Rattle.tables.specs.Tables.{Book, Tables}
 use Rattle.tables.specs.declared.load.Load.{Load}
 use Rattle.meaning.specs.Forest.{Item, Forest, nil, node, planned, checked, tree, IsTree, total, sum}
 use Rattle.tables.specs.declared.entry.Entry.{Entry}
-use Rattle.meaning.specs.Choice.{choose, chooseTree, plan, check, noEntry, find, assigned, marksOf, assignedBy, Follows}
+use Rattle.meaning.specs.Best.{best}
+use Rattle.meaning.specs.Choice.{chooseBranch, choose, chooseTree, plan, check, noEntry, find, assigned, marksOf, assignedBy, Follows}
 use Rattle.meaning.proofs.Tree.{Rooted, tree-rooted, tree-total}
 
 -- how often a number occurs
@@ -80,11 +81,26 @@ module _ (b : Book) (n : ℕ) where
   occurs-choose nil = λ g c. refl
   occurs-choose (node k i below later) = occurs-node k i below later (occurs-choose below) (occurs-choose later)
 
+  occurs-branch : (k : ℕ) (i : Item) (below : Forest) (r q c : ℕ)
+      → occurs n (chooseBranch b k i (best b below) (choose b below) r q c) ≡ once n k + total (λ k i. once n k) below
+  unfolding occurs
+  occurs-branch k i below r q c = ap (λ x. once n k + x) (occurs-choose below _ _)
+
   occurs-tree : (f : Forest) → Rooted f → (c : ℕ) → occurs n (chooseTree b f c) ≡ total (λ k i. once n k) f
   unfolding chooseTree total occurs
   occurs-tree nil o c = refl
   occurs-tree (node k i below nil) o c = simp (occurs-choose below) (omega arith)
   occurs-tree (node k i below (node k′ i′ below′ later′)) o c = absurd o
+
+-- the entries chosen for a row or a branch in which no number is that of two loads
+pub row-follows : (b : Book) (f : Forest) → ((n : ℕ) → total (λ k i. once n k) f ≤ 1) → (g c : ℕ)
+    → Follows (marksOf (choose b f g c)) (assignedBy (choose b f g c)) (choose b f g c)
+row-follows b f h g c = follows-own (choose b f g c) (λ n. omega (arith, h n, occurs-choose b n f g c))
+
+pub branch-follows : (b : Book) (k : ℕ) (i : Item) (below : Forest) → ((n : ℕ) → once n k + total (λ k i. once n k) below ≤ 1) → (r q c : ℕ)
+    → (let es = chooseBranch b k i (best b below) (choose b below) r q c in Follows (marksOf es) (assignedBy es) es)
+branch-follows b k i below h r q c =
+    follows-own (chooseBranch b k i (best b below) (choose b below) r q c) (λ n. omega (arith, h n, occurs-branch b n k i below r q c))
 
 -- a number is that of at most one load
 sum-past : (n : ℕ) (ls : List Load) (k : ℕ) → n < k → sum (λ k l. once n k) ls k ≡ 0
@@ -93,7 +109,7 @@ sum-past n [] k h = refl
 sum-past n (l ∷ ls) k h =
     omega (arith, sum-past n ls (suc k) (omega arith), ap (λ t. guard t 1) (ne-eqb k n (λ e. absurd (omega arith))))
 
-sum-once : (n : ℕ) (ls : List Load) (k : ℕ) → sum (λ k l. once n k) ls k ≤ 1
+pub sum-once : (n : ℕ) (ls : List Load) (k : ℕ) → sum (λ k l. once n k) ls k ≤ 1
 unfolding sum
 sum-once n [] k = zero-le
 sum-once n (l ∷ ls) k = go (eqb k n) refl (sum-once n ls (suc k))

@@ -19,13 +19,14 @@ use Rattle.tables.specs.Lawful.{LoadFits, Lawful}
 use Rattle.tables.proofs.Lawful.{lawful}
 use Rattle.tables.proofs.Removed.{fallen-value}
 use Rattle.tables.proofs.Keeps.{drop-load-keeps}
-use Rattle.meaning.specs.Forest.{Item, Forest, nil, node, planned, checked, row, tree, Ordered, total, sum}
+use Rattle.meaning.specs.Forest.{Item, Forest, nil, node, planned, checked, row, tree, total, sum}
 use Rattle.meaning.specs.Runs.{Assigned, Starts, BranchRun, RowRun, Run, TreeRun}
 use Rattle.meaning.specs.Acceptance.{letterOf, Rewrites, AcceptsRow, Accepts}
 use Rattle.meaning.specs.Sets.{treeOf}
 use Rattle.meaning.specs.Cell.{draw, gain}
 use Rattle.meaning.specs.Best.{branchCell, rowCell, best, startFor, bestTree, bestPlan, bestCheck}
 use Rattle.meaning.specs.Order.{numbers, treeNumbers}
+use Rattle.meaning.proofs.Rows.{row-none}
 use Rattle.meaning.proofs.Ordered.{loads-ordered}
 use Rattle.meaning.proofs.Tree.{tree-total}
 use Rattle.meaning.specs.Leaving.{without, renumbered, before, risen, treeLeft, checkedLeft, Left}
@@ -139,15 +140,10 @@ module _ (k : ℕ) (item item′ : ℕ → Load → Item) (same : (j : ℕ) (l :
 
 -- ---- the tree is the row of the children of 0, which the root alone is
 module _ (item : ℕ → Load → Item) where
-  row-none : (ls : List Load) (j : ℕ) → Ordered ls j → row item ls j 0 ≡ nil
-  unfolding row
-  row-none [] j o = refl
-  row-none (l ∷ ls) j o = rw (ne-eqb (l .parent) 0 (omega arith)) (row-none ls (suc j) (o .2))
-
   tree-row : (ls : List Load) → ((j : ℕ) → j < length ls → LoadFits (suc j) (getD ls j noLoad)) → tree item ls ≡ row item ls 1 0
   unfolding tree row
   tree-row [] h = refl
-  tree-row (l ∷ ls) h = rw (eq-eqb (l .parent) 0 (omega (arith, h 0 (omega arith) .parent)), row-none ls 2 (loads-ordered (l ∷ ls) h))
+  tree-row (l ∷ ls) h = rw (eq-eqb (l .parent) 0 (omega (arith, h 0 (omega arith) .parent)), row-none item ls 2 (loads-ordered (l ∷ ls) h))
 
 -- ---- new numbers only rename
 module _ (k : ℕ) where

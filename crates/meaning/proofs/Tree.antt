@@ -61,7 +61,7 @@ sumTo-pick q x (suc n) h k = go (sumTo-pick q x n h) (eq-or-lt-of-le k)
     go ih (inr l) = omega (arith, ih (omega arith), ap (λ t. guard t x) (ne-eqb q (suc n) (λ e. absurd (omega arith))))
 
 module _ (item : ℕ → Load → Item) (w : ℕ → Item → ℕ) where
-  pub row-total : (l : Load) (ls : List Load) (k p : ℕ) → total w (row item (l ∷ ls) k p)
+  row-total : (l : Load) (ls : List Load) (k p : ℕ) → total w (row item (l ∷ ls) k p)
       ≡ guard (eqb (l .parent) p) (w k (item k l) + total w (row item ls (suc k) k)) + total w (row item ls (suc k) p)
   unfolding row total
   row-total l ls k p = go (eqb (l .parent) p)
