@@ -1,13 +1,13 @@
 -- From a cell's place in the work to its load, state or stage, and allowance; and one stretch after another is filled.
 -- Assumes nothing.
-use Prim.Native.Nat.{ℕ, zero, suc, _+_, _-_, _*_, _/_, _%_, _≤_, _<_}
+use Prim.Native.Nat.{ℕ, zero, suc, _+_, _-_, _*_, _/_, _%_, _≤_, _<_, min}
 use mathlib.Core.Path.{_≡_, refl, sym, ap, _∙_}
 use mathlib.Core.List.{List}
-use native.Mathlib.Nat.{mul-le-mul-right, add-mul, mul-zero, zero-mul, mod-lt, div-add-mod', div-lt-iff-lt-mul}
+use native.Mathlib.Nat.{mul-le-mul-right, add-mul, mul-zero, zero-mul, mod-lt, div-add-mod', div-lt-iff-lt-mul, min-le-left}
 use native.Mathlib.Omega.{arith}
 use native.Mathlib.Decide.{decLt}
-use lib.ListN.{length, getD, drop, length-drop}
-use lib.Seq.{getD-drop, ext-getD}
+use lib.ListN.{length, getD, take, drop, length-take, length-drop}
+use lib.Seq.{getD-take, getD-drop, ext-getD}
 use Rattle.cells.specs.declared.problem.Problem.{Problem}
 use Rattle.cells.specs.declared.problem.Shape.{Shape}
 use Rattle.cells.specs.Problem.{shapeOf}
@@ -94,7 +94,14 @@ module _ (p : Problem) where
     holds = λ h. g .holds (f .holds h);
   }
 
-  -- the cells past those filled, as a list
+  -- the cells before those filled and the cells past them, as lists
+  pub filled-front : {w v : List ℕ} {from to : ℕ} → Filled p w v from to → length v ≡ length w → take from v ≡ take from w
+  filled-front {w} {v} {from} {to} f e =
+      ext-getD 0 (take from v) (take from w) (length-take from v ∙ ap (min from) e ∙ sym (length-take from w))
+      (λ i l.
+      let h : i < from = omega (arith, length-take from v, min-le-left from (length v)) in
+      getD-take from v i 0 h ∙ f .below i h ∙ sym (getD-take from w i 0 h))
+
   pub filled-rest : {w v : List ℕ} {from to : ℕ} → Filled p w v from to → length v ≡ length w → drop to v ≡ drop to w
   filled-rest {w} {v} {from} {to} f e =
       ext-getD 0 (drop to v) (drop to w) (length-drop to v ∙ ap (λ z. z - to) e ∙ sym (length-drop to w))

@@ -7,7 +7,7 @@ ghost use Rattle.cells.specs.Outline.{OutlineFits};
 ghost use Rattle.cells.specs.Work.{cellsNeeded, Ready};
 ghost use Rattle.cells.specs.Stretch.{FilledBy};
 
-fn lesser(x: usize, y: usize) -> usize
+pub fn lesser(x: usize, y: usize) -> usize
     ensures { λ r. ⌜ r ≡ min x y ⌝ }
 {
     if x < y { x } else { y }

@@ -6,5 +6,6 @@ pub mod Search
 pub mod Choosing
 pub mod Reading
 pub mod Planning
+pub mod Portions
 pub mod Answers
 pub mod Budgets

@@ -6,19 +6,17 @@ use mathlib.Core.List.{[], _∷_, _++_}
 use mathlib.Core.Logic.{_⊎_, inl, inr}
 use native.Mathlib.Nat.{eq-or-lt-of-le, le-refl, sub-le, le-trans}
 use native.Mathlib.Omega.{arith}
-use borrow.Author.Tests.{eqb-true, eqb-false}
+use borrow.Author.Tests.{eqb-true, eqb-false, le-leb}
 use lib.Dec.{eqb}
 use lib.ListN.{length, getD, set, length-set}
 use lib.Seq.{getD-set-same, getD-set-other}
 use Rattle.tables.specs.Limits.{maxLoads}
 use Rattle.tables.specs.Stored.{bookOf}
 use Rattle.meaning.specs.Runs.{Assigned}
-use Rattle.meaning.specs.Forest.{after}
 use Rattle.meaning.specs.Cells.{firstChild, nextSibling}
 use Rattle.tables.specs.declared.entry.Entry.{Entry}
 use Rattle.meaning.specs.Choice.{find, inOrder, assigned}
 use Rattle.meaning.proofs.Entries.{tree-listed}
-use Rattle.meaning.proofs.Rows.{after-above}
 use Rattle.cells.specs.declared.problem.Problem.{Problem}
 use Rattle.cells.specs.Problem.{bookFor, loadsFor, itemsFor, Lawful}
 use Rattle.cells.proofs.Tables.{rule-to, rule-label}
@@ -28,10 +26,14 @@ use Rattle.engine.specs.declared.pass.Rows.{Rows}
 use Rattle.engine.specs.declared.pass.Pass.{Pass}
 use Rattle.runs.specs.Runs.{runOf, withEntry}
 use Rattle.engine.specs.Parts.{startBest, loadRule, rowRule}
-use Rattle.engine.specs.Pass.{entriesFor, loadChoice, rowChoice, entered, passedLoad, BranchEntered, RowEntered, Opens, Known, Full, Passed}
+use Rattle.engine.specs.Pass.{entriesFor, loadChoice, rowChoice, within, entered, passedLoad, BranchEntered, RowEntered, Opens, Known, Full, Passed}
 use Rattle.runs.proofs.Runs.{order-length, order-next, run-snoc}
 use Rattle.engine.proofs.Parts.{load-reached, row-found, share-reached, root-part, below-part, shown-mark, shown-rules, branch-part, later-part}
 use Rattle.engine.proofs.Openers.{opener}
+
+-- ---- numbers in range are read as they are
+pub within-same : (x high : ℕ) → 0 < x → x ≤ high → within x high ≡ x - 1
+within-same x high l h = rw (le-leb 1 x l, le-leb x high h)
 
 -- ---- rows that are entered
 pub enter-none : (r : Rows) (k g c : ℕ) → k ≡ 0 → r ≡ entered r k g c
@@ -113,22 +115,6 @@ module _ (p : Problem) (ok : Lawful p) where
           high = t .1;
           fits = le-trans (sub-le c _) (h .fits);
         }
-
-  -- ---- a child or a sibling is one of the loads
-  after-in : (j q : ℕ) → after (loadsFor p) j q ≤ maxLoads
-  after-in j q = go (after-above (loadsFor p) q j)
-    where
-      go : (after (loadsFor p) j q ≡ 0) ⊎ ((j < after (loadsFor p) j q) × (after (loadsFor p) j q ≤ length (loadsFor p))) → after (loadsFor p) j q ≤ maxLoads
-      go (inl e) = omega arith
-      go (inr h) = omega (arith, h .1, loads-long p ok, ok .sane .loads)
-
-  pub child-in : (k q c : ℕ) → loadChoice p k q c .rest ≤ maxLoads
-  unfolding loadChoice
-  child-in k q c = after-in k k
-
-  pub next-in : (k g c : ℕ) → rowChoice p k g c .rest ≤ maxLoads
-  unfolding rowChoice
-  next-in k g c = after-in k _
 
   -- ---- the entry of a load that is passed
   module _ (n r q c : ℕ) (few : n < p .tables .loads .count) (h : BranchEntered p (suc n) r q c) where

@@ -24,25 +24,23 @@ use Rattle.runs.specs.Outcome.{found, storedOutcome}
 use Rattle.engine.specs.Pass.{bestFor, entriesFor, answerTo, checkCells, Complete}
 use Rattle.meaning.specs.Cells.{cellsOf}
 
--- work that was filled whole, by the outline of a problem
-module _ (p : Problem) (sh : Shape) (e : sh ≡ shapeOf p) (o : List ℕ) (d : Outlines p (shapeOf p) o) (w : List ℕ) (room : cellsNeeded (shapeOf p) ≤ length w) where
-  pub outlined : Outlines p sh o
-  outlined = subst (λ (y : Shape). Outlines p y o) (sym e) d
-
+-- work that has the cells of a problem, by its outline
+module _ (p : Problem) (sh : Shape) (o : List ℕ) (d : Outlines p sh o) (w : List ℕ) (room : cellsNeeded (shapeOf p) ≤ length w) where
   pub ready : Ready sh w
-  ready = record { sane = subst Sane (sym e) (d .lawful .sane); room = omega (arith, ap cellsNeeded e) }
+  ready = record { sane = subst Sane (sym (d .shape)) (d .lawful .sane); room = omega (arith, ap cellsNeeded (d .shape)) }
 
+  -- and was filled whole
   module _ (v : List ℕ) (n : ℕ) (en : n ≡ cellsNeeded sh) (f : FilledBy sh o w v 0 n) (l : length v ≡ length w) where
     pub complete : 0 < p .tables .loads .count → Complete p sh o v
     complete some = record {
-      outlined = outlined;
+      outlined = d;
       ready = record { sane = ready .sane; room = omega (arith, ready .room) };
-      holds = subst (λ i. FilledTo p v i) en (f p outlined .holds (holds-none p w));
+      holds = subst (λ i. FilledTo p v i) en (f p d .holds (holds-none p w));
       some = some;
     }
 
     pub rest-kept : drop (cellsNeeded (shapeOf p)) v ≡ drop (cellsNeeded (shapeOf p)) w
-    rest-kept = subst (λ i. drop i v ≡ drop i w) (en ∙ ap cellsNeeded e) (filled-rest p (f p outlined) l)
+    rest-kept = subst (λ i. drop i v ≡ drop i w) (en ∙ ap cellsNeeded (d .shape)) (filled-rest p (f p d) l)
 
 -- the first cells become 0, and the others are as they came
 pub all-cleared : (w v u : List ℕ) (n m : ℕ) → u ≡ replicate n 0 ++ drop n v → n ≡ m → drop m v ≡ drop m w → u ≡ replicate m 0 ++ drop m w

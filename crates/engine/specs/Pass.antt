@@ -6,8 +6,9 @@ use mathlib.Core.Path.{_≡_}
 use mathlib.Core.List.{List}
 use mathlib.Core.Logic.{_⊎_}
 use lib.ListN.{length, getD, set}
+use Rattle.lists.specs.Tests.{pick}
 use Rattle.tables.specs.declared.load.Load.{Load}
-use Rattle.tables.specs.Limits.{maxLoads}
+use Rattle.tables.specs.Limits.{maxLoads, between}
 use Rattle.meaning.specs.Forest.{tree}
 use Rattle.meaning.specs.Best.{bestTree}
 use Rattle.tables.specs.declared.entry.Entry.{Entry}
@@ -116,20 +117,18 @@ pub record Passed (p : Problem) (n : ℕ) (s : Pass) : Type 0 where
   pub led : (i j : ℕ) → n ≤ i → i < p .tables .loads .count → 0 < j → j ≤ n → Opens (loadsFor p) j (suc i) → Known p (s .rows) i
 
 -- ---- of the outline alone
--- it is the outline of some problem whose cells the work holds
-pub record Searched (sh : Shape) (o w : List ℕ) : Type 0 where
+-- it is the outline of some problem with a load or more, and the work has its cells, whatever these hold
+pub record Readable (sh : Shape) (o w : List ℕ) : Type 0 where
   pub problem : Problem
-  pub complete : Complete problem sh o w
+  pub outlined : Outlines problem sh o
+  pub ready : Ready sh w
+  pub some : 0 < problem .tables .loads .count
 
--- and the first n loads were passed, but not all
-pub record Passing (sh : Shape) (o w : List ℕ) (n : ℕ) (s : Pass) : Type 0 where
-  pub problem : Problem
-  pub complete : Complete problem sh o w
-  pub passed : Passed problem n s
-  pub low : 0 < n
-  pub high : n < problem .tables .loads .count
+-- a number from 1 to high, less 1; else 0
+abbrev pub within : (x high : ℕ) → ℕ
+within x h = pick (between 1 h x) (x - 1) 0
 
--- whatever problem that is, r is the pass with one load more
+-- whatever problem that is, and if the cells hold what they are to hold, r is the pass with one load more
 abbrev pub PassedOn : Shape → (o w : List ℕ) → ℕ → (s r : Pass) → Type 0
 PassedOn sh o w n s r = (p : Problem) → Complete p sh o w → Passed p n s → 0 < n → n < p .tables .loads .count → Passed p (n + 1) r
 

@@ -87,11 +87,12 @@ fn share_for(sh: Shape, t: Joint, lead: Lead, work: &[u32], c: usize, goal: u32)
     c + 1
 }
 
-// The lowest of these rules that reaches the goal with the allowance c.
+// The lowest of these rules that reaches the goal with the allowance c. Whatever the cells hold, what follows is in range.
 fn chosen(sh: Shape, o: &[u16], t: Joint, r: Rules, work: &[u32], c: usize, goal: u32) -> Choice
     requires { ⌜ Ready sh (now work) × JointFits sh t × RulesFit sh (now o) (t .branch) r ⌝ }
     requires { ⌜ c ≤ sh .budget ⌝ }
-    ensures { λ d. ⌜ (goal ≡ bestIn (now (o .entry)) r (reachOf sh (now (work .entry)) t c) .value → 0 < goal → d ≡ choiceIn sh (now (o .entry)) (now (work .entry)) t r c) ⌝ }
+    ensures right { λ d. ⌜ (goal ≡ bestIn (now (o .entry)) r (reachOf sh (now (work .entry)) t c) .value → 0 < goal → d ≡ choiceIn sh (now (o .entry)) (now (work .entry)) t r c) ⌝ }
+    ensures bounds { λ d. ⌜ (d .rest ≤ sh .loads) × (d .left ≤ c) ⌝ }
 {
     let mut j = next_rule(o, r, 0);
     while j < r.count {
@@ -112,11 +113,12 @@ fn chosen(sh: Shape, o: &[u16], t: Joint, r: Rules, work: &[u32], c: usize, goal
     Choice::NONE
 }
 
-// What is chosen for load k and state or stage x with the allowance c, where that is possible.
+// What is chosen for load k and state or stage x with the allowance c, where that is possible; in range, whatever the cells hold.
 pub(crate) fn choose(sh: Shape, o: &[u16], work: &[u32], k: usize, x: usize, c: usize) -> Choice
     requires { ⌜ Ready sh (now work) × OutlineFits sh (now o) ⌝ }
     requires { ⌜ (0 < k) × (k ≤ sh .loads) × (x < sh .states + sh .stages) × (c ≤ sh .budget) ⌝ }
-    ensures { λ d. ⌜ (cellsFrom (now (work .entry)) (placeOf sh k x) c ≡ reached sh (now (o .entry)) (now (work .entry)) k x c → 0 < reached sh (now (o .entry)) (now (work .entry)) k x c → d ≡ choiceIn sh (now (o .entry)) (now (work .entry)) (jointIn sh (now (o .entry)) k x) (rulesIn sh (now (o .entry)) x) c) ⌝ }
+    ensures right { λ d. ⌜ (cellsFrom (now (work .entry)) (placeOf sh k x) c ≡ reached sh (now (o .entry)) (now (work .entry)) k x c → 0 < reached sh (now (o .entry)) (now (work .entry)) k x c → d ≡ choiceIn sh (now (o .entry)) (now (work .entry)) (jointIn sh (now (o .entry)) k x) (rulesIn sh (now (o .entry)) x) c) ⌝ }
+    ensures bounds { λ d. ⌜ (d .rest ≤ sh .loads) × (d .left ≤ c) ⌝ }
 {
     let t = joint_at(sh, o, k, x);
     let r = rules_at(sh, o, x);

@@ -2,6 +2,7 @@
 use crate::best::best_start;
 use crate::choice::Choice;
 use crate::choice::choose;
+use cells::fill::lesser;
 use cells::problem::Shape;
 use runs::outcome::NO_SET;
 use runs::outcome::PLANNED;
@@ -13,7 +14,7 @@ ghost use mathlib.Core.Path.{_≡_};
 ghost use Prim.Native.Nat.{_≤_, _<_};
 ghost use Rattle.tables.specs.Limits.{maxLoads};
 ghost use Rattle.meaning.specs.Cell.{powerLimit};
-ghost use Rattle.engine.specs.Pass.{entered, passedLoad, Searched, Passing, PassedOn, Traced};
+ghost use Rattle.engine.specs.Pass.{entered, passedLoad, within, Readable, PassedOn, Traced};
 
 // The stage and the allowance at which the row from each load onward is entered. Those of a load that no row was led to yet mean nothing.
 pub struct Rows {
@@ -71,25 +72,39 @@ impl Pass {
     }
 }
 
-// Load n + 1, whose row is entered, is passed.
+// A number from 1 to high, less 1, where x is one; else 0.
+fn within(x: u8, high: usize) -> usize
+    requires { ⌜ 0 < high ⌝ }
+    ensures { λ r. ⌜ (r ≡ within x high) × (r < high) ⌝ }
+{
+    let number = x as usize;
+    if (1 <= number) & (number <= high) {
+        return number - 1;
+    }
+    0
+}
+
+// Load n + 1 is passed. Where its row is entered and the cells hold what they are to hold, it is passed as the definitions choose; else somehow.
 fn pass_next(sh: Shape, o: &[u16], work: &[u32], s: Pass, n: usize) -> Pass
-    requires { ⌜ Passing sh (now o) (now work) n s ⌝ }
+    requires { ⌜ Readable sh (now o) (now work) × (0 < sh .states) × (n < sh .loads) ⌝ }
     ensures { λ r. ⌜ PassedOn sh (now (o .entry)) (now (work .entry)) n s r ⌝ }
 {
     let rows = s.rows;
-    let stage = rows.stages[n] as usize;
-    let left = rows.left[n] as usize;
-    let r = choose(sh, o, work, n + 1, sh.states + (stage - 1), left);
-    let c = choose(sh, o, work, n + 1, r.label as usize - 1, r.share);
+    let stage = within(rows.stages[n], sh.stages);
+    let left = lesser(rows.left[n] as usize, sh.budget);
+    let r = choose(sh, o, work, n + 1, sh.states + stage, left);
+    let state = within(r.label, sh.states);
+    let share = lesser(r.share, sh.budget);
+    let c = choose(sh, o, work, n + 1, state, share);
     let later = rows.with(r.rest, r.stage, r.left);
     let run = s.run;
     let here = Pass { run, rows: later };
     here.with(n + 1, r.rule, r.label, c)
 }
 
-// Reads the run back: nothing where no start state is possible.
+// Reads the run back: nothing where no start state is possible. Whatever the cells hold, it ends.
 pub(crate) fn trace(sh: Shape, o: &[u16], work: &[u32]) -> StoredOutcome
-    requires { ⌜ Searched sh (now o) (now work) ⌝ }
+    requires { ⌜ Readable sh (now o) (now work) ⌝ }
     ensures { λ r. ⌜ Traced sh (now (o .entry)) (now (work .entry)) r ⌝ }
 {
     let b = best_start(sh, work, sh.budget);

@@ -27,12 +27,21 @@ ghost use Rattle.marks.specs.Sets.{markIn};
 ghost use Rattle.runs.specs.Outcome.{found, storedOutcome};
 ghost use Rattle.meaning.specs.Cells.{cellsOf};
 ghost use Rattle.cells.specs.Problem.{shapeOf, Lawful};
-ghost use Rattle.cells.specs.Outline.{outlineSize};
+ghost use Rattle.cells.specs.Outline.{outlineSize, Outlines};
 ghost use Rattle.cells.specs.Work.{cellsNeeded};
-ghost use Rattle.engine.specs.Pass.{answerTo, checkCells, Complete};
+ghost use Rattle.engine.specs.Pass.{answerTo, checkCells, Complete, Readable, Traced};
 
 // The cells of a check: every load with 8 states and 8 stages, one allowance.
 const CHECK_CELLS: usize = MAX_LOADS * 16;
+
+// The outline of a problem is written. The answer is its shape.
+pub(crate) fn outlined(p: Problem, outline: &mut [u16]) -> Shape
+    requires { ⌜ Lawful p × (now outline ≡ replicate outlineSize 0) ⌝ }
+    ensures { λ r. ⌜ Outlines p r (now (outline .exit)) ⌝ }
+{
+    put_outline(outline, p);
+    shape_of(p)
+}
 
 // The cells of a problem are filled, over the outline that is written for it. Its shape is that of both.
 pub(crate) fn fill_cells(p: Problem, outline: &mut [u16], work: &mut [u32]) -> Shape
@@ -42,11 +51,22 @@ pub(crate) fn fill_cells(p: Problem, outline: &mut [u16], work: &mut [u32]) -> S
     ensures filled { λ r. ⌜ Complete p r (now (outline .exit)) (now (work .exit)) ⌝ }
     ensures rest { λ _. ⌜ drop (cellsNeeded (shapeOf p)) (now (work .exit)) ≡ drop (cellsNeeded (shapeOf p)) (now (work .entry)) ⌝ }
 {
-    let sh = shape_of(p);
-    put_outline(&mut *outline, p);
+    let sh = outlined(p, &mut *outline);
     let n = cells_needed(sh);
     fill(sh, &outline[..], work, 0, n);
     sh
+}
+
+// The run is read back from the cells of an outline, which are 0 afterwards.
+pub(crate) fn read_back(sh: Shape, o: &[u16], work: &mut [u32]) -> StoredOutcome
+    requires { ⌜ Readable sh (now o) (now work) ⌝ }
+    ensures read { λ r. ⌜ Traced sh (now (o .entry)) (now (work .entry)) r ⌝ }
+    ensures cleared { λ _. ⌜ now (work .exit) ≡ replicate (cellsNeeded sh) 0 ++ drop (cellsNeeded sh) (now (work .entry)) ⌝ }
+{
+    let found = trace(sh, o, &work[..]);
+    let n = cells_needed(sh);
+    clear(work, n);
+    found
 }
 
 // A problem is searched: its cells are filled, the run is read back from them, and they are cleared.
@@ -58,10 +78,7 @@ fn search(p: Problem, work: &mut [u32]) -> StoredOutcome
 {
     let mut outline = [0u16; OUTLINE];
     let sh = fill_cells(p, &mut outline[..], &mut *work);
-    let found = trace(sh, &outline[..], &work[..]);
-    let n = cells_needed(sh);
-    clear(work, n);
-    found
+    read_back(sh, &outline[..], work)
 }
 
 // The plan of the tables, worked out in the lent cells, which are 0 afterwards.

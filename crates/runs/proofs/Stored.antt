@@ -1,5 +1,5 @@
 -- An outcome within its range, stored and read back, and the test of one that is handed in. Assumes nothing.
-use Prim.Native.Nat.{ℕ, zero, suc, _≤_, _<_, zero-le}
+use Prim.Native.Nat.{ℕ, zero, suc, _+_, _≤_, _<_, zero-le}
 use mathlib.Core.Path.{_≡_, refl, sym, ap, subst, _∙_}
 use mathlib.Core.Bool.{true, _&&_}
 use mathlib.Core.List.{List, [], _∷_, map}
@@ -17,14 +17,21 @@ use Rattle.marks.specs.declared.LoadSet.{LoadSet}
 use Rattle.marks.specs.Sets.{setWidth, noLoads, loadsUpTo}
 use Rattle.marks.proofs.Sets.{firstOf, first-up-to}
 use Rattle.tables.specs.Tables.{Tables}
-use Rattle.tables.specs.Limits.{between}
+use Rattle.tables.specs.Limits.{between, Limits}
 use Rattle.tables.specs.Lawful.{Lawful}
+use Rattle.tables.proofs.Lawful.{lawful}
 use Rattle.tables.specs.declared.entry.Entry.{Entry}
 use Rattle.meaning.specs.Runs.{TreeRun, rowRuleIn}
 use Rattle.meaning.specs.Sets.{treeOf}
-use Rattle.meaning.specs.Choice.{noEntry, find, assignedBy}
+use Rattle.meaning.specs.Best.{bestPlan}
+use Rattle.meaning.specs.Choice.{noEntry, find, plan, planEntries, assignedBy, shownSet}
 use Rattle.meaning.specs.Claims.{Numbered, EachLoad}
 use Rattle.meaning.proofs.Named.{run-names}
+use Rattle.meaning.proofs.Ranges.{plan-bounded}
+use Rattle.meaning.proofs.Entries.{plan-listed}
+use Rattle.meaning.proofs.InOrder.{listed-numbered, same-find}
+use Rattle.meaning.proofs.Ordered.{loads-ordered}
+use Rattle.meaning.proofs.Claims.{claims}
 use Rattle.runs.specs.declared.run.Run.{Run}
 use Rattle.runs.specs.declared.outcome.StoredOutcome.{StoredOutcome}
 use Rattle.runs.specs.declared.outcome.RunRange.{RunRange}
@@ -167,3 +174,25 @@ run-in t w es l marks σ run =
     let at : find es (suc i) ≡ getD es i noEntry = ap (find es) (sym (one-add i)) ∙ find-at es 1 i (l .each) b in
     let named = run-names t w σ (assignedBy es) run (suc i) (omega arith) (omega (arith, l .all)) in
     rw (s, number, eq-eqb (suc i) (suc i) refl, le-leb (getD es i noEntry .mark) 1 (marks i b)) (rw at at named)))
+
+-- ---- what a plan finds is in range for its tables
+module _ (t : Tables) (h : Limits t) where
+  plan-mark : (i : ℕ) → i < length (planEntries t) → getD (planEntries t) i noEntry .mark ≤ 1
+  unfolding planEntries
+  plan-mark i b =
+      let l = plan-listed t (loads-ordered (t .loads) (lawful t h .load)) in
+      let at = sym (find-at (planEntries t) 1 i (listed-numbered (plan t) (length (t .loads)) l) b) ∙ same-find (plan t) (length (t .loads)) l (1 + i) in
+      rw at (plan-bounded t (lawful t h) (1 + i) .mark)
+
+  pub plan-in : 0 < bestPlan t → outcomeIn (rangeOf t) (planned (planEntries t)) ≡ true
+  plan-in pos =
+      let p = claims t h .planned pos in
+      run-in t (lawful t h) (planEntries t) (p .loads) plan-mark (shownSet (planEntries t)) (p .run)
+
+  pub found-in : outcomeIn (rangeOf t) (found (bestPlan t) (planEntries t)) ≡ true
+  unfolding outcomeIn
+  found-in = go (bestPlan t) refl
+    where
+      go : (v : ℕ) → bestPlan t ≡ v → outcomeIn (rangeOf t) (found v (planEntries t)) ≡ true
+      go zero e = refl
+      go (suc v) e = plan-in (omega arith)

@@ -57,8 +57,10 @@ returns c =
     let h = c .before in
     let p = h .before .before in
     let r = p .before in
-    let s = r .before .before .before .before .args in
-    used (s .sh) (s .o .now) (s .work .now) (s .k) (s .x) (s .c) _ _ _ _ (r .before .joint-at .ensures) (r .rules-at .ensures) _ (p .place .ensures) (h .held .ensures) (c .chosen .ensures)
+    let s = r .before .before .before .before .args in (
+      used (s .sh) (s .o .now) (s .work .now) (s .k) (s .x) (s .c) _ _ _ _ (r .before .joint-at .ensures) (r .rules-at .ensures) _ (p .place .ensures) (h .held .ensures) (c .chosen .ensures .0),
+      c .chosen .ensures .1,
+    )
 
 pub choose-spec : {M : Type 1} → statement M
 choose-spec =

@@ -1,9 +1,9 @@
--- `chosen` meets its contract: the rules below j do not reach the goal. Assumes nothing.
-use Prim.Native.Nat.{ℕ, _+_, _-_, _≤_, _<_}
+-- `chosen` meets its contract: the rules below j do not reach the goal, and what follows is the joint's. Assumes nothing.
+use Prim.Native.Nat.{ℕ, _+_, _-_, _≤_, _<_, zero-le}
 use mathlib.Core.Path.{_≡_, sym, ap, _∙_}
 use mathlib.Core.List.{List}
 use mathlib.Core.Logic.{_⊎_, inl, inr}
-use native.Mathlib.Nat.{eq-or-lt-of-le}
+use native.Mathlib.Nat.{eq-or-lt-of-le, sub-le}
 use native.Mathlib.Omega.{arith}
 use native.Mathlib.Decide.{decLt}
 use borrow.Author.Needs.{needs}
@@ -100,13 +100,15 @@ returns c =
     let t = l .before in
     let e = t .before .before .loop in
     let s = t .before .before .before .before .before .before .args in
-    let b = e .inv .1 (t .if1 .taken) in
-    λ q pos.
-    let h = no-more (s .sh) (s .o .now) (s .work .now) (s .t) (s .r) (s .c) (s .goal) (e .j) _ (t .if1 .taken) b (l .lead-of .ensures) q in
-    let k = d .share-for .ensures pos h .hit (i .if2 .taken) in
-    let u = by-rule (s .sh) (s .o .now) (s .work .now) (s .t) (s .r) (s .c) (s .goal) (e .j) _ (t .if1 .taken) b (l .lead-of .ensures) in
-    chosen-is (s .sh) (s .o .now) (s .work .now) (s .t) (s .r) (s .c) (e .j) (t .if1 .taken) (omega (arith, q, pos)) (sym u ∙ k .0 ∙ q)
-    (λ m i z. e .inv .2 q pos m i (z ∙ sym q)) _ _ (l .lead-of .ensures) (k .1)
+    let b = e .inv .1 (t .if1 .taken) in (
+      λ q pos.
+          let h = no-more (s .sh) (s .o .now) (s .work .now) (s .t) (s .r) (s .c) (s .goal) (e .j) _ (t .if1 .taken) b (l .lead-of .ensures) q in
+          let k = d .share-for .ensures pos h .hit (i .if2 .taken) in
+          let u = by-rule (s .sh) (s .o .now) (s .work .now) (s .t) (s .r) (s .c) (s .goal) (e .j) _ (t .if1 .taken) b (l .lead-of .ensures) in
+          chosen-is (s .sh) (s .o .now) (s .work .now) (s .t) (s .r) (s .c) (e .j) (t .if1 .taken) (omega (arith, q, pos)) (sym u ∙ k .0 ∙ q)
+          (λ m i z. e .inv .2 q pos m i (z ∙ sym q)) _ _ (l .lead-of .ensures) (k .1),
+      (t .before .before .before .before .before .before .pre .0 .1 .rest, sub-le _ _),
+    )
 
 add-next-rule : tie.Need-add-next-rule Inv-loop μ-loop
 add-next-rule c = let t = c .before .before .before in omega (arith, t .if1 .taken, t .before .before .before .before .before .before .pre .0 .2 .few)
@@ -145,10 +147,12 @@ loop-again c =
 returns-2 : tie.Need-returns-2 Inv-loop μ-loop
 returns-2 c =
     let e = c .before .before .loop in
-    let s = c .before .before .before .before .before .before .args in
-    λ q pos.
-    let f = argmax-found (term (s .o .now) (s .r) (reachOf (s .sh) (s .work .now) (s .t) (s .c))) (s .r .count) (omega (arith, q, pos)) in
-    absurd (e .inv .2 q pos _ (omega (arith, f .0, c .if1 .left)) (f .1 ∙ sym q))
+    let s = c .before .before .before .before .before .before .args in (
+      λ q pos.
+          let f = argmax-found (term (s .o .now) (s .r) (reachOf (s .sh) (s .work .now) (s .t) (s .c))) (s .r .count) (omega (arith, q, pos)) in
+          absurd (e .inv .2 q pos _ (omega (arith, f .0, c .if1 .left)) (f .1 ∙ sym q)),
+      (zero-le, zero-le),
+    )
 
 pub chosen-spec : {M : Type 1} → statement M
 chosen-spec =

@@ -1,7 +1,9 @@
--- `pass_next` meets its contract: the row of the next load is known, so it is passed as the definitions choose. Assumes nothing.
-use Prim.Native.Nat.{ℕ, suc, _+_, _-_, _≤_, _<_}
+-- `pass_next` meets its contract: what is read is in range; where the cells are complete the row of the next load is known, so it is passed as the
+-- definitions choose. Assumes nothing.
+use Prim.Native.Nat.{ℕ, suc, _+_, _-_, _≤_, _<_, min}
 use mathlib.Core.Path.{_≡_, sym, ap, ap₂, _∙_, subst}
 use mathlib.Core.List.{List}
+use native.Mathlib.Nat.{min-eq-left, min-le-right}
 use native.Mathlib.Numerals.{add-one}
 use native.Mathlib.Omega.{arith}
 use borrow.Author.Needs.{needs}
@@ -10,14 +12,13 @@ use Rattle.tables.specs.Limits.{maxLoads}
 use Rattle.meaning.specs.Cell.{powerLimit}
 use Rattle.cells.specs.declared.problem.Problem.{Problem}
 use Rattle.cells.specs.declared.problem.Shape.{Shape}
-use Rattle.cells.specs.Problem.{shapeOf}
 use Rattle.cells.proofs.InRange.{outline-fits}
 use Rattle.engine.specs.declared.choice.Choice.{Choice}
 use Rattle.engine.specs.declared.pass.Rows.{Rows}
 use Rattle.engine.specs.declared.pass.Pass.{Pass}
-use Rattle.engine.specs.Pass.{Complete, loadChoice, rowChoice, entered, passedLoad, BranchEntered, Known, Passed}
-use Rattle.engine.proofs.Passing.{branch-entered, below-entered, later-entered, row-state, row-known, child-in, next-in, pass-step}
-use Rattle.engine.proofs.Reading.{Promised, load-is, row-is}
+use Rattle.engine.specs.Pass.{Complete, loadChoice, rowChoice, within, entered, passedLoad, BranchEntered, Known, Passed}
+use Rattle.engine.proofs.Passing.{within-same, branch-entered, row-state, row-known, pass-step}
+use Rattle.engine.proofs.Reading.{Promised, budget-is, load-is, row-is}
 use Rattle.engine.proofs.pass.pass_next.Statement.{statement}
 use Rattle.engine.proofs.pass.pass_next.Tie as tie
 
@@ -46,16 +47,28 @@ module _ (p : Problem) (sh : Shape) (o w : List ℕ) (all : Complete p sh o w) (
   states : sh .states ≡ p .tables .book .states
   states = ap (λ (y : Shape). y .states) (all .outlined .shape)
 
-  row-choice : (d : Choice) → Promised sh o w (n + 1) (sh .states + (stage - 1)) left d → d ≡ here
-  row-choice d q =
-      row-is p sh o w all n (sh .states + (stage - 1)) left high (known .fits) d (subst (λ k. Promised sh o w k (sh .states + (stage - 1)) left d) (add-one n) q) stage (known .low) (known .high)
-      (omega (arith, states)) (known .part .possible)
+  -- and so are its stages
+  stages : sh .stages ≡ p .tables .book .stages
+  stages = ap (λ (y : Shape). y .stages) (all .outlined .shape)
 
-  load-choice : (r d : Choice) → r ≡ here → Promised sh o w (n + 1) (r .label - 1) (r .share) d → d ≡ loadChoice p (suc n) (here .label) (here .share)
-  load-choice r d e q =
+  -- what is read is in range, so it is read as it is
+  row-choice : (g c : ℕ) → g ≡ within stage (sh .stages) → c ≡ min left (sh .budget) → (d : Choice) → Promised sh o w (n + 1) (sh .states + g) c d → d ≡ here
+  row-choice g c eg ec d q =
+      let g′ : g ≡ stage - 1 = eg ∙ within-same stage (sh .stages) (known .low) (omega (arith, known .high, stages)) in
+      let c′ : c ≡ left = ec ∙ min-eq-left (omega (arith, known .fits, budget-is p sh o w all)) in
+      row-is p sh o w all n (sh .states + g) left high (known .fits) d
+      (subst (λ c. Promised sh o w (suc n) (sh .states + g) c d) c′ (subst (λ k. Promised sh o w k (sh .states + g) c d) (add-one n) q))
+      stage (known .low) (known .high) (omega (arith, states)) (known .part .possible)
+
+  load-choice : (r d : Choice) → r ≡ here → (x c : ℕ) → x ≡ within (r .label) (sh .states) → c ≡ min (r .share) (sh .budget) → Promised sh o w (n + 1) x c d
+      → d ≡ loadChoice p (suc n) (here .label) (here .share)
+  load-choice r d e x c ex ec q =
       let u : suc (here .label - 1) ≡ here .label = omega (arith, state .0) in
+      let x′ : x ≡ here .label - 1 =
+      ex ∙ ap (λ (r : Choice). within (r .label) (sh .states)) e ∙ within-same (here .label) (sh .states) (state .0) (omega (arith, state .1, states)) in
+      let c′ : c ≡ here .share = ec ∙ ap (λ (r : Choice). min (r .share) (sh .budget)) e ∙ min-eq-left (omega (arith, entry .fits, budget-is p sh o w all)) in
       load-is p sh o w all n (here .label - 1) (here .share) high (entry .fits) d
-      (subst (λ (r : Choice). Promised sh o w (suc n) (r .label - 1) (r .share) d) e (subst (λ k. Promised sh o w k (r .label - 1) (r .share) d) (add-one n) q))
+      (subst (λ x. Promised sh o w (suc n) x (here .share) d) x′ (subst (λ c. Promised sh o w (suc n) x c d) c′ (subst (λ k. Promised sh o w k x c d) (add-one n) q)))
       (omega (arith, state .0, state .1)) (rw u (entry .part .possible))
       ∙ ap (λ q. loadChoice p (suc n) q (here .share)) u
 
@@ -74,135 +87,97 @@ module _ (p : Problem) (sh : Shape) (o w : List ℕ) (all : Complete p sh o w) (
           et ∙ ap₂ (λ k (x : Rows). after k r d x) (add-one n) (el ∙ ap (λ (r : Choice). entered (s .rows) (r .rest) (r .stage) (r .left)) er)
           ∙ ap₂ (λ (r d : Choice). after (suc n) r d (entered (s .rows) (here .rest) (here .stage) (here .left))) er ed
 
-  -- what it leads to is in range
-  rest-in : (r : Choice) → r ≡ here → (r .rest ≤ maxLoads) × (r .left < powerLimit)
-  rest-in r e =
-      let l = later-entered p (all .outlined .lawful) n stage left known .fits in
-      rw e (next-in p (all .outlined .lawful) (suc n) stage left, omega (arith, l, all .outlined .lawful .sane .budget))
-
-  child-fits : (d : Choice) → d ≡ loadChoice p (suc n) (here .label) (here .share) → (d .rest ≤ maxLoads) × (d .left < powerLimit)
-  child-fits d e =
-      let l = below-entered p (all .outlined .lawful) (suc n) (here .rule) (here .label) (here .share) entry .fits in
-      rw e (child-in p (all .outlined .lawful) (suc n) (here .label) (here .share), omega (arith, l, all .outlined .lawful .sane .budget))
-
--- ---- along the code, with the problem that is known to be there
+-- ---- along the code, whatever the cells hold
 few : (s : tie.Start) → s .args .n < maxLoads
-few s = let k = s .pre in omega (arith, k .high, k .complete .outlined .lawful .sane .loads)
+few s = omega (arith, s .pre .2, s .pre .0 .ready .sane .loads)
 
-module _ (s : tie.Start) where
-  abbrev chosen : Choice
-  chosen = let k = s .pre in here (k .problem) (s .args .sh) (s .args .o .now) (s .args .work .now) (k .complete) (s .args .n) (s .args .s) (k .passed) (k .low) (k .high)
+-- there is a stage where there is a state
+staged : (s : tie.Start) → 0 < s .args .sh .stages
+staged s =
+    let k = s .pre .0 in
+    let e = k .outlined .shape in
+    let g = k .outlined .lawful .staged (omega (arith, s .pre .1, ap (λ (y : Shape). y .states) e)) in
+    omega (arith, g, ap (λ (y : Shape). y .stages) e)
 
-  entered-here : Known (s .pre .problem) (s .args .s .rows) (s .args .n)
-  entered-here = let k = s .pre in known (k .problem) (s .args .sh) (s .args .o .now) (s .args .work .now) (k .complete) (s .args .n) (s .args .s) (k .passed) (k .low) (k .high)
+-- what follows a choice is in range
+follows : (s : tie.Start) (d : Choice) (c : ℕ) → c ≤ s .args .sh .budget → (d .rest ≤ s .args .sh .loads) × (d .left ≤ c) → (d .rest ≤ maxLoads) × (d .left < powerLimit)
+follows s d c l h = let k = s .pre .0 .ready .sane in (omega (arith, h .0, k .loads), omega (arith, h .1, k .budget))
 
-  state-here : (0 < chosen .label) × (chosen .label ≤ s .pre .problem .tables .book .states)
-  state-here = let k = s .pre in state (k .problem) (s .args .sh) (s .args .o .now) (s .args .work .now) (k .complete) (s .args .n) (s .args .s) (k .passed) (k .low) (k .high)
+within-requires : tie.Need-within-requires
+within-requires c κs = staged (c .before .before .before .before)
 
-  share-here : chosen .share ≤ s .pre .problem .tables .budget
-  share-here = let k = s .pre in entry (k .problem) (s .args .sh) (s .args .o .now) (s .args .work .now) (k .complete) (s .args .n) (s .args .s) (k .passed) (k .low) (k .high) .fits
+-- the allowances are within the budget
+lesser-in : (x y r : ℕ) → r ≡ min x y → r ≤ y
+lesser-in x y r e = omega (arith, min-le-right x y)
 
-  shape-here : s .args .sh ≡ shapeOf (s .pre .problem)
-  shape-here = s .pre .complete .outlined .shape
+left-in : (c : tie.After-lesser) → c .lesser .result ≤ c .before .before .before .before .before .before .before .args .sh .budget
+left-in c = lesser-in _ _ _ (c .lesser .ensures)
 
-row-found : (c : tie.After-choose) → c .choose .result ≡ chosen (c .before .before .before .before .before .before .before)
-row-found c =
-    let s = c .before .before .before .before .before .before .before in
-    let k = s .pre in
-    row-choice (k .problem) (s .args .sh) (s .args .o .now) (s .args .work .now) (k .complete) (s .args .n) (s .args .s) (k .passed) (k .low) (k .high) _ (c .choose .ensures)
-
-sub-choose : tie.Need-sub-choose
-sub-choose c = let s = c .before .before .before .before .before in omega (arith, entered-here s .low)
-
-add-choose-2 : tie.Need-add-choose-2
-add-choose-2 c =
-    let s = c .before .before .before .before .before .before in
-    omega (arith, s .pre .complete .ready .sane .states, entered-here s .low, entered-here s .high, s .pre .complete .outlined .lawful .sane .stages)
+share-in : (c : tie.After-lesser2) → c .lesser2 .result ≤ c .before .before .before .before .before .before .before .before .before .before .before .args .sh .budget
+share-in c = lesser-in _ _ _ (c .lesser2 .ensures)
 
 choose-requires : tie.Need-choose-requires
 choose-requires c κs =
-    let s = c .before .before .before .before .before .before in
-    let k = s .pre in
-    let e = entered-here s in
-    let q = shape-here s in (
-      (k .complete .ready, outline-fits (k .problem) _ _ (k .complete .outlined)),
-      (
-        omega arith,
-        omega (arith, k .high, ap (λ (y : Shape). y .loads) q),
-        omega (arith, e .low, e .high, ap (λ (y : Shape). y .stages) q),
-        omega (arith, e .fits, ap (λ (y : Shape). y .budget) q),
-      ),
-    )
-
-sub-choose-2 : tie.Need-sub-choose-2
-sub-choose-2 c =
-    let r = c .before in
-    let s = r .before .before .before .before .before .before .before in
-    omega (arith, state-here s .0, ap (λ (d : Choice). d .label) (row-found r))
+    let l = c .before in
+    let w = l .before .before in
+    let s = w .before .before .before .before .before in
+    let k = s .pre .0 in
+    ((k .ready, outline-fits (k .problem) _ _ (k .outlined)), (omega arith, omega (arith, s .pre .2), omega (arith, w .within .ensures .1), left-in l))
 
 choose-requires-2 : tie.Need-choose-requires-2
 choose-requires-2 c κs =
-    let r = c .before in
-    let s = r .before .before .before .before .before .before .before in
-    let k = s .pre in
-    let q = shape-here s in
-    let e = row-found r in (
-      (k .complete .ready, outline-fits (k .problem) _ _ (k .complete .outlined)),
-      (
-        omega arith,
-        omega (arith, k .high, ap (λ (y : Shape). y .loads) q),
-        omega (arith, state-here s .0, state-here s .1, ap (λ (d : Choice). d .label) e, ap (λ (y : Shape). y .states) q),
-        omega (arith, share-here s, ap (λ (d : Choice). d .share) e, ap (λ (y : Shape). y .budget) q),
-      ),
-    )
+    let w = c .before in
+    let s = w .before .before .before .before .before .before .before .before .before .before in
+    let k = s .pre .0 in
+    ((k .ready, outline-fits (k .problem) _ _ (k .outlined)), (omega arith, omega (arith, s .pre .2), omega (arith, w .within2 .ensures .1), share-in c))
 
 with-requires : tie.Need-with-requires
 with-requires c κs =
-    let r = c .before .before in
-    let s = r .before .before .before .before .before .before .before in
-    let k = s .pre in
-    rest-in (k .problem) (s .args .sh) (s .args .o .now) (s .args .work .now) (k .complete) (s .args .n) (s .args .s) (k .passed) (k .low) (k .high) _ (row-found r)
+    let r = c .before .before .before in
+    let l = r .before .before in
+    let s = l .before .before .before .before .before .before .before in
+    follows s (r .choose .result) _ (left-in l) (r .choose .ensures .1)
 
 with-requires-2 : tie.Need-with-requires-2
 with-requires-2 c κs =
     let l = c .before .before in
-    let r = l .before .before in
-    let s = r .before .before .before .before .before .before .before in
-    let k = s .pre in
-    let d = load-choice (k .problem) (s .args .sh) (s .args .o .now) (s .args .work .now) (k .complete) (s .args .n) (s .args .s) (k .passed) (k .low) (k .high) _ _ (row-found r) (l .choose2 .ensures) in
-    let f = child-fits (k .problem) (s .args .sh) (s .args .o .now) (s .args .work .now) (k .complete) (s .args .n) (s .args .s) (k .passed) (k .low) (k .high) _ d in
+    let s = l .before .before .before .before .before .before .before .before .before .before .before .before in
+    let f = follows s (l .choose2 .result) _ (share-in (l .before)) (l .choose2 .ensures .1) in
     (omega arith, omega (arith, few s), f .0, f .1)
 
 returns : tie.Need-returns
 returns c =
     let w = c .before .before in
     let l = w .before in
-    let r = l .before .before in
-    let s = r .before .before .before .before .before .before .before in
-    let a = s .args in
+    let m = l .before in
+    let v = m .before in
+    let r = v .before in
+    let x = r .before .before in
+    let g = x .before .before in
+    let a = g .before .before .before .before .before .args in
     λ p all h low high.
-    let er = row-choice p (a .sh) (a .o .now) (a .work .now) all (a .n) (a .s) h low high _ (r .choose .ensures) in
-    let el = load-choice p (a .sh) (a .o .now) (a .work .now) all (a .n) (a .s) h low high _ _ er (l .choose2 .ensures) in
+    let er = row-choice p (a .sh) (a .o .now) (a .work .now) all (a .n) (a .s) h low high _ _ (g .within .ensures .0) (x .lesser .ensures) _ (r .choose .ensures .0) in
+    let el = load-choice p (a .sh) (a .o .now) (a .work .now) all (a .n) (a .s) h low high _ _ er _ _ (v .within2 .ensures .0) (m .lesser2 .ensures) (l .choose2 .ensures .0) in
     passed p (a .sh) (a .o .now) (a .work .now) all (a .n) (a .s) h low high _ _ er el _ (w .with .ensures) _ (c .with2 .ensures)
 
 pub pass-next-spec : {M : Type 1} → statement M
 pass-next-spec =
     tie.close
     (tie.spec
-    (λ c. few (c .before .before .before))
     (λ c. search needs)
-    (λ c. let h = few (c .before .before .before .before) in omega arith)
-    (λ c. few (c .before .before .before .before))
+    within-requires
     (λ c. search needs)
-    (λ c. let h = few (c .before .before .before .before .before) in omega arith)
-    sub-choose
-    add-choose-2
+    (λ c. search needs)
+    (λ c. search needs)
+    (λ c κs. search needs)
+    (λ c. search needs)
+    (λ c. search needs)
     choose-requires
-    (λ c. let h = few (c .before .before .before .before .before .before .before) in omega arith)
+    (λ c κs. search needs)
+    (λ c κs. search needs)
     (λ c. search needs)
-    sub-choose-2
     choose-requires-2
     with-requires
-    (λ c. let h = few (c .before .before .before .before .before .before .before .before .before .before .before) in omega arith)
+    (λ c. let h = few (c .before .before .before .before .before .before .before .before .before .before .before .before .before .before) in omega arith)
     with-requires-2
     returns)

@@ -6,15 +6,15 @@ use native.Mathlib.Nat.{le-refl}
 use native.Mathlib.Numerals.{add-one}
 use native.Mathlib.Omega.{arith}
 use Rattle.lists.specs.Arrays.{laid}
+use Rattle.lists.specs.Argmax.{Greatest}
+use Rattle.lists.proofs.Argmax.{argmax-found}
 use Rattle.tables.specs.Limits.{maxStates, maxLoads}
-use Rattle.meaning.specs.Cell.{powerLimit}
 use Rattle.meaning.specs.Choice.{inOrder}
 use Rattle.cells.specs.declared.problem.Problem.{Problem}
 use Rattle.cells.specs.declared.problem.Shape.{Shape}
 use Rattle.cells.specs.Problem.{bookFor, loadsFor, itemsFor, shapeOf}
 use Rattle.cells.specs.Work.{branchFor}
 use Rattle.cells.proofs.InRange.{outline-fits}
-use Rattle.cells.proofs.Stretches.{loads-long}
 use Rattle.runs.specs.declared.run.Run.{Run}
 use Rattle.runs.specs.Runs.{markAll, runOf}
 use Rattle.runs.specs.Outcome.{storedOutcome}
@@ -24,9 +24,8 @@ use Rattle.engine.specs.declared.choice.Choice.{Choice}
 use Rattle.engine.specs.declared.pass.Pass.{Pass}
 use Rattle.engine.specs.Search.{greatestOf, rootBest}
 use Rattle.engine.specs.Parts.{startBest}
-use Rattle.engine.specs.Pass.{bestFor, entriesFor, answerTo, Complete, loadChoice, passedLoad, BranchEntered, Passed}
-use Rattle.engine.proofs.Parts.{root-part}
-use Rattle.engine.proofs.Passing.{below-entered, child-in, pass-root}
+use Rattle.engine.specs.Pass.{bestFor, entriesFor, answerTo, Complete, loadChoice, passedLoad, Passed}
+use Rattle.engine.proofs.Passing.{pass-root}
 use Rattle.engine.proofs.Reading.{start-index, start-value, start-pos, start-used, start-possible, Promised, whole, budget-is, load-is}
 use Rattle.engine.proofs.pass.trace.Statement.{statement}
 use Rattle.engine.proofs.pass.trace.Tie as tie
@@ -37,6 +36,12 @@ start = record { run = runOf maxLoads []; rows = record { stages = laid 0 maxLoa
 -- the best start state of an outline
 abbrev BestStart : Shape → List ℕ → Best → Type 0
 BestStart sh w b = greatestOf b ≡ rootBest sh w (sh .budget)
+
+-- it is one of the shape's states, whatever the cells hold
+index-in : (sh : Shape) (w : List ℕ) (b : Best) → BestStart sh w b → (b .value ≡ 0 → ⊥) → b .index < sh .states
+index-in sh w b e found =
+    let pos : 0 < rootBest sh w (sh .budget) .value = omega (arith, ap (λ (g : Greatest). g .value) e) in
+    omega (arith, ap (λ (g : Greatest). g .index) e, argmax-found _ (sh .states) pos .0)
 
 -- whatever problem the outline is of
 module _ (p : Problem) (sh : Shape) (o w : List ℕ) (all : Complete p sh o w) (b : Best) (eb : BestStart sh w b) where
@@ -62,18 +67,6 @@ module _ (p : Problem) (sh : Shape) (o w : List ℕ) (all : Complete p sh o w) (
         (subst (λ q. 0 < branchFor p 1 q (p .tables .budget)) (add-one (b .index)) (start-possible p o w (whole p sh o w all) b own found))
         ∙ ap (λ q. loadChoice p 1 (suc q) (p .tables .budget)) (start-index p o w (whole p sh o w all) b own)
 
-    root-entered : BranchEntered p 1 0 (suc best) (p .tables .budget)
-    root-entered = record {
-      part = root-part (bookFor p) (itemsFor p) (loadsFor p) (p .tables .budget) (omega (arith, all .some, loads-long p (all .outlined .lawful)))
-          (start-pos p o w (whole p sh o w all) b own found) (all .outlined .lawful .loads .ordered);
-      fits = le-refl _;
-    }
-
-    child-fits : (d : Choice) → d ≡ loadChoice p 1 (suc best) (p .tables .budget) → (d .rest ≤ maxLoads) × (d .left < powerLimit)
-    child-fits d e =
-        let l = below-entered p (all .outlined .lawful) 1 0 (suc best) (p .tables .budget) root-entered .fits in
-        rw e (child-in p (all .outlined .lawful) 1 (suc best) (p .tables .budget), omega (arith, l, all .outlined .lawful .sane .budget))
-
     passed : (d : Choice) → d ≡ loadChoice p 1 (suc best) (p .tables .budget) → (t : Pass) → t ≡ passedLoad start 1 0 (b .index + 1) d → Passed p 1 t
     unfolding runOf laid markAll
     passed d ed t et =
@@ -94,7 +87,7 @@ abbrev μ-loop : tie.MeasureT-loop
 
 best-start-requires : tie.Need-best-start-requires Inv-loop μ-loop
 best-start-requires c κs =
-    let k = c .before .before .pre .complete in
+    let k = c .before .before .pre in
     (k .ready, (omega (arith, k .some, ap (λ (y : Shape). y .loads) (k .outlined .shape)), le-refl _))
 
 returns : tie.Need-returns Inv-loop μ-loop
@@ -104,40 +97,29 @@ returns c =
     let a = b .before .before .before .args in
     λ p all. nothing p (a .sh) (a .o .now) (a .work .now) all (b .best-start .result) (b .best-start .ensures) (c .if1 .taken)
 
--- ---- along the code, with the problem that is known to be there
-state : (c : tie.Else1 Inv-loop μ-loop) → c .before .before .best-start .result .index < c .before .before .before .before .before .pre .problem .tables .book .states
+-- ---- along the code, whatever the cells hold
+state : (c : tie.Else1 Inv-loop μ-loop) → c .before .before .best-start .result .index < c .before .before .before .before .before .args .sh .states
 state c =
     let b = c .before .before in
-    let s = b .before .before .before in
-    used (s .pre .problem) (s .args .sh) (s .args .o .now) (s .args .work .now) (s .pre .complete) (b .best-start .result) (b .best-start .ensures) (c .if1 .left)
+    let a = b .before .before .before .args in
+    index-in (a .sh) (a .work .now) (b .best-start .result) (b .best-start .ensures) (c .if1 .left)
 
 few : (c : tie.Else1 Inv-loop μ-loop) → c .before .before .best-start .result .index < maxStates
-few c = omega (arith, state c, c .before .before .before .before .before .pre .complete .outlined .lawful .sane .states)
+few c = omega (arith, state c, c .before .before .before .before .before .pre .ready .sane .states)
 
 choose-requires : tie.Need-choose-requires Inv-loop μ-loop
 choose-requires c κs =
     let e = c .before in
-    let s = e .before .before .before .before .before in
-    let k = s .pre .complete in
-    let q = k .outlined .shape in (
-      (k .ready, outline-fits (s .pre .problem) _ _ (k .outlined)),
-      (
-        omega arith,
-        omega (arith, k .some, ap (λ (y : Shape). y .loads) q),
-        omega (arith, state e, ap (λ (y : Shape). y .states) q),
-        le-refl _,
-      ),
+    let k = e .before .before .before .before .before .pre in (
+      (k .ready, outline-fits (k .problem) _ _ (k .outlined)),
+      (omega arith, omega (arith, k .some, ap (λ (y : Shape). y .loads) (k .outlined .shape)), omega (arith, state e), le-refl _),
     )
 
 with-requires : tie.Need-with-requires Inv-loop μ-loop
 with-requires c κs =
-    let e = c .before .before in
-    let b = e .before .before in
-    let s = b .before .before .before in
-    let a = s .args in
-    let d = root-choice (s .pre .problem) (a .sh) (a .o .now) (a .work .now) (s .pre .complete) (b .best-start .result) (b .best-start .ensures) (e .if1 .left) _ (c .choose .ensures) in
-    let f = child-fits (s .pre .problem) (a .sh) (a .o .now) (a .work .now) (s .pre .complete) (b .best-start .result) (b .best-start .ensures) (e .if1 .left) _ d in
-    (omega arith, omega arith, f .0, f .1)
+    let k = c .before .before .before .before .before .before .before .pre .ready .sane in
+    let d = c .choose .ensures .1 in
+    (omega arith, omega arith, omega (arith, d .0, k .loads), omega (arith, d .1, k .budget))
 
 loop-holds : tie.Need-loop-holds Inv-loop μ-loop
 unfolding runOf laid markAll
@@ -148,30 +130,23 @@ loop-holds c =
     let s = b .before .before .before in
     let a = s .args in (
       omega arith,
-      omega (arith, s .pre .complete .some, ap (λ (y : Shape). y .loads) (s .pre .complete .outlined .shape)),
+      omega (arith, s .pre .some, ap (λ (y : Shape). y .loads) (s .pre .outlined .shape)),
       λ p all.
-          let d = root-choice p (a .sh) (a .o .now) (a .work .now) all (b .best-start .result) (b .best-start .ensures) (e .if1 .left) _ (l .choose .ensures) in
+          let d = root-choice p (a .sh) (a .o .now) (a .work .now) all (b .best-start .result) (b .best-start .ensures) (e .if1 .left) _ (l .choose .ensures .0) in
           passed p (a .sh) (a .o .now) (a .work .now) all (b .best-start .result) (b .best-start .ensures) (e .if1 .left) _ d _ (c .with .ensures),
     )
 
 pass-next-requires : tie.Need-pass-next-requires Inv-loop μ-loop
 pass-next-requires c κs =
-    let l = c .before .loop in
-    let s = c .before .before .before .before .before .before .before .before .before .before in
-    let k = s .pre in
-    record {
-      problem = k .problem;
-      complete = k .complete;
-      passed = l .inv .2 (k .problem) (k .complete);
-      low = l .inv .0;
-      high = omega (arith, c .loop-test .taken, ap (λ (y : Shape). y .loads) (k .complete .outlined .shape));
-    }
+    let e = c .before .before .before .before .before in
+    let s = e .before .before .before .before .before in
+    (s .pre, omega (arith, state e), c .loop-test .taken)
 
 add-i : tie.Need-add-i Inv-loop μ-loop
 add-i c =
     let t = c .before in
     let s = t .before .before .before .before .before .before .before .before .before .before in
-    omega (arith, t .loop-test .taken, s .pre .complete .ready .sane .loads)
+    omega (arith, t .loop-test .taken, s .pre .ready .sane .loads)
 
 loop-again : tie.Need-loop-again Inv-loop μ-loop
 loop-again c =

@@ -1,5 +1,5 @@
 -- `search` meets its contract: the cells are filled, the run is read back, and the cells are cleared. Assumes nothing.
-use mathlib.Core.Path.{ap, _∙_}
+use mathlib.Core.Path.{ap}
 use borrow.Author.Needs.{needs}
 use Rattle.cells.specs.Work.{cellsNeeded}
 use Rattle.engine.proofs.Planning.{all-cleared}
@@ -8,24 +8,12 @@ use Rattle.engine.proofs.plan.search.Tie as tie
 
 returns : tie.Need-returns
 returns c =
-    let e = c .before .before in
-    let n = e .before .before in
-    let t = n .before in
-    let f = t .before .before .before .before .before .before in
-    let s = f .before .before .before .before in (
-      t .trace .ensures (s .args .p) (f .fill-cells .ensures .1 .0),
-      all-cleared (s .args .work .now) _ _ _ _ (e .clear .ensures) (n .cells-needed .ensures ∙ ap cellsNeeded (f .fill-cells .ensures .0)) (f .fill-cells .ensures .1 .1),
-    )
+    let r = c .before .before in
+    let f = r .before .before .before .before .before .before in
+    let s = f .before .before .before .before in
+    let g = f .fill-cells .ensures in
+    (r .read-back .ensures .0 (s .args .p) (g .1 .0), all-cleared (s .args .work .now) _ _ _ _ (r .read-back .ensures .1) (ap cellsNeeded (g .0)) (g .1 .1))
 
 pub search-spec : {M : Type 1} → statement M
 search-spec =
-    tie.close
-    (tie.spec
-    (λ c. search needs)
-    (λ c κs. search needs)
-    (λ c. search needs)
-    (λ c κs. search needs)
-    (λ c κs. search needs)
-    (λ c κs. search needs)
-    (λ c. search needs)
-    returns)
+    tie.close (tie.spec (λ c. search needs) (λ c κs. search needs) (λ c. search needs) (λ c κs. search needs) (λ c. search needs) returns)
