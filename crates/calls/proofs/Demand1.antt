@@ -51,10 +51,10 @@ module _ (l bs : List ℕ) (p : ℕ) (h : p + length bs ≤ length l) where
   head : length (take p l) ≡ p
   head = omega (arith, length-take p l)
 
-  stored-before : take p (sets l p bs) ≡ take p l
+  pub stored-before : take p (sets l p bs) ≡ take p l
   stored-before = ap (take p) (sets-eq bs l p h ∙ append-assoc (take p l) bs (drop (p + length bs) l)) ∙ take-at (take p l) (bs ++ drop (p + length bs) l) p head
 
-  stored-behind : drop (p + length bs) (sets l p bs) ≡ drop (p + length bs) l
+  pub stored-behind : drop (p + length bs) (sets l p bs) ≡ drop (p + length bs) l
   stored-behind =
       let size : length (take p l ++ bs) ≡ p + length bs = omega (arith, length-append (take p l) bs, head) in
       ap (drop (p + length bs)) (sets-eq bs l p h) ∙ drop-at (take p l ++ bs) (drop (p + length bs) l) (p + length bs) size

@@ -34,7 +34,7 @@ use Rattle.runs.specs.Outcome.{Outcome, nothing, storedOutcome, rangeOf, outcom
 use Rattle.calls.specs.State.{State, StoredState, storedState, stateOf, Within, Kept}
 use Rattle.calls.specs.Rows.{load, changing}
 use Rattle.calls.specs.Calls.{Call, Done, rowFor, numberFor, after, answer, called}
-use Rattle.calls.specs.Demand3.{Exchange, History, last}
+use Rattle.calls.specs.Demand3.{Exchange, History, onLines, last}
 use Rattle.calls.specs.Saves.{Takes, linesOf, AllFree}
 use Rattle.calls.specs.Drops.{ifLoad, withoutLine, withParent, enteredWithout, DropCall, SameAnswers, Dropped}
 use Rattle.calls.proofs.State.{places, kept-within, kept-stored}
@@ -133,7 +133,7 @@ pub drops : {n : ℕ} (p : StoredState) → Kept n p → (c : Call) (k : ℕ) �
 unfolding answer changing outcomeIn
 drops {n} p h c k d = record {
   tables = held;
-  kept = record { tables = (u, keeps, held, full); outcome = (nothing, in-range, wiped ∙ ap (λ (m : ℕ). storedOutcome m nothing) (full ∙ sym (places (called p c .state .tables) (u, keeps, held, full)))) };
+  kept = record { tables = (u, keeps, held, full); outcome = (nothing, in-range, wiped ∙ ap (λ (m : ℕ). storedOutcome m nothing) (full ∙ sym (places (called p c .state .tables) (u, keeps, held, full)))); filled = omega (arith, none-filled) };
   fewer = fewer;
   emptied = λ e. no-more (u .loads) (omega (arith, fewer));
   filled = λ a b v m e. record { accepted = load-accepted (t .places) (u .loads) (load a b v m) (rw fewer e) (omega (arith, fewer, lawful t (w .tables) .loads)); after = refl };
@@ -182,16 +182,22 @@ drops {n} p h c k d = record {
         ap (λ (x : Done). x .state .outcome) done
         ∙ ap₂ (λ (m : ℕ) (o : Outcome). storedOutcome m o) (ap (λ (x : Tables). x .places) (change-after s c (to.Drop k) (d .line) none)) none-kept
 
+    none-filled : called p c .state .filled ≡ 0
+    none-filled =
+        let over : after s c .filled ≡ 0 = rw (none, change-row s c (to.Drop k) (d .line)) in
+        ap (λ (x : Done). x .state .filled) done ∙ over
+
     in-range : outcomeIn (rangeOf (tablesOf (called p c .state .tables))) nothing ≡ true
     in-range = refl
 
     lines-left : saved u ≡ enteredWithout k (saved t)
     lines-left = saves-without t k (leave .0 .0) (leave .0 .1)
 
-    enters : (r : StoredState) → Kept n r → (xs : List Exchange) → History r xs
+    enters : (r : StoredState) → Kept n r → (xs : List Exchange) → History r (onLines xs)
         → linesOf xs ≡ lines (changesText Kinds (enteredWithout k (saved t))) → AllFree xs → SameAnswers (called p c .state) r xs
     enters r hr xs y l f =
         let e = ends Kinds u keeps refl full r hr xs y (l ∙ ap (λ (cs : List Change). lines (changesText Kinds cs)) (sym lines-left)) f in
-        let same : last r xs .tables ≡ called p c .state .tables = ap (λ (x : StoredState). x .tables) (e .last) ∙ ap stored (e .tables) ∙ sym held in
-        let gone : last r xs .outcome ≡ called p c .state .outcome = ap (λ (x : StoredState). x .outcome) (e .last) ∙ ap₂ (λ (x : Tables) (o : Outcome). storedOutcome (x .places) o) (e .tables) (e .outcome) ∙ sym wiped in
-        record { accepted = e .accepted; tables = same; answers = λ x. λ i. called (record { tables = same i; outcome = gone i }) x }
+        let same : last r (onLines xs) .tables ≡ called p c .state .tables = ap (λ (x : StoredState). x .tables) (e .last) ∙ ap stored (e .tables) ∙ sym held in
+        let gone : last r (onLines xs) .outcome ≡ called p c .state .outcome = ap (λ (x : StoredState). x .outcome) (e .last) ∙ ap₂ (λ (x : Tables) (o : Outcome). storedOutcome (x .places) o) (e .tables) (e .outcome) ∙ sym wiped in
+        let over : last r (onLines xs) .filled ≡ called p c .state .filled = ap (λ (x : StoredState). x .filled) (e .last) ∙ e .filled ∙ sym none-filled in
+        record { accepted = e .accepted; tables = same; answers = λ x. λ i. called (record { tables = same i; outcome = gone i; filled = over i }) x }

@@ -9,7 +9,7 @@ use borrow.Author.Tests.{eqb-false}
 use lib.Dec.{lit≤, eqb}
 use lib.ListN.{length, getD}
 use Rattle.lists.specs.Each.{none, more}
-use Rattle.lists.proofs.Each.{each-all, each-at}
+use Rattle.lists.proofs.Each.{each-all}
 use Rattle.lists.specs.Argmax.{guard}
 use Rattle.lines.specs.Answers.{runBytes, Ranged, AllRanged}
 use Rattle.lines.proofs.Answers.{plan-fits, check-fits}
@@ -23,16 +23,16 @@ use Rattle.meaning.specs.Forest.{IsTree, sum}
 use Rattle.meaning.specs.Sets.{counted, power, worth, numberOn}
 use Rattle.meaning.specs.Best.{bestPlan}
 use Rattle.tables.specs.declared.entry.Entry.{Entry}
-use Rattle.meaning.specs.Choice.{noEntry, find, inOrder, plan, check, planEntries, checkEntries, shownSet}
+use Rattle.meaning.specs.Choice.{noEntry, find, inOrder, check, planEntries, checkEntries, shownSet}
 use Rattle.meaning.specs.Need.{noneFits}
-use Rattle.meaning.proofs.Ranges.{Bounded, plan-bounded, check-bounded}
-use Rattle.meaning.proofs.Entries.{Listed, plan-listed, check-listed}
+use Rattle.meaning.proofs.Ranges.{Bounded, check-bounded}
+use Rattle.meaning.proofs.Entries.{Listed, check-listed}
 use Rattle.meaning.proofs.InOrder.{listed-length}
 use Rattle.meaning.proofs.Ordered.{loads-ordered}
-use Rattle.meaning.proofs.Claims.{claims}
 use Rattle.runs.specs.Outcome.{planned, rangeOf, outcomeIn}
 use Rattle.runs.proofs.Entries.{number-at}
-use Rattle.runs.proofs.Stored.{LinesIn, lines-in, named-in, run-in}
+use Rattle.runs.proofs.Stored as outcomes
+use Rattle.runs.proofs.Stored.{LinesIn, lines-in, named-in}
 use Rattle.calls.specs.Rows.{showingPlan, showingCheck, shownText}
 use Rattle.calls.proofs.Answers.{positive}
 
@@ -86,10 +86,6 @@ module _ (t : Tables) (h : Limits t) where
   few : length (t .loads) ≤ mostPlaces
   few = omega (arith, w .loads, w .places)
 
-  plan-ranged : AllRanged (planEntries t)
-  unfolding planEntries
-  plan-ranged = all-ranged (plan t) (length (t .loads)) (omega (arith, few)) (plan-listed t listed) (plan-bounded t w)
-
   pub check-ranged : (σ : ℕ → ℕ) → AllRanged (checkEntries t σ)
   unfolding checkEntries
   check-ranged σ = all-ranged (check t σ) (length (t .loads)) (omega (arith, few)) (check-listed t listed σ) (check-bounded t w σ)
@@ -121,9 +117,7 @@ module _ (t : Tables) (h : Limits t) where
 
   pub plan-in : noneFits t ≡ false → outcomeIn (rangeOf t) (planned (planEntries t)) ≡ true
   unfolding noneFits
-  plan-in e =
-      let p = claims t h .planned (positive (eqb-false (bestPlan t) 0 e)) in
-      run-in t w (planEntries t) (p .loads) (λ i b. each-at noEntry plan-ranged i b .mark) (shownSet (planEntries t)) (p .run)
+  plan-in e = outcomes.plan-in t h (positive (eqb-false (bestPlan t) 0 e))
 
   pub planned-fits : noneFits t ≡ false → length (shownText (showingPlan t (planEntries t))) ≤ runBytes
   planned-fits e = lines-fit (planEntries t) (lines-in (rangeOf t) (planEntries t) (plan-in e))

@@ -21,7 +21,7 @@ use Rattle.calls.specs.State.{State, fresh, storedState}
 use Rattle.calls.specs.Rows.{_if_, Row, load, changing, row}
 use Rattle.calls.specs.Causes.{lowest, refusal}
 use Rattle.calls.specs.Calls.{Call, Reply, rowFor, after, numberFor, answer}
-use Rattle.calls.specs.Demand3.{Exchange, History, Right}
+use Rattle.calls.specs.Demand3.{Exchange, History, onLines, Right}
 use Rattle.calls.specs.Full.{LoadCall, LoadCalls, numberAt, FullAfter}
 use Rattle.calls.proofs.Refusals.{after-number}
 use Rattle.calls.proofs.Answers.{roomy, row-is}
@@ -49,7 +49,7 @@ module _ (n k : ℕ) (s : State) (places : s .tables .places ≡ n) (loads : len
   unfolding row changing
   load-after h = ap (λ (x : State). x .tables) (after-number s c) ∙ rw (load-number, lt-leb n k h, load-row)
 
-numbers : (n k : ℕ) (s : State) → s .tables .places ≡ n → length (s .tables .loads) ≡ k → (xs : List Exchange) → Right s xs → LoadCalls (suc k) xs
+numbers : (n k : ℕ) (s : State) → s .tables .places ≡ n → length (s .tables .loads) ≡ k → (xs : List Exchange) → Right s (onLines xs) → LoadCalls (suc k) xs
     → (j : ℕ) → k + j ≤ n → j < length xs → numberAt xs j ≡ pick (leb n (k + j)) no.full 0
 unfolding answer
 numbers n k s p q [] r ls j most h = absurd (omega (arith, h))
@@ -64,10 +64,10 @@ numbers n k s p q (x ∷ xs) r ls (suc j) most h =
     ∙ rw e
 
 -- for every limit n up to `mostPlaces`
-pub full-after : (n : ℕ) → n ≤ mostPlaces → (xs : List Exchange) → History (storedState (fresh n)) xs → LoadCalls 1 xs → FullAfter n xs
+pub full-after : (n : ℕ) → n ≤ mostPlaces → (xs : List Exchange) → History (storedState (fresh n)) (onLines xs) → LoadCalls 1 xs → FullAfter n xs
 unfolding on-paper.fresh
 full-after n few xs y ls =
-    let at = numbers n 0 (fresh n) refl refl xs (demand3 n few xs y .plans) ls in
+    let at = numbers n 0 (fresh n) refl refl xs (demand3 n few (onLines xs) y .plans) ls in
     record {
       accepted = λ j b h. at j (omega arith) h ∙ rw (lt-leb n (0 + j) (omega arith));
       full = λ h. at n (omega arith) h ∙ rw (le-leb n (0 + n) (omega arith));

@@ -39,12 +39,12 @@ after-places s c = go (refusal 0 (length (c .output)) (c .place) (rowFor p c))
 -- the tables that a row leaves, and the outcome beside them, by its number
 left-within : (s : State) → Within s → (cells n : ℕ) (r : Row) → Right s cells r → (n ≡ 0 → lowest (causesOf cells r) ≡ 0) → Within (stateBy s n r)
 unfolding outcomeIn
-left-within s h m zero (changes x) a e = record { tables = a .keeps h (e refl); outcome = refl }
-left-within s h m (suc n) (changes x) a e = record { tables = h .tables; outcome = h .outcome }
+left-within s h m zero (changes x) a e = record { tables = a .keeps h (e refl); outcome = refl; filled = omega arith }
+left-within s h m (suc n) (changes x) a e = record { tables = h .tables; outcome = h .outcome; filled = h .filled }
 left-within s h m n (shows b cs x) a e = subst Within (sym (still-state s n (shows b cs x) refl)) h
 left-within s h m n (works false b k before after x) a e = subst Within (sym (still-state s n (works false b k before after x) refl)) h
-left-within s h m zero (works true b k before after x) a e = record { tables = h .tables; outcome = a .finds h (e refl) refl }
-left-within s h m (suc n) (works true b k before after x) a e = record { tables = h .tables; outcome = go (eqb (suc n) no.noneFits) }
+left-within s h m zero (works true b k before after x) a e = record { tables = h .tables; outcome = a .finds h (e refl) refl; filled = h .filled }
+left-within s h m (suc n) (works true b k before after x) a e = record { tables = h .tables; outcome = go (eqb (suc n) no.noneFits); filled = h .filled }
   where
     go : (b : Bool) → outcomeIn (rangeOf (s .tables)) (pick b noSet (s .outcome)) ≡ true
     go true = refl

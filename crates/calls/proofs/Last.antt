@@ -114,7 +114,7 @@ module _ (b : Bool) (s : State) (h : Current b s) (m : ℕ) where
       record { outcome = found-some (bestPlan t) (planEntries t) some; loads = λ _. positive (eqb-false (length (t .loads)) 0 (p .0)) }
   plan-left (suc n) e f = rw (ne-eqb (suc n) 0 (λ z. absurd (omega arith))) (go (eqb (suc n) no.noneFits) refl)
     where
-      go : (i : Bool) → eqb (suc n) no.noneFits ≡ i → Current (pick i true b) (record { tables = s .tables; outcome = pick i noSet (s .outcome) })
+      go : (i : Bool) → eqb (suc n) no.noneFits ≡ i → Current (pick i true b) (record { tables = s .tables; outcome = pick i noSet (s .outcome); filled = s .filled })
       go true q =
           let g = nine-given _ _ _ (f (eqb-true (suc n) no.noneFits q)) in
           record { outcome = found-none (bestPlan (s .tables)) (planEntries (s .tables)) (eqb-true (bestPlan (s .tables)) 0 (g .1)); loads = λ _. positive (eqb-false (length (s .tables .loads)) 0 (g .0)) }

@@ -1,6 +1,6 @@
 -- The theorems on calls, from the ground up: Demand1, Demand2 and Demand3 have the last ones of paper 01, Padding, Saves, SaveProgram, Drops
--- and Overfull those of requests One, Two, Three and Ten of paper 02; Last and Need have what demand 3 says of requests
--- Five and Nine.
+-- and Overfull those of requests One, Two, Three and Ten of paper 02; Last, Need and Fillings have what demand 3 says of
+-- requests Five, Nine and Eleven.
 pub mod State
 pub mod Numbers
 pub mod Answers
@@ -17,6 +17,9 @@ pub mod Demand2
 pub mod Plans
 pub mod Last
 pub mod Need
+pub mod Portions
+pub mod Fillings
+pub mod PortionDemand1
 pub mod Demand3
 pub mod Full
 pub mod Steps

@@ -19,8 +19,8 @@ use Rattle.calls.specs.State.{State, StoredState, storedState, stateOf, 
 use Rattle.calls.specs.Rows.{_if_, Row, row, causesOf, isShow}
 use Rattle.calls.specs.Causes.{lowest, refusal}
 use Rattle.calls.specs.Printing.{text, searched}
-use Rattle.calls.specs.Calls.{Call, rowFor, numberFor, reply, answer, handled, called}
-use Rattle.calls.specs.Need.{NeedCall, cleared, BudgetShown, NeedRight}
+use Rattle.calls.specs.Calls.{Call, rowFor, numberFor, reply, cleared, answer, handled, called}
+use Rattle.calls.specs.Need.{NeedCall, BudgetShown, NeedRight}
 use Rattle.calls.proofs.State.{kept-within, kept-stored}
 use Rattle.calls.proofs.Answers.{refusedIf, last-cause, roomy, row-is, answer-at, called-kept}
 use Rattle.calls.proofs.Work.{row-zeroed}

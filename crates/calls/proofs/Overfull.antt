@@ -29,7 +29,7 @@ use Rattle.calls.specs.Rows.{changing}
 use Rattle.calls.specs.Causes.{lowest}
 use Rattle.calls.specs.Calls.{Reply, after, answer}
 use Rattle.calls.specs.Demand1.{bytesNeeded}
-use Rattle.calls.specs.Demand3.{Exchange, History, Right}
+use Rattle.calls.specs.Demand3.{Exchange, History, onLines, Right}
 use Rattle.calls.specs.Full.{numberAt}
 use Rattle.calls.specs.Saves.{Step, Takes, none, next, linesOf, AllFree}
 use Rattle.calls.specs.Overfull.{savedBefore, Overfull}
@@ -43,7 +43,7 @@ record Met (xs : List Exchange) (before number : ℕ) : Type 0 where
   pub accepted : (j : ℕ) → j < before → numberAt xs j ≡ 0
   pub refused : numberAt xs before ≡ number
 
-module _ (f : SaveForm) (s : State) (x : Exchange) (xs : List Exchange) (c : Change) (cs : List Change) (b : Readable f c) (y : Right s (x ∷ xs))
+module _ (f : SaveForm) (s : State) (x : Exchange) (xs : List Exchange) (c : Change) (cs : List Change) (b : Readable f c) (y : Right s (onLines (x ∷ xs)))
     (l : linesOf (x ∷ xs) ≡ map (written f) (c ∷ cs)) (free : x .call .place + bytesNeeded (x .call .line) ≤ length (x .call .output)) where
   on : x .call .line ≡ written f c
   on = cc
@@ -55,7 +55,7 @@ module _ (f : SaveForm) (s : State) (x : Exchange) (xs : List Exchange) (c : Cha
   met-here : {t : Tables} → s .tables ≡ t → Met (x ∷ xs) 0 (lowest (changing t c .causes))
   met-here e = record { accepted = λ j h. absurd (omega arith); refused = number ∙ ap (λ (t : Tables). lowest (changing t c .causes)) e }
 
-  met-more : {t u : Tables} → Step t c u → s .tables ≡ t → {m k : ℕ} → ((s : State) → s .tables ≡ u → Right s xs → linesOf xs ≡ map (written f) cs → Met xs m k) → Met (x ∷ xs) (suc m) k
+  met-more : {t u : Tables} → Step t c u → s .tables ≡ t → {m k : ℕ} → ((s : State) → s .tables ≡ u → Right s (onLines xs) → linesOf xs ≡ map (written f) cs → Met xs m k) → Met (x ∷ xs) (suc m) k
   met-more step e {m} {k} ih =
       let passes : lowest (changing (s .tables) c .causes) ≡ 0 = rw e (step .accepted) in
       let held = line-after s (x .call) c on b free passes ∙ ap (λ (t : Tables). changing t c .after) e ∙ step .after in
@@ -67,7 +67,7 @@ module _ (f : SaveForm) (s : State) (x : Exchange) (xs : List Exchange) (c : Cha
       at h r (suc j) l = r j (omega arith)
 
 met : (f : SaveForm) {t u : Tables} {cs : List Change} → Takes t cs u → (c : Change) (ds : List Change) → Each (Readable f) (cs ++ (c ∷ ds))
-    → (s : State) → s .tables ≡ t → (xs : List Exchange) → Right s xs → linesOf xs ≡ map (written f) (cs ++ (c ∷ ds)) → AllFree xs
+    → (s : State) → s .tables ≡ t → (xs : List Exchange) → Right s (onLines xs) → linesOf xs ≡ map (written f) (cs ++ (c ∷ ds)) → AllFree xs
     → Met xs (length cs) (lowest (changing u c .causes))
 met f none c ds (each.more b bs) s e [] y l free = unlike (sym l)
 met f none c ds (each.more b bs) s e (x ∷ xs) y l (each.more r rs) = met-here f s x xs c ds b y l r e
@@ -145,10 +145,10 @@ module _ (t : Tables) (h : Limits t) (n : ℕ) (many : n < length (t .loads)) wh
 
 -- for every limit n, and so for the 64 of paper 01
 pub overfull : (f : SaveForm) (n : ℕ) (t : Tables) → Limits t → losesKinds f t ≡ false → n < length (t .loads) → (p : StoredState) → Kept n p
-    → (xs : List Exchange) → History p xs → linesOf xs ≡ lines (saveText f t) → AllFree xs → Overfull f n t xs
+    → (xs : List Exchange) → History p (onLines xs) → linesOf xs ≡ lines (saveText f t) → AllFree xs → Overfull f n t xs
 overfull f n t h e many p hp xs y l free =
     let s = stateOf p in
-    let r = history-right s (kept-within p hp) xs (subst (λ (x : StoredState). History x xs) (kept-stored p hp) y) in
+    let r = history-right s (kept-within p hp) (onLines xs) (subst (λ (x : StoredState). History x (onLines xs)) (kept-stored p hp) y) in
     let cut : linesOf xs ≡ map (written f) (savedBefore n t ++ (loadChange (load t h n many) ∷ behind t h n many)) = l ∙ save-lines f t h .cut ∙ ap (map (written f)) (saved-parted t h n many) in
     let able = subst (Each (Readable f)) (saved-parted t h n many) (readable f t h e) in
     let m = met f (loads-rebuilt (first t h n many) (first-limits t h n many) (s .tables) (places (p .tables) (hp .tables))) (loadChange (load t h n many)) (behind t h n many) able s refl xs (r .2) cut free in

@@ -11,7 +11,7 @@ use Rattle.lines.proofs.Padding.{same-command, same-long}
 use Rattle.calls.specs.State.{State, StoredState}
 use Rattle.calls.specs.Rows.{lineRow}
 use Rattle.calls.specs.Calls.{Call, Done, writtenBy, called}
-use Rattle.calls.specs.Demand3.{Exchange, History, given, last}
+use Rattle.calls.specs.Demand3.{Exchange, History, onLines, given, last}
 use Rattle.calls.specs.Padding.{SameCall, SameCalls, SameTreatment}
 use Rattle.calls.specs.Program.{Left, leftBy, callOn, doneOn, exchanges, atStart, printedBy, sessionWith}
 use Rattle.calls.proofs.ByRow.{withLine, row-call}
@@ -28,14 +28,14 @@ same-called p c d q = ap (called p) e ∙ row-call p d (c .line) (λ s. same-row
     e = λ i. record { line = c .line; output = q .output i; place = q .place i; work = q .work i }
 
 -- a list of calls
-same-history : {p q : StoredState} {xs ys : List Exchange} → p ≡ q → SameCalls xs ys → History p xs → History q ys → (given xs ≡ given ys) × (last p xs ≡ last q ys)
+same-history : {p q : StoredState} {xs ys : List Exchange} → p ≡ q → SameCalls xs ys → History p (onLines xs) → History q (onLines ys) → (given xs ≡ given ys) × (last p (onLines xs) ≡ last q (onLines ys))
 same-history e none a b = (refl, e)
 same-history {p} e (both {x = x} {y = y} h hs) a b =
     let d : x .done ≡ y .done = a .0 ∙ same-called p (x .call) (y .call) h ∙ ap (λ (r : StoredState). called r (y .call)) e ∙ sym (b .0) in
     let ih = same-history (ap (λ (r : Done). r .state) d) hs (a .1) (b .1) in
     (ap₂ _∷_ d (ih .0), ih .1)
 
-pub same-treatment : (p : StoredState) (xs ys : List Exchange) → SameCalls xs ys → History p xs → History p ys → SameTreatment p xs ys
+pub same-treatment : (p : StoredState) (xs ys : List Exchange) → SameCalls xs ys → History p (onLines xs) → History p (onLines ys) → SameTreatment p xs ys
 same-treatment p xs ys h a b = let r = same-history refl h a b in record { replies = r .0; planner = r .1 }
 
 -- the line program: what it prints for inputs that differ only so, line by line

@@ -18,7 +18,7 @@ use Rattle.tables.specs.Tables.{Tables}
 use Rattle.calls.specs.State.{State, plain}
 use Rattle.calls.specs.Rows.{_if_, Row, changes, shows, works, changing, row, lineRow, causesOf, effectOf, isChange, isShow}
 use Rattle.calls.specs.Causes.{lowest, allCauses, refusal, Lowest}
-use Rattle.calls.specs.Effects.{acted, changed, outcomeBy, stateBy}
+use Rattle.calls.specs.Effects.{acted, changed, outcomeBy, filledBy, stateBy}
 use Rattle.calls.specs.Printing.{hasOutcome}
 use Rattle.calls.specs.Calls.{Call, rowFor, after, numberFor}
 use Rattle.calls.proofs.Numbers.{ascending-from, lowest-given, lowest-least, lowest-range}
@@ -80,7 +80,7 @@ unfolding changed lineRow
 after-number s c =
     let acts = acts-plain s (length (c .output)) (c .place) (lineCommand (c .line))
     ∙ acts-alike (s .tables) 0 (length (c .work)) (length (c .output)) (c .place) (rowFor s c) in
-    λ i. record { tables = acts i; outcome = outcomeBy (numberFor s c) (rowFor s c) (s .outcome) }
+    λ i. record { tables = acts i; outcome = outcomeBy (numberFor s c) (rowFor s c) (s .outcome); filled = filledBy (numberFor s c) (rowFor s c) (s .filled) }
 
 -- the line of a change: its row, and the tables that it leaves where it is accepted
 module _ (s : State) (x : Call) (c : Change) (on : lineCommand (x .line) ≡ line.Change c) where

@@ -29,7 +29,7 @@ use Rattle.calls.specs.State.{State, StoredState, fresh, storedState, st
 use Rattle.calls.specs.Printing.{text}
 use Rattle.calls.specs.Calls.{Call, writtenBy, rowFor, numberFor, answer, calledIf, called}
 use Rattle.calls.specs.Demand1.{bytesNeeded}
-use Rattle.calls.specs.Demand3.{Exchange, History, last, paperFrom, Right}
+use Rattle.calls.specs.Demand3.{Exchange, Event, History, onLines, last, paperFrom, Right}
 use Rattle.calls.specs.Program.{Left, leftBy, callOn, doneOn, exchanges, leftAfter, atStart, printedBy, sessionWith}
 use Rattle.calls.specs.Saves.{SaveCall, linesOf, AllFree, Accepted, Whole, empty, ended, saveWord, saveLine, FedBack}
 use Rattle.calls.proofs.State.{fresh-within}
@@ -135,17 +135,20 @@ module _ (f : SaveForm) (t : Tables) (h : Limits t) (no-loss : losesKinds f t �
   abbrev fedBack : List Exchange
   fedBack = exchanges x back
 
-  past : (last (storedState s) fedBack ≡ storedState (paperFrom s fedBack)) × Within (paperFrom s fedBack) × Right s fedBack
-  past = history-right s within fedBack (subst (λ (p : StoredState). History p fedBack) holds (exchanges-history x back))
+  abbrev fedEvents : List Event
+  fedEvents = onLines fedBack
+
+  past : (last (storedState s) fedEvents ≡ storedState (paperFrom s fedEvents)) × Within (paperFrom s fedEvents) × Right s fedEvents
+  past = history-right s within fedEvents (subst (λ (p : StoredState). History p fedEvents) holds (exchanges-history x back))
 
   taken : Fed s fedBack t (saved t)
   taken = fed f (rebuilds t h (s .tables) as-many) (readable f t h no-loss) s refl fedBack (past .2) (exchanges-lines x back ∙ save-lines f t h .cut) (exchanges-free x back room)
 
   abbrev reached : State
-  reached = paperFrom s fedBack
+  reached = paperFrom s fedEvents
 
   ends : leftAfter x back .state ≡ storedState reached
-  ends = left-last x back ∙ ap (λ (p : StoredState). last p fedBack) holds ∙ past .0
+  ends = left-last x back ∙ ap (λ (p : StoredState). last p fedEvents) holds ∙ past .0
 
   left-tables : leftAfter x back .state .tables ≡ stored t
   left-tables = ap (λ (p : StoredState). p .tables) ends ∙ ap stored (taken .tables)
@@ -165,8 +168,11 @@ module _ (f : SaveForm) (t : Tables) (h : Limits t) (no-loss : losesKinds f t �
 
 -- ---- after any input of whole lines
 module _ (f : SaveForm) (cells : ℕ) {s : List ℕ} (whole : Whole s) (t : Tables) (h : Limits t) (no-loss : losesKinds f t ≡ false) (as-many : t .places ≡ maxLoads) where
-  abbrev begun : List Exchange
-  begun = exchanges (atStart cells) (lines s)
+  abbrev first : List Exchange
+  first = exchanges (atStart cells) (lines s)
+
+  abbrev begun : List Event
+  begun = onLines first
 
   abbrev x : Left
   x = leftAfter (atStart cells) (lines s)
@@ -184,10 +190,10 @@ module _ (f : SaveForm) (cells : ℕ) {s : List ℕ} (whole : Whole s) (t : Tabl
   unfolding on-paper.fresh
   places = history-places (fresh maxLoads) begun ∙ sym as-many
 
-  tables : last (storedState (fresh maxLoads)) (sessionWith cells (s ++ saveText f t)) .tables ≡ stored t
+  tables : last (storedState (fresh maxLoads)) (onLines (sessionWith cells (s ++ saveText f t))) .tables ≡ stored t
   unfolding sessionWith
   tables =
-      ap (λ (ls : List (List ℕ)). last (storedState (fresh maxLoads)) (exchanges (atStart cells) ls) .tables) (lines-whole whole (saveText f t))
+      ap (λ (ls : List (List ℕ)). last (storedState (fresh maxLoads)) (onLines (exchanges (atStart cells) ls)) .tables) (lines-whole whole (saveText f t))
       ∙ ap (λ (p : StoredState). p .tables) (sym (left-last (atStart cells) (lines s ++ lines (saveText f t))) ∙ ap (λ (y : Left). y .state) (left-append (atStart cells) (lines s) (lines (saveText f t))))
       ∙ left-tables f t h no-loss x room (paperFrom (fresh maxLoads) begun) (before .1) held places
 
@@ -209,8 +215,8 @@ module _ (f : SaveForm) (cells : ℕ) {s : List ℕ} (whole : Whole s) (t : Tabl
   printed =
       let rest = lines (saveText f t) ++ lines (saveLine f) in
       ap (λ (ls : List (List ℕ)). printedBy (exchanges (atStart cells) ls)) cut
-      ∙ ap printedBy (exchanges-append (atStart cells) (lines s) rest) ∙ printed-append begun (exchanges x rest)
-      ∙ ap (λ (r : List ℕ). printedBy begun ++ r) after-save ∙ sym (append-assoc (printedBy begun) (flatten (replicate (length (saved t)) ok)) (saveText f t))
+      ∙ ap printedBy (exchanges-append (atStart cells) (lines s) rest) ∙ printed-append first (exchanges x rest)
+      ∙ ap (λ (r : List ℕ). printedBy first ++ r) after-save ∙ sym (append-assoc (printedBy first) (flatten (replicate (length (saved t)) ok)) (saveText f t))
 
   pub fed-back : FedBack f cells s t
   fed-back = record { tables = tables; printed = printed }

@@ -36,7 +36,7 @@ use Rattle.calls.specs.Effects.{stateBy}
 use Rattle.calls.specs.Printing.{text, zeroed, workAfter}
 use Rattle.calls.specs.Calls.{Call, Done, Reply, writtenBy, rowFor, numberFor, after, reply, answer, called}
 use Rattle.calls.specs.Demand1.{bytesNeeded}
-use Rattle.calls.specs.Demand3.{Exchange, History, last, paperFrom, Right}
+use Rattle.calls.specs.Demand3.{Exchange, History, onLines, last, paperFrom, Right}
 use Rattle.calls.specs.Saves.{SaveCall, SaveRight, Step, Takes, none, next, linesOf, AllFree, Accepted, Restored}
 use Rattle.calls.proofs.State.{places, is-stored, state-stored, kept-within, kept-stored}
 use Rattle.calls.proofs.Answers.{roomy, command-is, row-is, called-stored, answer-at}
@@ -138,6 +138,9 @@ module _ {f : SaveForm} (s : State) (x : Call) (c : Change) (on : x .line ≡ wr
     line-outcome : after s x .outcome ≡ nothing
     line-outcome = rw (line-number, change-row s x c command)
 
+    line-filled : after s x .filled ≡ 0
+    line-filled = rw (line-number, change-row s x c command)
+
     line-answer : answer s x ≡ reply x 0 ok (x .work)
     unfolding text workAfter zeroed
     line-answer = answer-at s x 0 (changes (changing (s .tables) c)) line-number (change-row s x c command)
@@ -154,23 +157,24 @@ module _ {f : SaveForm} (s : State) (x : Call) (c : Change) (on : x .line ≡ wr
 pub unlike : {A B : Type 0} {a : A} {l : List A} → _≡_ {A = List A} (a ∷ l) [] → B
 unlike e = absurd (let z : _≡_ {A = ℕ} 0 1 = cc in omega arith)
 
--- every accepted change wipes the outcome
-abbrev wiped : List Change → Outcome → Outcome
-wiped [] o = o
-wiped (c ∷ cs) o = nothing
+-- every accepted change wipes what is kept beside the tables: the outcome and the count of filled cells
+abbrev wiped : {A : Type 0} → (none : A) → List Change → A → A
+wiped z [] o = o
+wiped z (c ∷ cs) o = z
 
-wiped-none : (cs : List Change) → wiped cs nothing ≡ nothing
-wiped-none [] = refl
-wiped-none (c ∷ cs) = refl
+wiped-none : {A : Type 0} (z : A) (cs : List Change) → wiped z cs z ≡ z
+wiped-none z [] = refl
+wiped-none z (c ∷ cs) = refl
 
 pub record Fed (s : State) (xs : List Exchange) (u : Tables) (cs : List Change) : Type 0 where
   pub accepted : Each Accepted xs
-  pub tables : paperFrom s xs .tables ≡ u
-  pub outcome : paperFrom s xs .outcome ≡ wiped cs (s .outcome)
+  pub tables : paperFrom s (onLines xs) .tables ≡ u
+  pub outcome : paperFrom s (onLines xs) .outcome ≡ wiped nothing cs (s .outcome)
+  pub filled : paperFrom s (onLines xs) .filled ≡ wiped 0 cs (s .filled)
 
 module _ (f : SaveForm) (v : Tables) (cs : List Change) {t u : Tables} {c : Change} (step : Step t c u) (b : Readable f c) (s : State) (holds : s .tables ≡ t) (x : Exchange) (xs : List Exchange) where
-  fed-more : Right s (x ∷ xs) → linesOf (x ∷ xs) ≡ map (written f) (c ∷ cs) → x .call .place + bytesNeeded (x .call .line) ≤ length (x .call .output)
-      → ((s : State) → s .tables ≡ u → Right s xs → linesOf xs ≡ map (written f) cs → Fed s xs v cs)
+  fed-more : Right s (onLines (x ∷ xs)) → linesOf (x ∷ xs) ≡ map (written f) (c ∷ cs) → x .call .place + bytesNeeded (x .call .line) ≤ length (x .call .output)
+      → ((s : State) → s .tables ≡ u → Right s (onLines xs) → linesOf xs ≡ map (written f) cs → Fed s xs v cs)
       → Fed s (x ∷ xs) v (c ∷ cs)
   fed-more y l free ih =
       let k = x .call in
@@ -181,52 +185,56 @@ module _ (f : SaveForm) (v : Tables) (cs : List Change) {t u : Tables} {c : Chan
       record {
         accepted = each.more (line-accepted s k c on b free passes (x .done) (y .0)) (r .accepted);
         tables = r .tables;
-        outcome = r .outcome ∙ ap (wiped cs) (line-outcome s k c on b free passes) ∙ wiped-none cs;
+        outcome = r .outcome ∙ ap (wiped nothing cs) (line-outcome s k c on b free passes) ∙ wiped-none nothing cs;
+        filled = r .filled ∙ ap (wiped 0 cs) (line-filled s k c on b free passes) ∙ wiped-none 0 cs;
       }
 
 pub fed : (f : SaveForm) {t u : Tables} {cs : List Change} → Takes t cs u → Each (Readable f) cs → (s : State) → s .tables ≡ t
-    → (xs : List Exchange) → Right s xs → linesOf xs ≡ map (written f) cs → AllFree xs → Fed s xs u cs
-fed g none b s e [] y l f = record { accepted = each.none; tables = e; outcome = refl }
+    → (xs : List Exchange) → Right s (onLines xs) → linesOf xs ≡ map (written f) cs → AllFree xs → Fed s xs u cs
+fed g none b s e [] y l f = record { accepted = each.none; tables = e; outcome = refl; filled = refl }
 fed g none b s e (x ∷ xs) y l f = unlike l
 fed g (next p q) b s e [] y l f = unlike (sym l)
 fed g (next {v = v} {cs = cs} p q) (each.more b bs) s e (x ∷ xs) y l (each.more f fs) = fed-more g v cs p b s e x xs y l f (λ s e y l. fed g q bs s e xs y l fs)
 
--- a save has a line, and so it leaves no outcome
-save-wipes : (t : Tables) (o : Outcome) → wiped (saved t) o ≡ nothing
+-- a save has a line, and so it leaves nothing beside the tables
+save-wipes : {A : Type 0} (z : A) (t : Tables) (o : A) → wiped z (saved t) o ≡ z
 unfolding saved
-save-wipes t o = refl
+save-wipes z t o = refl
 
--- the lines of tables t, fed to any planner within the limits: they are accepted, and it ends with a state that has these tables, and no outcome
+-- the lines of tables t, fed to any planner within the limits: they are accepted, and it ends with a state that has these tables, and nothing
+-- beside them
 pub record Ends (p : StoredState) (xs : List Exchange) (t : Tables) : Type 0 where
   pub accepted : Each Accepted xs
   pub state : State
   pub within : Within state
   pub tables : state .tables ≡ t
   pub outcome : state .outcome ≡ nothing
-  pub last : last p xs ≡ storedState state
+  pub filled : state .filled ≡ 0
+  pub last : last p (onLines xs) ≡ storedState state
 
 -- the lines of a save that loses no kind
 pub readable : (f : SaveForm) (t : Tables) → Limits t → losesKinds f t ≡ false → Each (Readable f) (saved t)
 readable f t h e = let l = save-lines f t h in each-both (l .back) (l .same e)
 
-pub ends : {n : ℕ} (g : SaveForm) (t : Tables) → Limits t → losesKinds g t ≡ false → t .places ≡ n → (p : StoredState) → Kept n p → (xs : List Exchange) → History p xs
+pub ends : {n : ℕ} (g : SaveForm) (t : Tables) → Limits t → losesKinds g t ≡ false → t .places ≡ n → (p : StoredState) → Kept n p → (xs : List Exchange) → History p (onLines xs)
     → linesOf xs ≡ lines (saveText g t) → AllFree xs → Ends p xs t
 ends g t h e m p hp xs y l f =
     let s = stateOf p in
-    let r = history-right s (kept-within p hp) xs (subst (λ (x : StoredState). History x xs) (kept-stored p hp) y) in
+    let r = history-right s (kept-within p hp) (onLines xs) (subst (λ (x : StoredState). History x (onLines xs)) (kept-stored p hp) y) in
     let d = fed g (rebuilds t h (s .tables) (places (p .tables) (hp .tables) ∙ sym m)) (readable g t h e) s refl xs (r .2) (l ∙ save-lines g t h .cut) f in
     record {
       accepted = d .accepted;
-      state = paperFrom s xs;
+      state = paperFrom s (onLines xs);
       within = r .1;
       tables = d .tables;
-      outcome = d .outcome ∙ save-wipes t (s .outcome);
-      last = ap (λ (x : StoredState). last x xs) (kept-stored p hp) ∙ r .0;
+      outcome = d .outcome ∙ save-wipes nothing t (s .outcome);
+      filled = d .filled ∙ save-wipes 0 t (s .filled);
+      last = ap (λ (x : StoredState). last x (onLines xs)) (kept-stored p hp) ∙ r .0;
     }
 
 -- ---- "Fed to a planner in any lawful state, with the free bytes they need, the lines give equal tables, and a further save gives equal bytes."
 pub restores : {n : ℕ} (g : SaveForm) (q p : StoredState) → Kept n q → Kept n p → losesKinds g (stateOf q .tables) ≡ false → (c : Call) → SaveCall g c
-    → (xs : List Exchange) → History p xs → linesOf xs ≡ lines (writtenBy c (called q c .reply)) → AllFree xs → Restored g q p xs (writtenBy c (called q c .reply))
+    → (xs : List Exchange) → History p (onLines xs) → linesOf xs ≡ lines (writtenBy c (called q c .reply)) → AllFree xs → Restored g q p xs (writtenBy c (called q c .reply))
 restores g q p hq hp no-loss c k xs y l f =
     let t = stateOf q .tables in
     let wrote : writtenBy c (called q c .reply) ≡ saveText g t =

@@ -2,7 +2,7 @@
 -- takes the lengths of the planner's arrays, which their types give: `Sized` of State.)
 -- It stands for "Causes and numbers" of paper 01: "The lowest number that applies is given. Each is given exactly in its case." and the
 -- columns "returned" and "left as it was"; for the buffers of "Lines"; for the free bytes of request Two of paper 02; and for what is left beside
--- the tables of request Five. (That a call ends and does nothing undefined is part of the proof of every function. The judge's part stands in the
+-- the tables of request Five; and, of a portion, for request Eleven. (That a call ends and does nothing undefined is part of the proof of every function. The judge's part stands in the
 -- crates judge and planner.) Assumes nothing.
 use Prim.Native.Nat.{ℕ, _+_, _≤_, _<_}
 use mathlib.Core.Path.{_≡_}
@@ -19,9 +19,10 @@ use Rattle.tables.specs.Refusals as no
 use Rattle.meaning.specs.Cells.{cellsOf}
 use Rattle.calls.specs.State.{StoredState, stateOf, keeps}
 use Rattle.calls.specs.Rows.{Cause, _if_, bytesOf, isChange, isShow, cellsFor}
-use Rattle.calls.specs.Causes.{allCauses, Lowest}
+use Rattle.calls.specs.Causes.{lowest, allCauses, Lowest}
 use Rattle.calls.specs.Printing.{zeroed, hasOutcome, searched}
 use Rattle.calls.specs.Calls.{Call, rowFor, Done, writtenBy, turnedAway}
+use Rattle.calls.specs.Portions.{PortionCall, PortionDone, causesFor, portionRefused}
 
 -- every cause of the table, in its order: "a planner handed in that breaks a limit", then those of its state
 abbrev pub causesOf : StoredState → Call → List Cause
@@ -105,3 +106,30 @@ pub record ByCommand (p : StoredState) (c : Call) (d : Done) : Type 0 where
   pub cleared : looks (lineCommand (c .line)) ≡ true → searched (d .reply .number) ≡ true → d .reply .work ≡ zeroed (cellsOf (stateOf p .tables)) (c .work)
   -- ".. and all cells after any other call, are unchanged"
   pub unchanged : (looks (lineCommand (c .line)) ≡ true → searched (d .reply .number) ≡ true → ⊥) → d .reply .work ≡ c .work
+
+-- ---- of a portion of a plan
+abbrev pub portionCausesOf : StoredState → PortionCall → List Cause
+portionCausesOf p c = (no.unusable if not (keeps p)) ∷ causesFor (stateOf p) c
+
+abbrev pub portionRefusal : StoredState → PortionCall → ℕ
+portionRefusal p c = lowest (portionCausesOf p c)
+
+pub record PortionDemand1 (p : StoredState) (c : PortionCall) (d : PortionDone) : Type 0 where
+  -- 1, 4, 5 and 8, each exactly in its case: nothing is written or filled, and everything is left as it was
+  pub lowest : Lowest (portionCausesOf p c) (portionRefusal p c)
+  pub refused : 0 < portionRefusal p c → d ≡ portionRefused p c (portionRefusal p c)
+  -- past these the number is 0, or 9 as the answer's
+  pub passed : portionRefusal p c ≡ 0 → hasOutcome (d .reply .number) ≡ true
+  -- "No such call changes a table", nor the outcome beside them
+  pub tables : d .state .tables ≡ p .tables
+  pub outcome : d .state .outcome ≡ p .outcome
+  -- it fills n cells at most, and "changes no cell but those it fills"; no call changes a cell behind the plan's
+  pub most : d .filled ≤ c .most
+  pub below : 0 < d .filled → take (p .filled) (d .reply .work) ≡ take (p .filled) (c .work)
+  pub above : 0 < d .filled → drop (p .filled + d .filled) (d .reply .work) ≡ drop (p .filled + d .filled) (c .work)
+  pub rest : drop (cellsOf (stateOf p .tables)) (d .reply .work) ≡ drop (cellsOf (stateOf p .tables)) (c .work)
+  -- "before the answer no output is written", and the answer is no longer than the bytes that it needs
+  pub silent : 0 < d .filled → (d .reply .count ≡ 0) × (d .reply .output ≡ c .output)
+  pub fits : d .reply .count ≤ runBytes
+  pub before : take (c .place) (d .reply .output) ≡ take (c .place) (c .output)
+  pub behind : drop (c .place + d .reply .count) (d .reply .output) ≡ drop (c .place + d .reply .count) (c .output)

@@ -22,7 +22,7 @@ use Rattle.meaning.specs.Leaving.{Left}
 use Rattle.calls.specs.State.{StoredState, stateOf, Kept}
 use Rattle.calls.specs.Rows.{load}
 use Rattle.calls.specs.Calls.{Call, Done, called}
-use Rattle.calls.specs.Demand3.{Exchange, History, last}
+use Rattle.calls.specs.Demand3.{Exchange, History, onLines, last}
 use Rattle.calls.specs.Saves.{Step, Takes, linesOf, AllFree, Accepted}
 
 -- ---- the commands of a tree entered without load k
@@ -63,8 +63,8 @@ pub record DropCall (c : Call) (k : ℕ) (d : Done) : Type 0 where
 -- the calls xs entered into planner p what planner q holds: every further call, a plan too, gives what it gives on q, and leaves the same planner
 pub record SameAnswers (q p : StoredState) (xs : List Exchange) : Type 0 where
   pub accepted : Each Accepted xs
-  pub tables : last p xs .tables ≡ q .tables
-  pub answers : (c : Call) → called (last p xs) c ≡ called q c
+  pub tables : last p (onLines xs) .tables ≡ q .tables
+  pub answers : (c : Call) → called (last p (onLines xs)) c ≡ called q c
 
 -- planner q after load k has left tables t, with n places for loads
 pub record Dropped (n : ℕ) (t : Tables) (k : ℕ) (q : StoredState) : Type 0 where
@@ -80,7 +80,7 @@ pub record Dropped (n : ℕ) (t : Tables) (k : ℕ) (q : StoredState) : Type 0 w
   -- were entered, from any lawful state, answers as it does
   pub saves : saved (stateOf q .tables) ≡ enteredWithout k (saved t)
   pub rebuilt : (u : Tables) → u .places ≡ t .places → Takes u (enteredWithout k (saved t)) (dropLoad t k)
-  pub entered : (p : StoredState) → Kept n p → (xs : List Exchange) → History p xs
+  pub entered : (p : StoredState) → Kept n p → (xs : List Exchange) → History p (onLines xs)
       → linesOf xs ≡ lines (changesText Kinds (enteredWithout k (saved t))) → AllFree xs → SameAnswers q p xs
   -- and its tree is the tree before, without that leaf
   pub left : Left t k

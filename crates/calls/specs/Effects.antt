@@ -1,6 +1,7 @@
--- What a line changes: the tables, and the outcome beside them.
--- It stands for "an accepted line changes them as its row below says, a refused one not at all" of paper 01, and for "A plan, or its refusal 9,
--- stores its outcome beside the tables and leaves only these as they were; an accepted change wipes it" of request Five of paper 02.
+-- What a line changes: the tables, and beside them the outcome and the count of filled cells.
+-- It stands for "an accepted line changes them as its row below says, a refused one not at all" of paper 01, for "A plan, or its refusal 9,
+-- stores its outcome beside the tables and leaves only these as they were; an accepted change wipes it" of request Five of paper 02, and for "Only an
+-- accepted change and the answer .. start the filling over" of its request Eleven.
 -- Assumes nothing.
 use Prim.Native.Nat.{ℕ, zero, suc}
 use mathlib.Core.List.{List}
@@ -36,6 +37,12 @@ outcomeBy n (changes x) o = accepted n nothing o
 outcomeBy n (shows b cs x) o = o
 outcomeBy n (works k b m before after x) o = pick k (foundBy n (x .entries) o) o
 
+-- the count of filled cells after it: an accepted change starts the filling over, and no other line touches it
+abbrev pub filledBy : (number : ℕ) → Row → (filled : ℕ) → ℕ
+filledBy n (changes x) m = accepted n 0 m
+filledBy n (shows b cs x) m = m
+filledBy n (works k b cells before after x) m = m
+
 -- the state after it
 abbrev pub stateBy : State → (number : ℕ) → Row → State
-stateBy s n r = record { tables = acted (s .tables) n r; outcome = outcomeBy n r (s .outcome) }
+stateBy s n r = record { tables = acted (s .tables) n r; outcome = outcomeBy n r (s .outcome); filled = filledBy n r (s .filled) }

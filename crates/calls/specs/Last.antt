@@ -22,6 +22,7 @@ use Rattle.calls.specs.State.{State, StoredState, storedState, stateOf}
 use Rattle.calls.specs.Rows.{planText}
 use Rattle.calls.specs.Printing.{hasOutcome}
 use Rattle.calls.specs.Calls.{Call, Reply, Done, Exchange, writtenBy, reply, after, answer}
+use Rattle.calls.specs.Portions.{Event, onLine, onPortion, afterPortion}
 use Rattle.calls.specs.Demand2.{Enough}
 
 -- ---- is there a current plan?
@@ -48,9 +49,11 @@ isOutcome x = asksPlan (lineCommand (x .call .line)) && hasOutcome (x .done .rep
 abbrev pub currentAfter : Bool → Exchange → Bool
 currentAfter b x = pick (printedOk x) false (pick (isOutcome x) true b)
 
-abbrev pub current : Bool → List Exchange → Bool
+abbrev pub current : Bool → List Event → Bool
 current b [] = b
-current b (x ∷ xs) = current (currentAfter b x) xs
+current b (onLine x ∷ xs) = current (currentAfter b x) xs
+-- "the answer, which `last` doesn't show" of request Eleven
+current b (onPortion x ∷ xs) = current b xs
 
 -- the outcome that is kept then: that of a plan of the tables, which have not changed since; else none
 abbrev pub keptOutcome : (isCurrent : Bool) → Tables → Outcome
@@ -86,6 +89,7 @@ pub record LastRight (isCurrent : Bool) (s : State) (x : Exchange) : Type 0 wher
   pub planner : x .done .state ≡ storedState s
 
 -- of every `last` in a list of calls, for the state before the first, with a current plan or none
-abbrev pub Lasts : (isCurrent : Bool) → State → List Exchange → Type 0
+abbrev pub Lasts : (isCurrent : Bool) → State → List Event → Type 0
 Lasts b s [] = Unit {0}
-Lasts b s (x ∷ xs) = (LastCall (x .call) → LastRight b s x) × Lasts (currentAfter b x) (after s (x .call)) xs
+Lasts b s (onLine x ∷ xs) = (LastCall (x .call) → LastRight b s x) × Lasts (currentAfter b x) (after s (x .call)) xs
+Lasts b s (onPortion x ∷ xs) = Lasts b (afterPortion s (x .call)) xs

@@ -18,8 +18,8 @@ use Rattle.meaning.specs.Choice.{planEntries}
 use Rattle.meaning.specs.Cells.{cellsOf}
 use Rattle.meaning.specs.Need.{Missed, Least}
 use Rattle.calls.specs.State.{State, StoredState, storedState}
-use Rattle.calls.specs.Printing.{zeroed}
-use Rattle.calls.specs.Calls.{Call, Reply, Done, Exchange, reply, after}
+use Rattle.calls.specs.Calls.{Call, Reply, Done, cleared, after}
+use Rattle.calls.specs.Portions.{Event, onLine, onPortion, afterPortion}
 
 -- a `need,v` that none of the numbers 1 to 8 refuses: "v is 0 to 64,000", to 128,000 with request Ten. "It needs a plan's cells"
 pub record NeedCall (t : Tables) (v : ℕ) (c : Call) : Type 0 where
@@ -29,11 +29,7 @@ pub record NeedCall (t : Tables) (v : ℕ) (c : Call) : Type 0 where
   pub value : needIn (t .places) v ≡ true
   pub cells : cellsOf t ≤ length (c .work)
 
--- "leaves the cells 0 as a plan does", with its answer and at 9 and 15
-abbrev pub cleared : Tables → Call → (number : ℕ) → (bytes : List ℕ) → Reply
-cleared t c n bs = reply c n bs (zeroed (cellsOf t) (c .work))
-
--- "`need,v` prints `need,b`"
+-- "`need,v` prints `need,b`", and "leaves the cells 0 as a plan does", with its answer and at 9 and 15
 pub record BudgetShown (t : Tables) (v : ℕ) (c : Call) (r : Reply) (b : ℕ) : Type 0 where
   pub least : Least t v b
   pub answered : r ≡ cleared t c 0 (needLine b)
@@ -50,6 +46,7 @@ pub record NeedRight (t : Tables) (v : ℕ) (p : StoredState) (c : Call) (d : Do
   pub planner : d .state ≡ p
 
 -- of every `need` in a list of calls, for the state before the first
-abbrev pub Needs : State → List Exchange → Type 0
+abbrev pub Needs : State → List Event → Type 0
 Needs s [] = Unit {0}
-Needs s (x ∷ xs) = ((v : ℕ) → NeedCall (s .tables) v (x .call) → NeedRight (s .tables) v (storedState s) (x .call) (x .done)) × Needs (after s (x .call)) xs
+Needs s (onPortion x ∷ xs) = Needs (afterPortion s (x .call)) xs
+Needs s (onLine x ∷ xs) = ((v : ℕ) → NeedCall (s .tables) v (x .call) → NeedRight (s .tables) v (storedState s) (x .call) (x .done)) × Needs (after s (x .call)) xs

@@ -27,7 +27,7 @@ use Rattle.calls.specs.Rows.{changing}
 use Rattle.calls.specs.Causes.{lowest}
 use Rattle.calls.specs.Calls.{Call, Done, writtenBy, reply, called}
 use Rattle.calls.specs.Demand1.{bytesNeeded}
-use Rattle.calls.specs.Demand3.{Exchange, last}
+use Rattle.calls.specs.Demand3.{Exchange, onLines, last}
 use Rattle.calls.specs.Program.{printedBy, sessionWith}
 
 -- ---- a save
@@ -74,8 +74,8 @@ pub record Accepted (x : Exchange) : Type 0 where
 -- the calls xs on planner p give, its lines being those of this text, the save of planner q in a form
 pub record Restored (f : SaveForm) (q p : StoredState) (xs : List Exchange) (text : List ℕ) : Type 0 where
   pub accepted : Each Accepted xs
-  pub tables : last p xs .tables ≡ q .tables
-  pub again : (d : Call) → SaveCall f d → writtenBy d (called (last p xs) d .reply) ≡ text
+  pub tables : last p (onLines xs) .tables ≡ q .tables
+  pub again : (d : Call) → SaveCall f d → writtenBy d (called (last p (onLines xs)) d .reply) ≡ text
 
 -- ---- through the line program
 -- an input after which a line begins: it is empty, or ends in a line feed
@@ -93,6 +93,6 @@ saveLine f = saveWord f ++ (lineFeed ∷ [])
 
 -- "Commissioning wants the cabinet's tables on a laptop": after any input the save of tables t is fed back, and the command of its form writes it again
 pub record FedBack (f : SaveForm) (cells : ℕ) (input : List ℕ) (t : Tables) : Type 0 where
-  pub tables : last (storedState (fresh maxLoads)) (sessionWith cells (input ++ saveText f t)) .tables ≡ stored t
+  pub tables : last (storedState (fresh maxLoads)) (onLines (sessionWith cells (input ++ saveText f t))) .tables ≡ stored t
   pub printed : printedBy (sessionWith cells (input ++ saveText f t ++ saveLine f))
       ≡ printedBy (sessionWith cells input) ++ flatten (replicate (length (saved t)) ok) ++ saveText f t
