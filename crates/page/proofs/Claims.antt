@@ -23,7 +23,7 @@ use Rattle.runs.specs.Outcome.{noSet, planned, found, isNothing}
 use Rattle.calls.specs.State.{State, StoredState, storedState, stateOf, Within}
 use Rattle.calls.specs.Rows.{isLoad}
 use Rattle.calls.specs.Last.{current, keptOutcome}
-use Rattle.calls.specs.Demand3.{Exchange, History, last, paper, Demand3}
+use Rattle.calls.specs.Demand3.{Event, History, last, paper, Demand3}
 use Rattle.calls.proofs.State.{few-loads, state-stored, keeps-stored}
 use Rattle.calls.proofs.Fits.{worth-most}
 use Rattle.planner.specs.declared.Planner.{Planner}
@@ -109,7 +109,7 @@ module _ (s : State) (h : Within s) (k : ℕ) (low : 1 ≤ k) where
         }
 
 -- ---- after a list of calls
-module _ (n : ℕ) (xs : List Exchange) (d3 : Demand3 n xs) (k : ℕ) (page : List ℕ) (sized : isPage page ≡ true) (there : isLoad (paper n xs .tables) k ≡ true) where
+module _ (n : ℕ) (xs : List Event) (d3 : Demand3 n xs) (k : ℕ) (page : List ℕ) (sized : isPage page ≡ true) (there : isLoad (paper n xs .tables) k ≡ true) where
   abbrev s : State
   s = paper n xs
 
@@ -159,7 +159,7 @@ module _ (n : ℕ) (xs : List Exchange) (d3 : Demand3 n xs) (k : ℕ) (page : Li
           inl (p, plan-page s (d3 .limits) k low (planEntries (s .tables)) (p .optimum .fits) (outcome true e ∙ ap (λ (v : ℕ). found v (planEntries (s .tables))) z))
 
 -- after every list of lines from a fresh planner: the page of the plan that is current, or 12
-pub page-right : (xs : List Exchange) → History (held planner.fresh) xs → PagesRight maxLoads xs (last (held planner.fresh) xs)
+pub page-right : (xs : List Event) → History (held planner.fresh) xs → PagesRight maxLoads xs (last (held planner.fresh) xs)
 page-right xs y k page sized there d is =
     let d3 = demand3 xs y in
     subst (PageRight maxLoads xs k page) (sym (is ∙ ap (λ (p : StoredState). drawing p k page) (d3 .state))) (right maxLoads xs d3 k page sized there)

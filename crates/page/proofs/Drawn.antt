@@ -51,21 +51,13 @@ module _ (p : StoredState) (k n : ℕ) where
       unfolding refusalOf lowest
       unrefused l b = rw (eq-eqb n pageBytes e, h, l, b)
 
--- the two tests of a planner, as the code makes them
-pub record Tested (p : Planner) : Type 0 where
-  pub kept : keeps (held p) ≡ true
-  pub lawful : Lawful p
-  pub count : p .tables .loads .count ≡ length (stateIn p .tables .loads)
+-- the test of a planner, as the code makes it
+module _ (p : Planner) {a : Bool} (t : a ≡ keeps (held p)) where
+  pub test-failed : not a ≡ true → keeps (held p) ≡ false
+  test-failed e = sym t ∙ not-true a e
 
-module _ (p : Planner) {a b : Bool} (t : a ≡ keepsLimits (p .tables)) (o : b ≡ keepsOutcome (heldRange (p .tables)) (p .outcome)) where
-  pub test-failed : not (a && b) ≡ true → keeps (held p) ≡ false
-  test-failed e = rw (← t, ← o) (not-true (a && b) e)
-
-  pub test-passed : (a ≡ true → Holds maxLoads (p .tables)) → (b ≡ true → Holds maxLoads (p .tables) → Lawful p) → not (a && b) ≡ false → Tested p
-  test-passed f g e =
-      let both = not-false (a && b) e in
-      let h = g (and-right a b both) (f (and-left a b both)) in
-      record { kept = rw (← t, ← o) both; lawful = h; count = tables-count (p .tables) (h .tables) }
+  pub test-passed : not a ≡ false → keeps (held p) ≡ true
+  test-passed e = sym t ∙ not-false a e
 
 -- the status of an outcome
 pub status-nothing : (k : ℕ) (es : List Entry) → k ≡ 0 → isNothing (ofStatus k es) ≡ true

@@ -18,7 +18,7 @@ use Rattle.runs.specs.Outcome.{nothing, isNothing}
 use Rattle.calls.specs.State.{StoredState, stateOf, keeps}
 use Rattle.calls.specs.Rows.{isLoad}
 use Rattle.calls.specs.Last.{current}
-use Rattle.calls.specs.Demand3.{Exchange, paper}
+use Rattle.calls.specs.Demand3.{Event, paper}
 use Rattle.page.specs.Rows.{rowCount, rowBytes, pageBytes, loadRowCount, isAscii, worthDigits, powerDigits, numberDigits, blankRow, noPlanRow, onOff}
 use Rattle.page.specs.Drawing.{Drawn, drawnOf, drawing, pageOf}
 use Rattle.page.specs.Stretch.{rowAt, isPage, place, stretch, beginning}
@@ -80,14 +80,14 @@ pub record NoPlanPage (page : List ℕ) : Type 0 where
 
 -- ---- after a list of calls from a fresh planner with n places for loads: "the plan must be current (12)"; else the page of the paper's plan for
 -- the tables that the accepted lines built, the one that `plan` printed
-pub record PageRight (n : ℕ) (xs : List Exchange) (load : ℕ) (page : List ℕ) (d : Drawn) : Type 0 where
+pub record PageRight (n : ℕ) (xs : List Event) (load : ℕ) (page : List ℕ) (d : Drawn) : Type 0 where
   pub old : current false xs ≡ false → d ≡ drawnOf no.noPlan page
   pub drawn : current false xs ≡ true → d .number ≡ 0
   pub shown : current false xs ≡ true → let t = paper n xs .tables in let es = planEntries t in
       (PlanShown t es × PlanPage t (shownSet es) load (d .page)) ⊎ (NoneFits t × NoPlanPage (d .page))
 
 -- every drawing of the planner p that they leave, of a load that is there, on a page of 160 bytes
-abbrev pub PagesRight : (n : ℕ) → List Exchange → StoredState → Type 0
+abbrev pub PagesRight : (n : ℕ) → List Event → StoredState → Type 0
 PagesRight n xs p = (load : ℕ) (page : List ℕ) → isPage page ≡ true → isLoad (paper n xs .tables) load ≡ true
     → (d : Drawn) → d ≡ drawing p load page → PageRight n xs load page d
 

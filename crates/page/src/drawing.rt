@@ -25,7 +25,7 @@ fn refusal(planner: Planner, load: usize, bytes: usize) -> u8
     if bytes != PAGE_BYTES {
         return NOT_A_PAGE;
     }
-    if !(planner.tables.keeps_limits() & planner.keeps_outcome()) {
+    if !planner.keeps_limits() {
         return UNUSABLE;
     }
     if (load < 1) | (planner.tables.loads.count < load) {

@@ -111,7 +111,8 @@ settled-is p h c d is =
     let left = sym (acted-accepted t n (changes x)) in
     let as-many : maxLoads ≡ acted t n (changes x) .places = sym (acted-places t n c ∙ places (p .tables) (h .tables)) in
     let outcome = outcome-after p h n ∙ ap (λ (k : ℕ). storedOutcome k (accepted n nothing (stateIn p .outcome))) as-many in
-    ap (λ (d : Added). settled p (d .number) (d .tables)) is ∙ (λ i. record { answer = answerOf n; planner = record { tables = stored (left i); outcome = outcome i } })
+    ap (λ (d : Added). settled p (d .number) (d .tables)) is
+    ∙ (λ i. record { answer = answerOf n; planner = record { tables = stored (left i); outcome = outcome i; filled = accepted n 0 (p .filled) } })
 
 -- ---- the ways out of a change whose first cause is "value out of its range"
 module _ (p : Planner) (h : Lawful p) {r : Added} (b : Bool) (cs : List Cause) (after : Tables) where

@@ -17,9 +17,10 @@ use Rattle.cells.specs.Claims.{Agree, Left, SameRow}
 use Rattle.cells.proofs.Agreement.{rows-agree}
 use Rattle.calls.specs.State.{Sized}
 use Rattle.calls.specs.Calls.{Call, Reply, Done, writtenBy, called}
-use Rattle.calls.specs.Demand1.{Demand1}
+use Rattle.calls.specs.Portions.{PortionCall, PortionDone, Portions}
+use Rattle.calls.specs.Demand1.{Demand1, PortionDemand1}
 use Rattle.calls.specs.Demand2.{CheckCall, CheckRight, PlanCall, PlanRight}
-use Rattle.calls.specs.Demand3.{Exchange, History, Demand3}
+use Rattle.calls.specs.Demand3.{Exchange, Event, History, onLines, Demand3}
 use Rattle.calls.specs.Padding.{SameCalls, SameTreatment}
 use Rattle.calls.specs.Saves.{SaveCall, SaveRight, linesOf, AllFree, Restored}
 use Rattle.calls.specs.Drops.{DropCall, Dropped}
@@ -27,6 +28,7 @@ use Rattle.calls.specs.Last.{LastCall, StoredShown}
 use Rattle.calls.specs.Need.{NeedCall, NeedRight}
 use Rattle.calls.proofs.State.{kept-within}
 use Rattle.calls.proofs.Demand1 as paper1
+use Rattle.calls.proofs.PortionDemand1.{portion-demand1}
 use Rattle.calls.proofs.Demand2.{check-right}
 use Rattle.calls.proofs.Plans.{plan-right}
 use Rattle.calls.proofs.Demand3 as paper3
@@ -46,6 +48,10 @@ use Rattle.planner.proofs.Calling.{handles}
 pub demand1 : {n : ℕ} (p : Planner) → Sized n (held p) → (c : Call) (d : Done) → d ≡ called (held p) c → Demand1 (held p) c d
 demand1 p len c d is = subst (Demand1 (held p) c) (sym is) (paper1.demand1 (held p) len c)
 
+-- and so does a portion
+pub demand1-portion : {n : ℕ} (p : Planner) → Sized n (held p) → (c : PortionCall) (d : PortionDone) → Portions (held p) c d → PortionDemand1 (held p) c d
+demand1-portion p = portion-demand1 (held p)
+
 -- demand 2: on every planner within the limits, a check says yes exactly of the sets that the automaton accepts, and shows their lowest run
 pub demand2 : (p : Planner) → Lawful p → (c : Call) (σ : LoadSet) → CheckCall (stateIn p .tables) c σ
     → (d : Done) → d ≡ called (held p) c → CheckRight (stateIn p .tables) c σ (d .reply)
@@ -60,8 +66,10 @@ demand2-plan p h c k d is =
 
 -- demand 3: after every list of calls from a fresh planner it holds exactly the state that the accepted lines built, and every plan is the
 -- paper's for it: the lowest run of a best set. Request Five: beside the tables it holds the outcome of the latest plan, if no line since printed
--- `ok`, else none, and every `last` shows it as `plan` would print it there. Request Nine: every `need` gives the least budget for its worth
-pub demand3 : (xs : List Exchange) → History (held fresh) xs → Demand3 maxLoads xs
+-- `ok`, else none, and every `last` shows it as `plan` would print it there. Request Nine: every `need` gives the least budget for its worth.
+-- Request Eleven: the list may hold portions; while a filling's work is handed on, its cells hold the best of their branch or row, and the portion after the
+-- last cell gives `plan`'s answer
+pub demand3 : (xs : List Event) → History (held fresh) xs → Demand3 maxLoads xs
 demand3 = paper3.demand3 maxLoads (lit≤ tt)
 
 -- the judge: on every planner each answer is given exactly in its case, 1 where it breaks a limit, its outcome's too
@@ -70,7 +78,7 @@ judge p ns v is = judges-exactly (held p) ns v .0 (sym is)
 
 -- requests One and Eight: on every planner, whatever it holds, lists of calls whose lines differ only in leading zeros, or in a kind 0 that is written
 -- out, get the same treatment
-pub padding : (p : Planner) (xs ys : List Exchange) → SameCalls xs ys → History (held p) xs → History (held p) ys → SameTreatment (held p) xs ys
+pub padding : (p : Planner) (xs ys : List Exchange) → SameCalls xs ys → History (held p) (onLines xs) → History (held p) (onLines ys) → SameTreatment (held p) xs ys
 padding p = same-treatment (held p)
 
 -- requests Two and Eight: on every planner within the limits, a `save` or `save1` with the bytes that it needs writes the lines of its tables in its
@@ -81,7 +89,7 @@ save f p h c k d is = subst (SaveRight f (held p) c) (sym is) (save-right f (hel
 -- these lines, fed to any such planner with the bytes that they need, are accepted, give it equal tables, and a further save in the same form gives
 -- equal bytes: "An old save, taken in and written with `save1`, comes back byte for byte"
 pub fed-back : (f : SaveForm) (q p : Planner) → Lawful q → Lawful p → losesKinds f (stateIn q .tables) ≡ false → (c : Call) → SaveCall f c → (d : Done) → d ≡ called (held q) c
-    → (xs : List Exchange) → History (held p) xs → linesOf xs ≡ lines (writtenBy c (d .reply)) → AllFree xs → Restored f (held q) (held p) xs (writtenBy c (d .reply))
+    → (xs : List Exchange) → History (held p) (onLines xs) → linesOf xs ≡ lines (writtenBy c (d .reply)) → AllFree xs → Restored f (held q) (held p) xs (writtenBy c (d .reply))
 fed-back r q p g h e c k d is xs y l f =
     let w = ap (λ (d : Done). writtenBy c (d .reply)) is in
     subst (Restored r (held q) (held p) xs) (sym w) (restores r (held q) (held p) g h e c k xs y (l ∙ ap lines w) f)

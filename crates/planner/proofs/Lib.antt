@@ -5,6 +5,7 @@ pub mod Writing
 pub mod Searching
 pub mod Budgets
 pub mod Deciding
+pub mod Portioning
 pub mod Calling
 pub mod Judging
 pub mod Demands

@@ -1,8 +1,9 @@
 -- The ways out of `plan`, `check` and `last`: a refusal, or what was found. Assumes nothing.
 use Prim.Native.Nat.{ℕ, zero, suc, _+_, _*_, _≤_, _<_}
-use mathlib.Core.Path.{_≡_, refl, sym, ap, _∙_}
+use mathlib.Core.Path.{_≡_, refl, sym, ap, ap₂, subst, _∙_}
 use mathlib.Core.Bool.{true, false}
-use mathlib.Core.List.{List, [], _∷_}
+use mathlib.Core.List.{List, [], _∷_, _++_}
+use native.Mathlib.Nat.{mul-le-mul}
 use native.Mathlib.Omega.{arith}
 use borrow.Author.Tests.{eq-eqb, ne-eqb, lt-ltb, le-ltb}
 use lib.Dec.{eqb, lit≤}
@@ -12,14 +13,16 @@ use Rattle.marks.specs.declared.LoadSet.{LoadSet}
 use Rattle.marks.specs.Sets.{sizeOf, markIn}
 use Rattle.lines.specs.declared.Command.the-variants.{Plan, Check, Last}
 use Rattle.lines.specs.declared.answer.Answer.the-variants.{Planned, Allowed, Refused}
-use Rattle.lines.specs.Answers.{numberOf}
+use Rattle.lines.specs.Answers.{planLine, entryLines, numberOf}
 use Rattle.tables.specs.declared.tables.StoredTables.{StoredTables}
 use Rattle.tables.specs.Refusals as no
 use Rattle.tables.specs.Tables.{Tables}
-use Rattle.tables.specs.Limits.{maxLoads, Limits}
+use Rattle.tables.specs.Limits.{maxLoads, maxStates, maxBudget, Limits}
+use Rattle.tables.specs.Lawful.{Lawful as Lawful′}
 use Rattle.tables.specs.Stored.{bookOf, tablesOf, keepsLimits, Holds}
-use Rattle.tables.proofs.Stored.{stored-keeps}
-use Rattle.meaning.specs.Sets.{power, worth}
+use Rattle.tables.proofs.Lawful as tables
+use Rattle.tables.proofs.Stored.{stored-keeps, held-loads}
+use Rattle.meaning.specs.Sets.{power, worth, numberOn}
 use Rattle.meaning.specs.Best.{bestPlan, bestCheck}
 use Rattle.tables.specs.declared.entry.Entry.{Entry}
 use Rattle.meaning.specs.Choice.{planEntries, checkEntries, shownSet}
@@ -30,24 +33,21 @@ use Rattle.runs.specs.declared.run.Run.{Run}
 use Rattle.runs.specs.declared.outcome.StoredOutcome.{StoredOutcome}
 use Rattle.runs.specs.Runs.{runOf, entriesTo}
 use Rattle.runs.specs.Outcome.{Outcome, planned, isNothing, isNoSet, entriesOf, found, storedOutcome, ofStatus, outcomeOf, rangeOf, outcomeIn}
-use Rattle.runs.proofs.Stored.{lines-in, outcome-stored}
+use Rattle.runs.proofs.Stored.{lines-in, outcome-stored, found-in}
 use Rattle.calls.specs.State.{State, storedState}
-use Rattle.calls.specs.Rows.{_if_, Row, showingPlan, notAllowed, row, causesOf, cellsFor}
+use Rattle.calls.specs.Rows.{_if_, Row, showingPlan, planText, notAllowed, row, causesOf, cellsFor}
 use Rattle.calls.specs.Causes.{lowest}
 use Rattle.calls.specs.Effects.{stateBy}
 use Rattle.calls.specs.Printing.{zeroed, hasOutcome, searched}
-use Rattle.calls.proofs.State.{places, few-loads, kept-within, kept-stored}
+use Rattle.calls.proofs.State.{lawful, places, few-loads, kept-within, kept-stored}
 use Rattle.calls.proofs.Work.{unsearched, row-zeroed}
-use Rattle.calls.proofs.Fits.{plan-in}
 use Rattle.calls.proofs.Refusals.{refused-state}
-use Rattle.cells.specs.Problem.{planProblem, shapeOf}
-use Rattle.cells.specs.Work.{cellsNeeded}
 use Rattle.engine.proofs.Answers.{lines-set, lines-size}
 use Rattle.planner.specs.declared.Planner.{Planner}
 use Rattle.planner.specs.declared.search.Decided.{Decided}
 use Rattle.planner.specs.Planner.{held, plannerOf, stateIn, Lawful}
 use Rattle.planner.specs.Decided.{unshown, decidedBy, decided, Decides}
-use Rattle.planner.proofs.Commands.{tables-count, outcome-held}
+use Rattle.planner.proofs.Commands.{tables-count, load-count, outcome-held}
 
 -- ---- what a search found
 pub status-none : (v : ℕ) (es : List Entry) {o : StoredOutcome} → o ≡ storedOutcome maxLoads (found v es) → o .status ≡ 1 → v ≡ 0
@@ -101,9 +101,21 @@ module _ (s : StoredTables) (h : Holds maxLoads s) where
   pub kept : keepsLimits s ≡ true
   kept = ap keepsLimits (h .2) ∙ stored-keeps (h .0) (h .1)
 
-  pub cells-needed : cellsNeeded (shapeOf (planProblem s)) ≡ cellsOf (tablesOf s)
+  -- how many cells their plan needs, and that these are few
+  pub cells-are : s .loads .count * (s .book .states + s .book .stages) * (s .budget + 1) ≡ cellsOf (tablesOf s)
   unfolding cellsOf tablesOf bookOf
-  cells-needed = ap (λ (n : ℕ). n * (s .book .states + s .book .stages) * (s .budget + 1)) (tables-count s h)
+  cells-are = ap (λ (n : ℕ). n * (s .book .states + s .book .stages) * (s .budget + 1)) (tables-count s h)
+
+  sizes : Lawful′ (tablesOf s)
+  sizes = tables.lawful (tablesOf s) (lawful s h)
+
+  pub rows-few : s .loads .count * (s .book .states + s .book .stages) ≤ maxLoads * (maxStates + maxStates)
+  unfolding tablesOf bookOf
+  rows-few = mul-le-mul {n₂ = maxLoads} {m₂ = maxStates + maxStates} (held-loads maxLoads s h) (omega (arith, sizes .states, sizes .stages))
+
+  pub cells-few : cellsOf (tablesOf s) ≤ maxLoads * (maxStates + maxStates) * (maxBudget + 1)
+  unfolding tablesOf
+  cells-few = subst (λ (n : ℕ). n ≤ maxLoads * (maxStates + maxStates) * (maxBudget + 1)) cells-are (mul-le-mul {m₂ = maxBudget + 1} rows-few (omega (arith, sizes .budget)))
 
 module _ (p : Planner) (h : Lawful p) where
   pub is-held : p ≡ plannerOf (storedState (stateIn p))
@@ -168,6 +180,21 @@ module _ (p : Planner) (h : Lawful p) where
     pub set-is : markIn (p .outcome .run .set) ≡ shownSet shown-lines
     set-is = ap (λ (x : Run). markIn (x .set)) run-is ∙ lines-set (stateIn p .tables) shown-lines each few-places
 
+    on-is : sizeOf (p .outcome .run .set) ≡ numberOn (stateIn p .tables) (shownSet shown-lines)
+    on-is = ap (λ (x : Run). sizeOf (x .set)) run-is ∙ lines-size (stateIn p .tables) shown-lines each few-places
+
+    -- its text
+    pub text-is : let σ = markIn (p .outcome .run .set) in
+        planLine (worth (stateIn p .tables) σ) (power (stateIn p .tables) σ) (sizeOf (p .outcome .run .set)) ++ entryLines (entriesTo (p .outcome .run) (p .tables .loads .count))
+        ≡ planText (stateIn p .tables) shown-lines
+    unfolding planText shown-lines
+    text-is =
+        let t = stateIn p .tables in
+        let r = p .outcome .run in
+        let n = p .tables .loads .count in
+        ap (λ (σ : ℕ → ℕ). planLine (worth t σ) (power t σ) (sizeOf (r .set)) ++ entryLines (entriesTo r n)) set-is
+        ∙ ap₂ (λ (k n : ℕ). planLine (worth t (shownSet shown-lines)) (power t (shownSet shown-lines)) k ++ entryLines (entriesTo r n)) on-is (load-count p h)
+
     -- a plan is shown, with the figures of its set
     pub shows-last : (r : Run) → r ≡ p .outcome .run → (v w k : ℕ)
         → v ≡ worth (stateIn p .tables) (markIn (r .set)) → w ≡ power (stateIn p .tables) (markIn (r .set)) → k ≡ sizeOf (r .set)
@@ -179,7 +206,7 @@ module _ (p : Planner) (h : Lawful p) where
         let set : markIn (r .set) ≡ _ = ap (λ (x : Run). markIn (x .set)) is ∙ set-is in
         let worths = a ∙ ap (worth t) set in
         let powers = b ∙ ap (power t) set in
-        let on = d ∙ ap (λ (x : Run). sizeOf (x .set)) run ∙ lines-size t shown-lines each few-places in
+        let on = d ∙ ap (λ (x : Run). sizeOf (x .set)) is ∙ on-is in
         let shown : _≡_ {A = Decided} (record { answer = Planned v w k; run = r; planner = p }) (record { answer = showingPlan t shown-lines .answer; run = runOf maxLoads shown-lines; planner = plannerOf (storedState (stateIn p)) }) = λ i. record { answer = Planned (worths i) (powers i) (on i); run = run i; planner = is-held i } in
         shown ∙ rw (last-accepted, planned-is)
 
@@ -201,26 +228,22 @@ module _ (p : Planner) (h : Lawful p) (o : StoredOutcome) (is : o ≡ storedOutc
 
   -- the planner with it
   abbrev pub storing : Planner
-  storing = record { tables = p .tables; outcome = o }
+  storing = record { tables = p .tables; outcome = o; filled = p .filled }
 
   limits : Limits t
   limits = kept-within (held p) h .tables
 
-  found-in : outcomeIn (rangeOf t) (found (bestPlan t) (planEntries t)) ≡ true
-  unfolding outcomeIn noneFits
-  found-in = go (bestPlan t) refl
-    where
-      go : (v : ℕ) → bestPlan t ≡ v → outcomeIn (rangeOf t) (found v (planEntries t)) ≡ true
-      go zero e = refl
-      go (suc v) e = plan-in t limits (ne-eqb (bestPlan t) 0 (λ z. absurd (omega (arith, e, z))))
-
   pub storing-lawful : Lawful storing
-  storing-lawful = record { tables = h .tables; outcome = (found (bestPlan t) (planEntries t), found-in, is ∙ ap (λ (n : ℕ). storedOutcome n (found (bestPlan t) (planEntries t))) (sym (places (p .tables) (h .tables)))) }
+  storing-lawful = record { tables = h .tables; outcome = (found (bestPlan t) (planEntries t), found-in t limits, is ∙ ap (λ (n : ℕ). storedOutcome n (found (bestPlan t) (planEntries t))) (sym (places (p .tables) (h .tables)))); filled = h .filled }
 
-  storing-state : stateIn storing ≡ record { tables = t; outcome = found (bestPlan t) (planEntries t) }
+  -- the state with what a plan found
+  abbrev finding : (best : ℕ) → State
+  finding v = record { tables = t; outcome = found v (planEntries t); filled = p .filled }
+
+  pub storing-state : stateIn storing ≡ finding (bestPlan t)
   storing-state =
-      let read = ap (outcomeOf (length (t .loads))) is ∙ outcome-stored maxLoads (lit≤ tt) (rangeOf t) (omega (arith, few-loads t limits, places (p .tables) (h .tables))) (found (bestPlan t) (planEntries t)) found-in in
-      λ i. record { tables = t; outcome = read i }
+      let read = ap (outcomeOf (length (t .loads))) is ∙ outcome-stored maxLoads (lit≤ tt) (rangeOf t) (omega (arith, few-loads t limits, places (p .tables) (h .tables))) (found (bestPlan t) (planEntries t)) (found-in t limits) in
+      λ i. record { tables = t; outcome = read i; filled = p .filled }
 
   module _ (some : length (t .loads) ≡ 0 → ⊥) (w v : List ℕ) (enough : cellsOf t ≤ length w) (cleared : v ≡ zeroed (cellsFor (row (stateIn p) Plan)) w) where
     -- it searched
@@ -231,12 +254,12 @@ module _ (p : Planner) (h : Lawful p) (o : StoredOutcome) (is : o ≡ storedOutc
         go zero e = rw (plan-none-fits (stateIn p) (length w) some enough e)
         go (suc x) e = rw (plan-accepted (stateIn p) (length w) some enough (λ z. absurd (omega (arith, e, z))))
 
-    as-last : decided (record { tables = t; outcome = found (bestPlan t) (planEntries t) }) 0 (row (record { tables = t; outcome = found (bestPlan t) (planEntries t) }) Last)
+    as-last : decided (finding (bestPlan t)) 0 (row (finding (bestPlan t)) Last)
         ≡ decided (stateIn p) (length w) (row (stateIn p) Plan)
     unfolding decidedBy row lowest
     as-last = go (bestPlan t) refl
       where
-        go : (x : ℕ) → bestPlan t ≡ x → decided (record { tables = t; outcome = found x (planEntries t) }) 0 (row (record { tables = t; outcome = found x (planEntries t) }) Last)
+        go : (x : ℕ) → bestPlan t ≡ x → decided (finding x) 0 (row (finding x) Last)
             ≡ decided (stateIn p) (length w) (row (stateIn p) Plan)
         go zero e = rw (plan-none-fits (stateIn p) (length w) some enough e)
         go (suc x) e = rw (plan-accepted (stateIn p) (length w) some enough (λ z. absurd (omega (arith, e, z))))

@@ -12,7 +12,7 @@ use Rattle.lines.specs.Answers.{yes, planLine, entryLines, textOf, Wrote}
 use Rattle.lines.proofs.Wrote.{wrote-then, wrote-length}
 
 -- the room that the first part leaves
-rest-room : {l m : List ℕ} {at : ℕ} {a : List ℕ} (b : List ℕ) → Wrote l m 0 at a → length (a ++ b) ≤ length l → at + length b ≤ length m
+pub rest-room : {l m : List ℕ} {at : ℕ} {a : List ℕ} (b : List ℕ) → Wrote l m 0 at a → length (a ++ b) ≤ length l → at + length b ≤ length m
 rest-room {l} {m} {at} {a} b w h = omega (arith, w .end, wrote-length w, length-append a b)
 
 module _ (a : Answer) (es : List Entry) (cs : List Change) where

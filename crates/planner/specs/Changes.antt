@@ -42,9 +42,13 @@ toldBy s x = let n = lowest (x .causes) in told n (stored (accepted n (x .after)
 abbrev pub toldFor : State → Change → Added
 toldFor s c = toldBy s (changing (s .tables) c)
 
--- the answer of a change with this number, and the planner with the tables after it: "an accepted change wipes" the outcome
+-- the answer of a change with this number, and the planner with the tables after it: "an accepted change wipes" the outcome,
+-- and starts the filling over
 abbrev pub settled : Planner → (number : ℕ) → StoredTables → Changed
-settled p n u = record { answer = answerOf n; planner = record { tables = u; outcome = accepted n (storedOutcome maxLoads nothing) (p .outcome) } }
+settled p n u = record {
+  answer = answerOf n;
+  planner = record { tables = u; outcome = accepted n (storedOutcome maxLoads nothing) (p .outcome); filled = accepted n 0 (p .filled) };
+}
 
 -- what a change answers, and the planner after it. (No change's number depends on the cells.)
 unfoldable pub madeBy : State → Changing → Changed

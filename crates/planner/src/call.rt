@@ -13,9 +13,7 @@ use tables::refusal::KINDS_IN_USE;
 use tables::refusal::TOO_LONG;
 use tables::refusal::UNUSABLE;
 ghost use mathlib.Core.Path.{_≡_};
-ghost use mathlib.Core.Bool.{true};
 ghost use Rattle.lines.specs.Saved.{loses};
-ghost use Rattle.calls.specs.State.{keeps};
 ghost use Rattle.calls.specs.Rows.{row};
 ghost use Rattle.calls.specs.Calls.{called};
 ghost use Rattle.calls.specs.Demand1.{bytesFor};
@@ -101,14 +99,6 @@ impl Planner {
             Command::Broken => self.refused(BROKEN),
             Command::TooLong => self.refused(TOO_LONG),
         }
-    }
-
-    // Does a planner that is handed in keep the limits?
-    fn keeps_limits(self) -> bool
-        ensures test { λ r. ⌜ r ≡ keeps (held self) ⌝ }
-        ensures kept { λ r. ⌜ (r ≡ true → Lawful self) ⌝ }
-    {
-        self.tables.keeps_limits() & self.keeps_outcome()
     }
 
     // Nothing is written, and everything is left as it was.

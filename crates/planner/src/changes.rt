@@ -32,7 +32,7 @@ pub struct Changed {
 }
 
 // Is x from low to high?
-fn between(low: usize, high: usize, x: usize) -> bool
+pub(crate) fn between(low: usize, high: usize, x: usize) -> bool
     ensures { λ r. ⌜ r ≡ between low high x ⌝ }
 {
     (low <= x) & (x <= high)
@@ -226,17 +226,23 @@ impl Planner {
         }
     }
 
-    // The answer of a change with this number, and the planner with the tables after it. An accepted one wipes the outcome.
+    // The answer of a change with this number, and the planner with the tables after it. An accepted one wipes the outcome, and starts the filling over.
     fn settled(self, number: u8, tables: StoredTables) -> Changed
         ensures { λ r. ⌜ r ≡ settled self number tables ⌝ }
     {
         let mut outcome = self.outcome;
+        let mut filled = self.filled;
         if number == 0 {
             outcome = StoredOutcome::NONE;
+            filled = 0;
         }
         Changed {
             answer: Answer::of_change(number),
-            planner: Planner { tables, outcome },
+            planner: Planner {
+                tables,
+                outcome,
+                filled,
+            },
         }
     }
 

@@ -1,8 +1,5 @@
 // The commands that show a run: `plan` and `check`, which search, and `last`.
 use crate::Planner;
-use cells::problem::plan_problem;
-use cells::problem::shape_of;
-use cells::work::cells_needed;
 use engine::figures::figures_of;
 use lines::answer::Answer;
 use marks::LoadSet;
@@ -63,7 +60,8 @@ pub(crate) fn cells_of(tables: StoredTables) -> usize
     requires { ⌜ Holds maxLoads tables ⌝ }
     ensures { λ r. ⌜ r ≡ cellsOf (tablesOf tables) ⌝ }
 {
-    cells_needed(shape_of(plan_problem(tables)))
+    let across = tables.book.states as usize + tables.book.stages as usize;
+    tables.loads.count * across * (tables.budget as usize + 1)
 }
 
 impl Planner {
@@ -112,7 +110,11 @@ impl Planner {
             return self.refused(TOO_FEW_CELLS);
         }
         let outcome = engine::plan::plan(tables, work);
-        let planner = Planner { tables, outcome };
+        let planner = Planner {
+            tables,
+            outcome,
+            filled: self.filled,
+        };
         planner.last()
     }
 
