@@ -1,11 +1,12 @@
--- What the walks of the exported functions share: steps of `Types/Kit.antt`'s calculus, over a planner behind a reference.
---     mach, has        a planner's machine value, and what the planner owns at it
---     typed            the machine value of a planner that is held has the planner's MIR type
+-- What the walks of the exported functions share: steps of `Types/Kit.antt`'s calculus, over a struct S behind a reference. Of S they know only that it
+-- is declared, with its laws, so a walk takes as long however large the planner is.
+--     mach, has        the machine value of a struct, and what the struct owns at it
+--     typed            the machine value of a struct that is held has the struct's MIR type
 --     slice, sized     the machine value of a slice, and that it is well formed
---     taken            at entry: a `&mut Planner`, the first parameter, is taken apart, with its token
---     spelled          a planner in memory: its cell holds its machine value, which has the planner's MIR type
---     opened           the borrow is opened, and the planner there is spelled
---     kept             at exit: the `&mut Planner` is put together again
+--     taken            at entry: a `&mut S`, the first parameter, is taken apart, with its token
+--     spelled          a struct in memory: its cell holds its machine value, which has the struct's MIR type
+--     opened           the borrow is opened, and the struct there is spelled
+--     kept             at exit: the `&mut S` is put together again
 --     returned         once a callee has returned: what its result owns, what it ensures, and the tokens that it was lent
 --     freed            a local that holds a value is freed
 --     by-walk          a walk of a function's MIR over the tables of its own environment is a proof of the function's routine
@@ -36,6 +37,8 @@ use denote.Memory.{cellAt, mem}
 use denote.Ref.{RefT, MutRef}
 use denote.Slice.{sliceVal}
 use denote.Steps.{opens, peeks}
+use denote.Struct.Declared.{Declared, row, shape}
+use denote.Struct.Struct.{layout}
 use denote.Struct.Laws as LL
 use denote.Struct.Steps.{spelt}
 use denote.Triple.Clauses.{Clauses, Ended, closing}
@@ -43,18 +46,6 @@ use denote.Triple.Spec.{tripleOf}
 use denote.Triple.Statement.{Triple}
 use denote.Triple.Table.{entered}
 use denote.Triple.Walked.{Stays, AllGo, Walks, walk-meets}
-use Rattle.planner.specs.declared.Planner.{Planner}
-use Rattle.planner.proofs.Planner as T
-use Rattle.planner.proofs.Planner.Laws as T′
-
-abbrev pub mach : Planner → Val
-mach p = LL.val T.the-type T′.the-laws p
-
-abbrev pub has : Planner → Fml
-has p = T.the-row .own p (mach p ∷ [])
-
-abbrev pub Typed : Val → Type 0
-Typed v = Holds (hasTy T′.mir v) × WT v
 
 abbrev pub slice : RefT (List ℕ) → Val
 slice y = sliceVal (y .ptr) (length (y .now))
@@ -62,45 +53,62 @@ slice y = sliceVal (y .ptr) (length (y .now))
 pub sized : (y : RefT (List ℕ)) → length (y .now) < 2 ^ 64 → WT (slice y)
 sized y fits = (tt, (record { fits = fits }, tt))
 
--- a planner at a place in memory
-abbrev pub at-place : ℕ → ℕ → GName → Planner → RefT Planner
-at-place b o γ p = record { ptr = (b, o); name = γ; now = p }
+-- a value of this MIR type
+abbrev pub Typed : Ty → Val → Type 0
+Typed τ v = Holds (hasTy τ v) × WT v
 
--- what a `&mut Planner` to that place is made of: the last planner seen, and the borrow
-abbrev pub seen : GName → Planner → Fml
-seen γ p = fobs γ (T.the-row .coded .code p)
+module _ (S : Declared) where
+  -- at a place in memory
+  abbrev pub at-place : ℕ → ℕ → GName → S .D → RefT (S .D)
+  at-place b o γ p = record { ptr = (b, o); name = γ; now = p }
 
-abbrev pub borrow : Lft → ℕ → ℕ → GName → Fml
-borrow κ b o γ = fbor κ (Body (mem T.the-row) b o γ)
+  -- what a `&mut S` to that place is made of: the last value seen, and the borrow
+  abbrev pub seen : GName → S .D → Fml
+  seen γ p = fobs γ (row S .coded .code p)
 
-abbrev pub open-borrow : Lft → Share → ℕ → ℕ → GName → Fml
-open-borrow κ q b o γ = fobor κ q (Body (mem T.the-row) b o γ)
+  abbrev pub borrow : Lft → ℕ → ℕ → GName → Fml
+  borrow κ b o γ = fbor κ (Body (mem (row S)) b o γ)
 
-abbrev pub cell : Share → Planner → ℕ → ℕ → Fml
-cell s p b o = cellAt s (T.the-row .mir) (mach p ∷ []) b o
+  abbrev pub open-borrow : Lft → Share → ℕ → ℕ → GName → Fml
+  open-borrow κ q b o γ = fobor κ q (Body (mem (row S)) b o γ)
 
-module _ {M : Type 1} (𝓤 : URA M) (H : Heap 𝓤) (A : Atoms 𝓤) (W : Given 𝓤 H A) where
-  pub typed : (p : Planner) (v : Val) → Is T.the-row p (v ∷ []) → Typed v
-  typed p v is = LL.lawful T.the-type T′.the-laws 𝓤 H A W .typed p (v ∷ []) is .0
+  -- the `&mut S`
+  abbrev pub reference : Lft → ℕ → ℕ → GName → S .D → Fml
+  reference κ b o γ p = MutRef (named 0) κ (row S) .own (at-place b o γ p) (vptr b o ∷ [])
+
+module _ (S : Declared) (L : LL.Laws S) where
+  abbrev pub mach : S .D → Val
+  mach p = LL.val S L p
+
+  abbrev pub has : S .D → Fml
+  has p = row S .own p (mach p ∷ [])
+
+  abbrev pub cell : Share → S .D → ℕ → ℕ → Fml
+  cell s p b o = cellAt s (row S .mir) (mach p ∷ []) b o
+
+  pub typed : {M : Type 1} (𝓤 : URA M) (H : Heap 𝓤) (A : Atoms 𝓤) (W : Given 𝓤 H A) (p : S .D) (v : Val) → Is (row S) p (v ∷ []) → Typed (layout (shape S)) v
+  typed 𝓤 H A W p v is = LL.lawful S L 𝓤 H A W .typed p (v ∷ []) is .0
 
 module _ {M : Type 1} {𝓤 : URA M} {H : Heap 𝓤} {A : Atoms 𝓤} {K : Type 0} {W : Given 𝓤 H A} {Γ : List (Item 𝓤)} {G : Goal 𝓤 H} where
-  pub spelled : K → (s : Share) (p : Planner) (vs : List Val) (b o : ℕ) → (Typed (mach p) → Seq K W (‵ (cell s p b o) ∷ ‵ (has p) ∷ Γ) G) → Seq K W (‵ (cellAt s (T.the-row .mir) vs b o) ∷ ‵ (T.the-row .own p vs) ∷ Γ) G
-  spelled t s p vs b o k =
-      spelt t T.the-row (Is T.the-row) (shows 𝓤 H A T.the-row) (LL.vals T.the-type T′.the-laws) (LL.tells T.the-type T′.the-laws) s p vs b o $
-      move t (1 ∷ []) $ peeks t T.the-row (Is T.the-row) (shows 𝓤 H A T.the-row) p (mach p ∷ []) (λ is. move t (1 ∷ 0 ∷ []) $ k (typed 𝓤 H A W p (mach p) is))
+  pub spelled : K → (S : Declared) (L : LL.Laws S) (s : Share) (p : S .D) (vs : List Val) (b o : ℕ) → (Typed (layout (shape S)) (mach S L p) → Seq K W (‵ (cell S L s p b o) ∷ ‵ (has S L p) ∷ Γ) G)
+      → Seq K W (‵ (cellAt s (row S .mir) vs b o) ∷ ‵ (row S .own p vs) ∷ Γ) G
+  spelled t S L s p vs b o k =
+      spelt t (row S) (Is (row S)) (shows 𝓤 H A (row S)) (LL.vals S L) (LL.tells S L) s p vs b o $
+      move t (1 ∷ []) $ peeks t (row S) (Is (row S)) (shows 𝓤 H A (row S)) p (mach S L p ∷ []) (λ is. move t (1 ∷ 0 ∷ []) $ k (typed S L 𝓤 H A W p (mach S L p) is))
 
 module _ {M : Type 1} {𝓤 : URA M} {H : Heap 𝓤} {A : Atoms 𝓤} {K : Type 0} {W : Given 𝓤 H A} {Γ : List (Item 𝓤)} where
   module _ {G : Goal 𝓤 H} {κ : Lft} {γ : GName} where
-    pub taken : K → (p : Planner) (b o : ℕ) {q : Share} {others : Fml} {tokens : Item 𝓤}
-        → Step K W (‵ (seen γ p) ∷ ‵ (borrow κ b o γ) ∷ ‵ (flft κ q) ∷ ‵ others ∷ tokens ∷ Γ) G ((‵ (flft κ q) ⊛ tokens) ∷ ‵ (fsep (MutRef (named 0) κ T.the-row .own (at-place b o γ p) (vptr b o ∷ [])) others) ∷ Γ) G
-    taken t p b o = step (λ s. split t $ move t (2 ∷ []) $ fsplit t $ fsplit3 t $ drop t $ move t (0 ∷ 1 ∷ 3 ∷ 2 ∷ []) $ s)
+    pub taken : K → (S : Declared) (p : S .D) (b o : ℕ) {q : Share} {others : Fml} {tokens : Item 𝓤}
+        → Step K W (‵ (seen S γ p) ∷ ‵ (borrow S κ b o γ) ∷ ‵ (flft κ q) ∷ ‵ others ∷ tokens ∷ Γ) G ((‵ (flft κ q) ⊛ tokens) ∷ ‵ (fsep (reference S κ b o γ p) others) ∷ Γ) G
+    taken t S p b o = step (λ s. split t $ move t (2 ∷ []) $ fsplit t $ fsplit3 t $ drop t $ move t (0 ∷ 1 ∷ 3 ∷ 2 ∷ []) $ s)
 
-    pub kept : K → (p : Planner) (b o : ℕ) → Step K W (‵ (MutRef (named 0) κ T.the-row .own (at-place b o γ p) (vptr b o ∷ [])) ∷ Γ) G (‵ (seen γ p) ∷ ‵ (borrow κ b o γ) ∷ Γ) G
-    kept t p b o = step (λ s. feqI t (List Val) (vptr b o ∷ []) (vptr b o ∷ []) refl $ fjoin3 t $ s)
+    pub kept : K → (S : Declared) (p : S .D) (b o : ℕ) → Step K W (‵ (reference S κ b o γ p) ∷ Γ) G (‵ (seen S γ p) ∷ ‵ (borrow S κ b o γ) ∷ Γ) G
+    kept t S p b o = step (λ s. feqI t (List Val) (vptr b o ∷ []) (vptr b o ∷ []) refl $ fjoin3 t $ s)
 
-    pub opened : K → Soaks G → (p : Planner) (b o : ℕ) {q : Share} → (Typed (mach p) → Seq K W (‵ (cell fullShare p b o) ∷ ‵ (has p) ∷ ‵ (open-borrow κ q b o γ) ∷ ‵ (seen γ p) ∷ ‵ (fauth γ (T.the-row .coded .code p)) ∷ Γ) G)
-        → Seq K W (‵ (seen γ p) ∷ ‵ (borrow κ b o γ) ∷ ‵ (flft κ q) ∷ Γ) G
-    opened t z p b o k = opens t z T.the-row {h = p} b o (λ vs. spelled t fullShare p vs b o k)
+    pub opened : K → Soaks G → (S : Declared) (L : LL.Laws S) (p : S .D) (b o : ℕ) {q : Share}
+        → (Typed (layout (shape S)) (mach S L p) → Seq K W (‵ (cell S L fullShare p b o) ∷ ‵ (has S L p) ∷ ‵ (open-borrow S κ q b o γ) ∷ ‵ (seen S γ p) ∷ ‵ (fauth γ (row S .coded .code p)) ∷ Γ) G)
+        → Seq K W (‵ (seen S γ p) ∷ ‵ (borrow S κ b o γ) ∷ ‵ (flft κ q) ∷ Γ) G
+    opened t z S L p b o k = opens t z (row S) {h = p} b o (λ vs. spelled t S L fullShare p vs b o k)
 
   pub returned : {G : Goal 𝓤 H} → K → Soaks G → {X : Type 0} {P : SProp 𝓤} (tokens : Item 𝓤) (own : X → Fml) (E : X → SProp 𝓤) → ent 𝓤 P (mean 𝓤 H A (later (some (λ (r : X). (tokens ⊛ ‵ (own r)) ⊛ raw (E r)))))
       → ((r : X) → Seq K W (raw (E r) ∷ ‵ (own r) ∷ tokens ∷ Γ) G) → Seq K W (raw P ∷ Γ) G

@@ -1,7 +1,8 @@
 // The planner for the switch's firmware: the functions that C calls. The planner stands behind a reference, where the caller keeps it.
 // C may hand in any bytes as a planner: a planner that breaks a limit is refusal 1.
 // Each function with a planner leaves the work to a function on values, copies the planner for it, and stores a planner that comes back: the
-// proofs of these four go through their code by hand, so there is as little code in them as can be.
+// proofs of these five go through their code by hand, so there is as little code in them as can be. The two that hand
+// a planner on, with a line and for a portion, share one such proof.
 use judge::Verdict;
 use page::drawing::draw;
 use page::stretch::Part;
@@ -10,17 +11,19 @@ use page::stretch::place;
 use planner::Planner;
 ghost use mathlib.Core.Path.{_≡_};
 ghost use Rattle.calls.specs.Calls.{called};
+ghost use Rattle.calls.specs.Portions.{Portions};
 ghost use Rattle.planner.specs.Planner.{held, fresh};
 ghost use Rattle.planner.specs.Calls.{callOf};
+ghost use Rattle.planner.specs.Portions.{portionOf};
 ghost use Rattle.planner.specs.Verdict.{judgedBy};
 ghost use Rattle.page.specs.Drawing.{drawnOf, drawing};
 ghost use Rattle.page.specs.Stretch.{place, beginning};
-ghost use Rattle.hulmeide.specs.Calls.{doneOf};
+ghost use Rattle.hulmeide.specs.Calls.{doneOf, portionDone};
 ghost use Rattle.hulmeide.specs.Verdict.{verdictNumber};
 ghost use Rattle.hulmeide.specs.Version.{version};
 
 // The version, as HULMEIDE_VERSION of the header has it: major * 10000 + minor * 100 + patch.
-const VERSION: u32 = 11000;
+const VERSION: u32 = 11100;
 
 // The judge's "no". It lies above every number of a refusal.
 const NOT_A_RUN: u32 = 255;
@@ -49,6 +52,35 @@ fn handle(planner: Planner, line: &[u8], out: &mut [u8], place: usize, work: &mu
         reply: Reply {
             number: called.number as u32,
             count: called.count,
+        },
+    }
+}
+
+// What C is told of a portion: its number, 0 if accepted, and the counts of cells filled and of bytes written, in 16 bytes as well.
+#[repr(C)]
+pub struct Portion {
+    pub number: u32,
+    pub filled: u32,
+    pub count: usize,
+}
+
+// A portion of a plan: the next planner, and what C is told.
+struct Filled {
+    planner: Planner,
+    portion: Portion,
+}
+
+fn fill(planner: Planner, most: usize, out: &mut [u8], place: usize, work: &mut [u32]) -> Filled
+    ensures { λ r. ⌜ Portions (held planner) (portionOf most (now (out .entry)) place (now (work .entry))) (portionDone (r .planner) (r .portion) (now (out .exit)) (now (work .exit))) ⌝ }
+{
+    let portion = planner.portion(most, out, place, work);
+    let after = portion.planner;
+    Filled {
+        planner: after,
+        portion: Portion {
+            number: portion.number as u32,
+            filled: portion.filled,
+            count: portion.count,
         },
     }
 }
@@ -119,6 +151,22 @@ pub extern "C" fn hulmeide_call(
     let handled = handle(*planner, line, out, place, work);
     *planner = handled.planner;
     handled.reply
+}
+
+// At most so many cells of the next plan are filled in the lent work; when every cell is filled, the answer is written from a place in the output on.
+#[no_mangle]
+pub extern "C" fn hulmeide_portion(
+    planner: &mut Planner,
+    most: usize,
+    out: &mut [u8],
+    place: usize,
+    work: &mut [u32],
+) -> Portion
+    ensures { λ r. ⌜ Portions (held (now (planner .entry))) (portionOf most (now (out .entry)) place (now (work .entry))) (portionDone (now (planner .exit)) r (now (out .exit)) (now (work .exit))) ⌝ }
+{
+    let filled = fill(*planner, most, out, place, work);
+    *planner = filled.planner;
+    filled.portion
 }
 
 // Draws the page of the planner's latest plan, from a load on: 0, or the number of the refusal, which leaves the page as it was.

@@ -73,7 +73,7 @@ module _ {M : Type 1} (𝓤 : URA M) (H : Heap 𝓤) (A : Atoms 𝓤) (W : Given
   lent-at = (vint w64 k ∷ [], (slice page ∷ [], tt))
 
   abbrev x : RefT Planner × Lent
-  x = (at-place b o γ p, lent)
+  x = (at-place T.the-type b o γ p, lent)
 
   abbrev Post : Val → SProp 𝓤
   Post = walkOf 𝓤 H A f.ended stayed (f.clauses 𝓤 H A at-mem run) .post (((κ, (κ′, tt)), (q, (q′, tt)), tt, x, (vptr b o ∷ [], lent-at)), tt)
@@ -84,10 +84,10 @@ module _ {M : Type 1} (𝓤 : URA M) (H : Heap 𝓤) (A : Atoms 𝓤) (W : Given
 
   -- the planner by value, and what came with it, go to the callee
   abbrev to-callee : Callee 𝓤 H A at-mem run .Ghost
-  to-callee = (((κ′, tt), (q′, tt), tt, (p, lent), (mach p ∷ [], lent-at)), tt)
+  to-callee = (((κ′, tt), (q′, tt), tt, (p, lent), (mach T.the-type T′.the-laws p ∷ [], lent-at)), tt)
 
-  asked : ent 𝓤 (onEntry 𝓤 H A callee.signature (κ′, tt) (q′, tt) (p, lent) (mach p ∷ [], lent-at)) (Callee 𝓤 H A at-mem run .pre to-callee)
-  asked = qed W (token ∷ ‵ (owns (T.the-row ∷ usize ∷ MutSlice (named 0) κ′ u8 ∷ []) (p, lent) (mach p ∷ [], lent-at)) ∷ []) ∵ join ! $ frame ! $ done !
+  asked : ent 𝓤 (onEntry 𝓤 H A callee.signature (κ′, tt) (q′, tt) (p, lent) (mach T.the-type T′.the-laws p ∷ [], lent-at)) (Callee 𝓤 H A at-mem run .pre to-callee)
+  asked = qed W (token ∷ ‵ (owns (T.the-row ∷ usize ∷ MutSlice (named 0) κ′ u8 ∷ []) (p, lent) (mach T.the-type T′.the-laws p ∷ [], lent-at)) ∷ []) ∵ join ! $ frame ! $ done !
 
   -- what the callee ensures: its clause, and the last page of which it speaks
   abbrev Promised : ℕ → List ℕ → Type 0
@@ -125,15 +125,15 @@ module _ {M : Type 1} (𝓤 : URA M) (H : Heap 𝓤) (A : Atoms 𝓤) (W : Given
         params1 ! $ pass1 ! (init ! 10 refl (tt, tt)) $ pass1 ! (init ! 8 refl (tt, record { fits = load-fits })) $ pass1 ! (init ! 6 refl (tt, sized page page-fits)) $ pass0 ! $
         -- [room for _6; …; _3; …; _2; …; _1; …; room for _0; …; the borrow; its token; …; what is lent; its token]
         move ! (14 ∷ 15 ∷ []) $
-        looks ! tt T.the-row (Is T.the-row) (shows 𝓤 H A T.the-row) (LL.vals T.the-type T′.the-laws) (LL.tells T.the-type T′.the-laws) (LL.copy T.the-type T′.the-copy 𝓤 H A W) p b o (λ s vs. spelled ! s p vs b o (λ wt.
+        looks ! tt T.the-row (Is T.the-row) (shows 𝓤 H A T.the-row) (LL.vals T.the-type T′.the-laws) (LL.tells T.the-type T′.the-laws) (LL.copy T.the-type T′.the-copy 𝓤 H A W) p b o (λ s vs. spelled ! T.the-type T′.the-laws s p vs b o (λ wt.
         -- [the cell; what the planner owns; the open borrow; the borrow; room for _6; …; _3; …; _1; …; room for _0; …; …; what is lent; its token]
         assigns ! (of-opd ! (load ! (from ! (hop ! (look ! 14 refl) (stop !))) (look-raw ! 0 refl))) (from ! (stop !)) (init ! 8 refl wt) $
         -- the page is lent on
         assigns ! (addr ! (from ! (fld ! refl (hop ! (look-in ! 10 (sub ! 0 refl (whole !))) (stop !))))) (from ! (stop !)) (init ! 6 refl (tt, tt)) $
         assigns ! (agg ! (and-then ! (load ! (from ! (stop !)) (look ! 6 refl)) (and-then ! (load ! (from ! (fld ! refl (stop !))) (look-in ! 10 (sub ! 1 refl (whole !)))) (no-more !)))) (from ! (stop !)) (init ! 4 refl (tt, sized page page-fits)) $
         -- what the planner owns is had twice: once for the borrow, once for the callee
-        move ! (1 ∷ []) $ use1 W (‵ (has p) ⊛ ‵ (has p)) (LL.copy T.the-type T′.the-copy 𝓤 H A W .twice p (mach p ∷ [])) $ split ! $ move ! (2 ∷ 0 ∷ 3 ∷ []) $
-        shuts ! tt T.the-row s p (mach p ∷ []) b o $
+        move ! (1 ∷ []) $ use1 W (‵ (has T.the-type T′.the-laws p) ⊛ ‵ (has T.the-type T′.the-laws p)) (LL.copy T.the-type T′.the-copy 𝓤 H A W .twice p (mach T.the-type T′.the-laws p ∷ [])) $ split ! $ move ! (2 ∷ 0 ∷ 3 ∷ []) $
+        shuts ! tt T.the-row s p (mach T.the-type T′.the-laws p ∷ []) b o $
         -- [the token; what the planner owns; the borrow; _6; …; room for _0; …; …; what is lent; its token]
         move ! (1 ∷ 18 ∷ []) $ fjoin ! $ move ! (18 ∷ 0 ∷ []) $ use2 W (raw (Callee 𝓤 H A at-mem run .pre to-callee)) asked $
         calls-at ! fm (Callee 𝓤 H A at-mem run) known to-callee (and-then ! (load ! (from ! (stop !)) (look ! 7 refl)) (and-then ! (load ! (from ! (stop !)) (look ! 11 refl)) (and-then ! (load ! (from ! (stop !)) (look ! 3 refl)) (no-more !)))) (λ v.

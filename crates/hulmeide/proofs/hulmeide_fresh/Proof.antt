@@ -33,6 +33,7 @@ use denote.Triple.Walked.{says, Stays, stay-ref, walkOf, goes-ref, ends-at, walk
 use Rattle.planner.specs.declared.Planner.{Planner}
 use Rattle.planner.specs.Planner.{fresh}
 use Rattle.planner.proofs.Planner as T
+use Rattle.planner.proofs.Planner.Laws as T′
 use Rattle.hulmeide.proofs.Steps.{typed, at-place, seen, borrow, taken, kept, opened, returned, freed, by-walk}
 use Rattle.hulmeide.proofs.made_fresh as callee
 use Rattle.hulmeide.proofs.made_fresh.Symbol as callee-def
@@ -60,7 +61,7 @@ module _ {M : Type 1} (𝓤 : URA M) (H : Heap 𝓤) (A : Atoms 𝓤) (at-mem : 
 
 module _ {M : Type 1} (𝓤 : URA M) (H : Heap 𝓤) (A : Atoms 𝓤) (W : Given 𝓤 H A) (at-mem : Memory → SProp 𝓤) (run : Routine → Fun 𝓤) (κ : Lft) (q : Share) (b o : ℕ) (γ : GName) (p : Planner) where
   abbrev x : RefT Planner × Unit {0}
-  x = (at-place b o γ p, tt)
+  x = (at-place T.the-type b o γ p, tt)
 
   abbrev at : List Val × Unit {0}
   at = (vptr b o ∷ [], tt)
@@ -74,26 +75,26 @@ module _ {M : Type 1} (𝓤 : URA M) (H : Heap 𝓤) (A : Atoms 𝓤) (W : Given
   asked : ent 𝓤 (emp 𝓤) (Callee 𝓤 H A at-mem run .pre to-callee)
   asked = qed W (‵ ftrue ∷ []) ∵ nothing ! $ join ! $ frame ! $ done !
 
-  exits : (r : Planner) → r ≡ fresh → ent 𝓤 (⋆ 𝓤 H A (‵ (seen γ r) ∷ ‵ (borrow κ b o γ) ∷ ‵ (flft κ q) ∷ [])) (Post vunit)
+  exits : (r : Planner) → r ≡ fresh → ent 𝓤 (⋆ 𝓤 H A (‵ (seen T.the-type γ r) ∷ ‵ (borrow T.the-type κ b o γ) ∷ ‵ (flft κ q) ∷ [])) (Post vunit)
   exits r e =
-      qed W (‵ (seen γ r) ∷ ‵ (borrow κ b o γ) ∷ ‵ (flft κ q) ∷ []) ∵
+      qed W (‵ (seen T.the-type γ r) ∷ ‵ (borrow T.the-type κ b o γ) ∷ ‵ (flft κ q) ∷ []) ∵
       suffices ! _ (ends-at 𝓤 H A f.ended stayed (f.clauses 𝓤 H A at-mem run) W (((κ, tt), (q, tt), tt, x, at), tt) vunit tt (r, tt) (tt, tt)) $ says ! e $
-      nothing ! $ move ! (3 ∷ 0 ∷ []) $ join ! $ frame ! $ kept ! r b o $ nothing ! $ move ! (1 ∷ 0 ∷ []) $ fjoin ! $ feqI ! (List Val) (vunit ∷ []) (vunit ∷ []) refl $
+      nothing ! $ move ! (3 ∷ 0 ∷ []) $ join ! $ frame ! $ kept ! T.the-type r b o $ nothing ! $ move ! (1 ∷ 0 ∷ []) $ fjoin ! $ feqI ! (List Val) (vunit ∷ []) (vunit ∷ []) refl $
       move ! (1 ∷ 0 ∷ []) $ done !
 
   module _ (C : Calls 𝓤 H) (Λ : Loops 𝓤 H) (fm : FmC 𝓤 H (W .laws) C) (known : Triple 𝓤 (C #callee) (Callee 𝓤 H A at-mem run)) where
     walk : ent 𝓤 (onEntry 𝓤 H A f.signature (κ, tt) (q, tt) x at) (WpFn 𝓤 H C Λ code.function (vptr b o ∷ []) Post)
     walk =
-        qed W ((‵ (flft κ q) ⊛ ‵ ftrue) ∷ ‵ (owns (MutRef (named 0) κ T.the-row ∷ []) x at) ∷ []) ∵ taken ! p b o $
+        qed W ((‵ (flft κ q) ⊛ ‵ ftrue) ∷ ‵ (owns (MutRef (named 0) κ T.the-row ∷ []) x at) ∷ []) ∵ taken ! T.the-type p b o $
         enter ! C Λ code.function (vptr b o ∷ []) _ $ alloc1 ! (λ l₀. alloc1 ! (λ l₁. alloc1 ! (λ l₂. alloc0 ! $ params1 ! $ pass1 ! (init ! 2 refl (tt, tt)) $ pass0 ! $
         -- [room for _2; …; _1; …; room for _0; …; the planner seen; the borrow; its token]
-        move ! (6 ∷ 7 ∷ 8 ∷ []) $ opened ! tt p b o (λ _.
+        move ! (6 ∷ 7 ∷ 8 ∷ []) $ opened ! tt T.the-type T′.the-laws p b o (λ _.
         use0 W (raw (Callee 𝓤 H A at-mem run .pre to-callee)) asked $ calls-at ! fm (Callee 𝓤 H A at-mem run) known to-callee (no-more !) (λ v.
         returned ! tt (‵ ftrue) (λ r. T.the-row .own r (v ∷ [])) (Ensured 𝓤 H A at-mem run) (id⊢ 𝓤 _) (λ r.
         use1 W (raw (fact 𝓤 (r ≡ fresh))) (said 𝓤 H A at-mem run r) $ heard ! (r ≡ fresh) (λ e. peeks ! T.the-row (Is T.the-row) (shows 𝓤 H A T.the-row) r (v ∷ []) (λ is.
         -- [what the planner returned owns; …; the cell; what the planner there owns; the open borrow; …; …; room for _2; …; _1; …; room for _0; …]
-        land ! (from ! (stop !)) (init ! 7 refl (typed 𝓤 H A W r v is)) $
-        assigns ! (of-opd ! (load ! (from ! (stop !)) (look ! 7 refl))) (from ! (hop ! (look ! 9 refl) (stop !))) (store-raw ! 2 refl (typed 𝓤 H A W r v is)) $
+        land ! (from ! (stop !)) (init ! 7 refl (typed T.the-type T′.the-laws 𝓤 H A W r v is)) $
+        assigns ! (of-opd ! (load ! (from ! (stop !)) (look ! 7 refl))) (from ! (hop ! (look ! 9 refl) (stop !))) (store-raw ! 2 refl (typed T.the-type T′.the-laws 𝓤 H A W r v is)) $
         assigns ! (of-opd ! (unit-lit !)) (from ! (stop !)) (init ! 11 refl (tt, tt)) $
         move ! (2 ∷ 0 ∷ 4 ∷ 5 ∷ 6 ∷ []) $ closes ! tt T.the-row r (v ∷ []) b o $
         -- [the planner seen; the borrow; its token; …; …; _2; …; _1; …; _0; …]

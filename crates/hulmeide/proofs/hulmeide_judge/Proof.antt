@@ -63,7 +63,7 @@ module _ {M : Type 1} (𝓤 : URA M) (H : Heap 𝓤) (A : Atoms 𝓤) (at-mem : 
 
 module _ {M : Type 1} (𝓤 : URA M) (H : Heap 𝓤) (A : Atoms 𝓤) (W : Given 𝓤 H A) (at-mem : Memory → SProp 𝓤) (run : Routine → Fun 𝓤) (κ κ′ : Lft) (q q′ : Share) (b o : ℕ) (γ : GName) (p : Planner) (ns : RefT (List ℕ)) where
   abbrev x : RefT Planner × (RefT (List ℕ) × Unit {0})
-  x = (at-place b o γ p, (ns, tt))
+  x = (at-place T.the-type b o γ p, (ns, tt))
 
   abbrev at : List Val × (List Val × Unit {0})
   at = (vptr b o ∷ [], (slice ns ∷ [], tt))
@@ -80,10 +80,10 @@ module _ {M : Type 1} (𝓤 : URA M) (H : Heap 𝓤) (A : Atoms 𝓤) (W : Given
 
   -- the planner by value, and the numbers, go to the callee
   abbrev to-callee : Callee 𝓤 H A at-mem run .Ghost
-  to-callee = (((κ′, tt), (q′, tt), tt, (p, (ns, tt)), (mach p ∷ [], (slice ns ∷ [], tt))), tt)
+  to-callee = (((κ′, tt), (q′, tt), tt, (p, (ns, tt)), (mach T.the-type T′.the-laws p ∷ [], (slice ns ∷ [], tt))), tt)
 
-  asked : ent 𝓤 (onEntry 𝓤 H A callee.signature (κ′, tt) (q′, tt) (p, (ns, tt)) (mach p ∷ [], (slice ns ∷ [], tt))) (Callee 𝓤 H A at-mem run .pre to-callee)
-  asked = qed W (token ∷ ‵ (owns (T.the-row ∷ ShrSlice (named 0) κ′ u32 ∷ []) (p, (ns, tt)) (mach p ∷ [], (slice ns ∷ [], tt))) ∷ []) ∵ join ! $ frame ! $ done !
+  asked : ent 𝓤 (onEntry 𝓤 H A callee.signature (κ′, tt) (q′, tt) (p, (ns, tt)) (mach T.the-type T′.the-laws p ∷ [], (slice ns ∷ [], tt))) (Callee 𝓤 H A at-mem run .pre to-callee)
+  asked = qed W (token ∷ ‵ (owns (T.the-row ∷ ShrSlice (named 0) κ′ u32 ∷ []) (p, (ns, tt)) (mach T.the-type T′.the-laws p ∷ [], (slice ns ∷ [], tt))) ∷ []) ∵ join ! $ frame ! $ done !
 
   -- what the callee ensures, its clause alone: it has no `&mut`, so what is said of last values is dropped
   abbrev Ensured : ℕ → SProp 𝓤
@@ -108,12 +108,12 @@ module _ {M : Type 1} (𝓤 : URA M) (H : Heap 𝓤) (A : Atoms 𝓤) (W : Given
         params1 ! $ pass1 ! (init ! 4 refl (tt, tt)) $ pass1 ! (init ! 2 refl (tt, sized ns fits)) $ pass0 ! $
         -- [room for _3; …; _2; …; _1; …; room for _0; …; the borrow; its token; …; what the numbers own; their token]
         move ! (8 ∷ 9 ∷ []) $
-        looks ! tt T.the-row (Is T.the-row) (shows 𝓤 H A T.the-row) (LL.vals T.the-type T′.the-laws) (LL.tells T.the-type T′.the-laws) (LL.copy T.the-type T′.the-copy 𝓤 H A W) p b o (λ s vs. spelled ! s p vs b o (λ wt.
+        looks ! tt T.the-row (Is T.the-row) (shows 𝓤 H A T.the-row) (LL.vals T.the-type T′.the-laws) (LL.tells T.the-type T′.the-laws) (LL.copy T.the-type T′.the-copy 𝓤 H A W) p b o (λ s vs. spelled ! T.the-type T′.the-laws s p vs b o (λ wt.
         -- [the cell; what the planner owns; the open borrow; the borrow; room for _3; …; _2; …; _1; …; room for _0; …; …; what the numbers own; their token]
         assigns ! (of-opd ! (load ! (from ! (hop ! (look ! 8 refl) (stop !))) (look-raw ! 0 refl))) (from ! (stop !)) (init ! 4 refl wt) $
         -- what the planner owns is had twice: once for the borrow, once for the callee
-        move ! (1 ∷ []) $ use1 W (‵ (has p) ⊛ ‵ (has p)) (LL.copy T.the-type T′.the-copy 𝓤 H A W .twice p (mach p ∷ [])) $ split ! $ move ! (2 ∷ 0 ∷ 3 ∷ []) $
-        shuts ! tt T.the-row s p (mach p ∷ []) b o $
+        move ! (1 ∷ []) $ use1 W (‵ (has T.the-type T′.the-laws p) ⊛ ‵ (has T.the-type T′.the-laws p)) (LL.copy T.the-type T′.the-copy 𝓤 H A W .twice p (mach T.the-type T′.the-laws p ∷ [])) $ split ! $ move ! (2 ∷ 0 ∷ 3 ∷ []) $
+        shuts ! tt T.the-row s p (mach T.the-type T′.the-laws p ∷ []) b o $
         -- [the token; what the planner owns; the borrow; _3; …; _2; …; _1; …; room for _0; …; …; what the numbers own; their token]
         move ! (1 ∷ 12 ∷ []) $ fjoin ! $ move ! (12 ∷ 0 ∷ []) $ use2 W (raw (Callee 𝓤 H A at-mem run .pre to-callee)) asked $
         calls-at ! fm (Callee 𝓤 H A at-mem run) known to-callee (and-then ! (load ! (from ! (stop !)) (look ! 3 refl)) (and-then ! (load ! (from ! (stop !)) (look ! 5 refl)) (no-more !))) (λ v.
