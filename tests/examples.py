@@ -9,6 +9,8 @@ answer a line as soon as it is complete, while its input stays open, and print t
 that is loaded before it: interrupted.c). A program that switches ports must have switched them as its plans and its drops say, and its display
 must have shown the latest plan, and none after a change. Its energy manager must have been told how little supply would do for the worth of each
 plan, which is the plan's power, and for half of it, as the line program answers where it is asked in between; no other answer changes by that.
+After each accepted `budget` it must have made one plan of its own, by portions, whenever it came to that, and switched and shown it as one that a line
+asks for there.
 A program that prints its own lines, as that of a safety reader does, must print the answers that the oracle has, with a plan and with refusals 10
 and 14 among them.
 The last line is 'N passed, M failed'.
@@ -16,6 +18,7 @@ The last line is 'N passed, M failed'.
 import argparse
 import os
 import random
+import re
 import select
 import subprocess
 import sys
@@ -177,29 +180,64 @@ def display_after(line, answer, shown):
     return 'worth %d, %d W, %d on' % (*figures(answer),) if is_shown(line, answer) else shown
 
 
-def logged_for(data, answers, told):
-    """What is to be logged for an input with these answers: the ports that are on after each plan and each drop, what is new on the display, and
-    what the energy manager is told after each plan."""
-    on, shown, log, told = [], 'no current plan', [], iter(told)
-    for line, answer in zip(data.split(b'\n'), answers):
-        ports, display = ports_after(line, answer, on), display_after(line, answer, shown)
+def own_plans(line_program, data, log):
+    """The own plans that are logged: after which line each came, with the answer that the line program gives to `plan` there."""
+    after = {int(number) for number in re.findall(r'^own plan after line (\d+):', '\n'.join(log), re.M)}
+    lines = data.removesuffix(b'\n').split(b'\n') if data else []
+    said = [one for number, line in enumerate(lines, 1) for one in ((None, line), (number, b'plan'))[:1 + (number in after)]]
+    found = answers_in(printed(line_program, joined(line for _, line in said)))
+    return {number: answer for (number, _), answer in zip(said, found) if number is not None}
+
+
+def number_of(answer):
+    """The number that an answer to `plan` has."""
+    return int(answer[0].removeprefix('no,')) if answer[0].startswith('no,') else 0
+
+
+class Log:
+    """What is to be logged: the ports that are on after each plan and each drop, what is new on the display, and what the energy manager is told
+    after each plan that a line asked for. A plan of the switch's own is due from an accepted budget on."""
+
+    def __init__(self, told):
+        self.on, self.shown, self.due, self.entries, self.told = [], 'no current plan', False, [], iter(told)
+
+    def switch_and_show(self, line, answer):
+        ports, display = ports_after(line, answer, self.on), display_after(line, answer, self.shown)
         if ports is not None:
-            on = ports
-            log.append(' '.join(['ports on:', *map(str, on)]))
-        if display != shown:
-            shown = display
-            log.append('display: ' + shown)
+            self.on = ports
+            self.entries.append(' '.join(['ports on:', *map(str, ports)]))
+        if display != self.shown:
+            self.shown = display
+            self.entries.append('display: ' + display)
+
+    def line(self, line, answer):
+        self.switch_and_show(line, answer)
+        self.due = self.due or line.startswith(b'budget,') and answer == ['ok']
         if is_shown(line, answer):
-            log.append(next(told, 'supply: another answer changed'))
-    return log
+            self.entries.append(next(self.told, 'supply: another answer changed'))
+
+    def own_plan(self, number, answer):
+        self.entries.append('own plan after line %d: number %d' % (number, number_of(answer)) if self.due else 'an own plan is not due')
+        self.switch_and_show(b'plan', answer)
+        self.due = False
+
+
+def logged_for(data, answers, told, own):
+    """What is to be logged for an input with these answers, and with these own plans, each after the line of its number."""
+    log = Log(told)
+    for number, (line, answer) in enumerate(zip(data.split(b'\n'), answers), 1):
+        log.line(line, answer)
+        if number in own:
+            log.own_plan(number, own[number])
+    return log.entries + ['an own plan is due'] * log.due
 
 
 def switches_ports(program, line_program, data):
     """Does a program log the ports of its plans and drops, the latest plan on its display, and how little supply would do?"""
     ended = subprocess.run([program], input=data, capture_output=True, env={**os.environ, 'SWITCH_LOG': '1'})
-    answers = answers_in(ended.stdout)
-    log = logged_for(data, answers, supplies(line_program, data, answers))
-    return ended.returncode == 0 and ended.stderr.decode().splitlines() == log
+    answers, log = answers_in(ended.stdout), ended.stderr.decode().splitlines()
+    expected = logged_for(data, answers, supplies(line_program, data, answers), own_plans(line_program, data, log))
+    return ended.returncode == 0 and log == expected
 
 
 def shows_kinds(program):

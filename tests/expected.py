@@ -3,7 +3,7 @@
 
   expected.py < crates/planner_tests/stdin > REPORT
 
-The report has every step but `call`, `judge` and `page` as it stands. A call is one line of it, and the rest of the answer's lines:
+The report has every step but `call`, `judge`, `page` and `most` as it stands. A call is one line of it, and the rest of the answer's lines:
 
     LINE | NUMBER COUNT | B bytes kept, Z cells 0, C kept | ANSWER
 
@@ -12,12 +12,19 @@ of the output, every other byte holds what it held, and likewise of the cells bu
 one line too, and, where it was drawn, the rows of the glass with the stretch on it:
 
     page LOAD BYTES | NUMBER | B bytes kept | row ROW, COUNT bytes
+
+A portion is one line as a call is, with the counts of cells filled and of bytes written, and the cells that it filled. Of its work, which the next
+portion goes on with, Z and C count the cells that hold 0 and rubbish:
+
+    most N | NUMBER FILLED COUNT | CELL CELL .. | B bytes kept, Z cells 0, C kept | ANSWER
 """
 import sys
+from array import array
 
 from limits import PAGE_BYTES, PAGE_ROWS
 from pages import cut
-from script import Script
+from portions import CELL_BYTES, holds
+from script import RUBBISH_CELL, Script
 
 # The whole output, work and bytes to draw on, of which a part is lent.
 ALL_BYTES = 4200
@@ -51,6 +58,18 @@ class Report(Script):
         self.text.append('page %d %d | %d | %d bytes kept | row %d, %d bytes\n' % (asked.load, len(asked.page), number, kept, row, count))
         if number == 0:
             self.text += [cut(glass, row).decode() + '\n' for row in range(PAGE_ROWS)]
+
+
+    def portioned(self, p, asked):
+        if asked.tables and not holds(asked):
+            sys.exit('a portion whose cells would be left free: most %d' % asked.most)
+        done = super().portioned(p, asked)
+        cells = array('I', (done.work + self.work[len(done.work):]).ljust(CELL_BYTES * ALL_CELLS, RUBBISH_CELL[:1]))
+        filled = ''.join(' %d' % cell for cell in cells[p.filled:p.filled + done.filled])
+        answer = done.output[asked.place:asked.place + done.count].decode()
+        kept = ALL_BYTES - len(answer), cells.count(0), cells.count(int.from_bytes(RUBBISH_CELL, 'little'))
+        self.text.append('most %d | %d %d %d |%s | %d bytes kept, %d cells 0, %d kept | ' % (asked.most, *done[:3], filled, *kept) + (answer or '\n'))
+        return done
 
 
 def main():

@@ -3,8 +3,9 @@
  * paper 01's session, and the memory after the planner must be as it was; what the header's helpers answer; the outcome of the session's plan,
  * as it is stored, shown by `last`, wiped, and out of range; the pages of that plan, and the stretches of every set of rows that differ; the
  * session's saves, with the free bytes that the header names; kinds, in range and out of it; the least budgets for worths, with the cells and
- * the free bytes that the header names; the places of the loads when one leaves and another comes; sets of loads in their two words; and a
- * cabinet of the most loads, with its plan in both words, and the longest lines. It is C99, C11 and C++11.
+ * the free bytes that the header names; the session's plan by portions, with its cells, its refusals and the count that the planner keeps; the
+ * places of the loads when one leaves and another comes; sets of loads in their two words; and a cabinet of the most loads, with its plan in both
+ * words, and the longest lines. It is C99, C11 and C++11.
  * The last line printed is 'N passed, M failed'.
  */
 #include "hulmeide.h"
@@ -364,7 +365,7 @@ static int same_planner(const struct hulmeide_planner *one, const struct hulmeid
            && memcmp(&book->load_rules, &other->book.load_rules, sizeof book->load_rules) == 0
            && memcmp(&book->row_rules, &other->book.row_rules, sizeof book->row_rules) == 0
            && memcmp(&one->loads, &other->loads, sizeof one->loads) == 0 && one->budget == other->budget
-           && one->outcome.status == other->outcome.status
+           && one->outcome.status == other->outcome.status && one->filled == other->filled
            && memcmp(&one->outcome.run, &other->outcome.run, sizeof one->outcome.run) == 0;
 }
 
@@ -412,6 +413,83 @@ static void expect_needs(void)
     expect_line("budget,30", HULMEIDE_ACCEPTED, 3);
     expect_need("need,70", room, SESSION_CELLS, HULMEIDE_ACCEPTED, "need,30\n", SESSION_CELLS);
     expect_no_run("nothing stored by a need", HULMEIDE_OUTCOME_NOTHING);
+}
+
+/* A portion, with so many free bytes from a place on and so many cells: its number, the count of cells filled, its text, and the count that the
+ * planner keeps then. Every other byte, and every other field of the planner, must be as it was. */
+static void expect_portion(const char *what, size_t most, size_t free_bytes, size_t cells, size_t number, size_t filled, const char *text,
+                           size_t left)
+{
+    const size_t place = 7;
+    struct hulmeide_planner before = kept.planner;
+    memset(out, GUARD_BYTE, sizeof out);
+    struct hulmeide_portion_reply reply = hulmeide_portion(&kept.planner, most, out, place + free_bytes, place, work, cells);
+    expect(what, reply.number, number);
+    expect(what, reply.filled, filled);
+    expect(what, reply.count, strlen(text));
+    expect("the answer is another text", memcmp(out + place, text, strlen(text)) != 0, 0);
+    expect("bytes kept around it", bytes_kept(out, sizeof out), sizeof out - strlen(text));
+    expect(what, kept.planner.filled, left);
+    before.filled = kept.planner.filled;
+    expect("a planner that differs", !same_planner(&kept.planner, &before), 0);
+}
+
+/* A count that is out of range turns every call away. One that is all the cells is in range. */
+static void expect_count_tested(void)
+{
+    const uint32_t run[] = {1, 2, 0, 1, 2, 1, 1, 2, 1, 1, 1, 1};
+    struct hulmeide_planner *planner = &kept.planner;
+    uint32_t before = planner->filled;
+    planner->filled = SESSION_CELLS + 1;
+    expect_line("save", HULMEIDE_TURNED_AWAY, 0);
+    expect_line("budget,30", HULMEIDE_TURNED_AWAY, 0);
+    expect("judge", hulmeide_judge(planner, run, sizeof run / sizeof *run), HULMEIDE_TURNED_AWAY);
+    expect_drawing("one cell too many", 1, HULMEIDE_PAGE_BYTES, HULMEIDE_TURNED_AWAY, NULL);
+    expect_portion("one cell too many", 1, HULMEIDE_RUN_BYTES, FULL_CELLS, HULMEIDE_TURNED_AWAY, 0, "", SESSION_CELLS + 1);
+    planner->filled = SESSION_CELLS;
+    expect_line("last", HULMEIDE_NO_PLAN, 6);
+    expect("judge", hulmeide_judge(planner, run, sizeof run / sizeof *run), HULMEIDE_ACCEPTED);
+    expect_drawing("every cell", 1, HULMEIDE_PAGE_BYTES, HULMEIDE_NO_PLAN, NULL);
+    planner->filled = before;
+}
+
+/* The session's plan by portions, in a work full of rubbish. Load 4, of 7 W and worth 50, has the first cells; load 1's end with its row from
+ * stage 2, in which it is off. Then the answer, which `last` does not show, and the next filling, which a change starts over. */
+static void expect_portions(void)
+{
+    const size_t room = HULMEIDE_RUN_BYTES;
+    const uint32_t rubbish = 0x01010101u * GUARD_BYTE;
+    struct hulmeide_planner fresh;
+    hulmeide_fresh(&fresh);
+    expect("no cell of a fresh planner", fresh.filled, 0);
+    expect("no loads", hulmeide_portion(&fresh, 0, out, room, 0, work, 0).number, HULMEIDE_NO_LOADS);
+    expect("the most cells of a portion", HULMEIDE_MAX_PORTION, 16384);
+    memset(work, GUARD_BYTE, sizeof work);
+    expect_portion("a portion of 1", 1, room, SESSION_CELLS, HULMEIDE_ACCEPTED, 1, "", 1);
+    expect_portion("a portion of 99", 99, room, SESSION_CELLS, HULMEIDE_ACCEPTED, 99, "", 100);
+    expect("load 4 with 6 W", work[6], 512);
+    expect("load 4 with 7 W", work[7], 50 * 512 + 512 - 7);
+    expect("cells kept", cells_with(rubbish), FULL_CELLS - 100);
+    expect_portion("a portion of 0", 0, room, SESSION_CELLS, HULMEIDE_OUT_OF_RANGE, 0, "", 100);
+    expect_portion("too great a portion", HULMEIDE_MAX_PORTION + 1, room, 0, HULMEIDE_OUT_OF_RANGE, 0, "", 100);
+    expect_portion("one cell less", 1, room, SESSION_CELLS - 1, HULMEIDE_FEW_CELLS, 0, "", 100);
+    expect_portion("one byte less", 0, room - 1, SESSION_CELLS, HULMEIDE_TURNED_AWAY, 0, "", 100);
+    expect_line("budget,501", HULMEIDE_OUT_OF_RANGE, 5);
+    expect_line("last", HULMEIDE_NO_PLAN, 6);
+    expect_count_tested();
+    expect("cells kept by what was refused", cells_with(rubbish), FULL_CELLS - 100);
+    expect_portion("the rest", HULMEIDE_MAX_PORTION, room, FULL_CELLS, HULMEIDE_ACCEPTED, SESSION_CELLS - 100, "", SESSION_CELLS);
+    expect("load 1 off", work[SESSION_CELLS - 1], 512);
+    expect("cells kept beyond the plan's", cells_with(rubbish), FULL_CELLS - SESSION_CELLS);
+    expect_portion("0 for the answer", 0, room, FULL_CELLS, HULMEIDE_OUT_OF_RANGE, 0, "", SESSION_CELLS);
+    expect_portion("one cell less for the answer", 1, room, SESSION_CELLS - 1, HULMEIDE_FEW_CELLS, 0, "", SESSION_CELLS);
+    expect_portion("the answer", 1, room, FULL_CELLS, HULMEIDE_ACCEPTED, 0, "plan,70,30,3\n1,1,1,2,0\n2,1,1,2,1\n3,1,1,2,1\n4,0,1,1,1\n", 0);
+    expect("cells that are 0", cells_with(0), SESSION_CELLS);
+    expect("cells kept by the answer", cells_with(rubbish), FULL_CELLS - SESSION_CELLS);
+    expect_line("last", HULMEIDE_NO_PLAN, 6);
+    expect_portion("the next filling", 5, room, FULL_CELLS, HULMEIDE_ACCEPTED, 5, "", 5);
+    expect_line("budget,30", HULMEIDE_ACCEPTED, 3);
+    expect("no cell after a change", kept.planner.filled, 0);
 }
 
 /* Load 3 leaves: load 4 has its place and number then, the last place is free, and the next load takes it. */
@@ -557,6 +635,7 @@ int main(void)
     expect_pages();
     expect_stretches();
     expect_needs();
+    expect_portions();
     expect_helpers();
     expect_saves();
     expect_kinds();

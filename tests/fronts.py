@@ -1,5 +1,5 @@
-"""The oracle for large trees: what `plan`, `check` and `need` answer there, where plain enumeration (oracle.py) would never end. It shares no code
-with the product. largecheck.py holds it to plain enumeration on small trees.
+"""The oracle for large trees: what `plan`, `check` and `need` answer there, and what portions fill, where plain enumeration (oracle.py) would never
+end. It shares no code with the product. largecheck.py and portioncheck.py hold it to plain enumeration on small trees.
 
 A run of a branch or of a row counts only if every other one that draws no more is worth less. The powers and the worths of those that count are a
 front: pairs of a power and a worth, both ascending.
@@ -22,6 +22,14 @@ def best(runs, allowance):
     """The worth, and the power with a minus sign, of the best run of a front within an allowance, or None."""
     fitting = [(worth, -power) for power, worth in runs if power <= allowance]
     return fitting[-1] if fitting else None
+
+
+def cells_of(runs, budget):
+    """The cells of a front, for each allowance up to the budget."""
+    values = [0] * (budget + 1)
+    for (power, worth), (following, _) in zip(runs, [*runs[1:], (budget + 1, 0)]):
+        values[power:following] = [worth * 512 + 512 - power] * (following - power)
+    return values
 
 
 def families(loads):
@@ -81,6 +89,12 @@ class Tree:
         """Those of the runs of the row from load k on whose first row rule is n."""
         _, state, following = self.tables.rows[n - 1]
         return self.sums(self.branches[k, state], self.row(self.after.get(k), following))
+
+    def parts(self):
+        """The fronts in the order of the cells: loads from last to first, states then stages."""
+        states, stages = range(1, self.tables.states + 1), range(1, self.tables.stages + 1)
+        for k in range(len(self.tables.loads), 0, -1):
+            yield from [self.branches[k, state] for state in states] + [self.rows[k, stage] for stage in stages]
 
     def whole(self):
         """The front of the whole tree."""
@@ -182,6 +196,9 @@ class Fronts(Oracle):
 
     def plan(self):
         return self.tree(self).chosen()
+
+    def cell_values(self):
+        return [value for runs in self.tree(self).parts() for value in cells_of(runs, self.budget)]
 
     def check(self, bits):
         return Marked(self, bits).chosen()

@@ -6,8 +6,8 @@
 Each case is a book and a tree, built line by line, half of them with several kinds, and proposed runs of every sort: runs, what would be runs
 but for one rule of the paper, that of kinds among them, runs with one number changed, numbers that name nothing, numbers of another width, and
 too few or too many of them. Numbers are a run exactly if the enumeration has them, whatever outcome the planner stores: none, that of its plan,
-or any other in range. One with an outcome out of range is refusal 1. Then the same numbers are given to oracles that are wrong on purpose, and
-each must be told apart from the judge.
+or any other in range; and however many cells are filled. One with an outcome out of range, or with more filled than it has cells, is refusal 1.
+Then the same numbers are given to oracles that are wrong on purpose, and each must be told apart from the judge.
 The last line is 'N passed, M failed'.
 """
 import argparse
@@ -18,8 +18,8 @@ from crosscheck import MIXED, any_book, any_kinds, few_runs, tree_lines
 from library import Library, Planner, content_with, held
 from limits import MAX_RULES, MAX_STATES, NOT_A_RUN, NOTHING
 from oracle import Oracle
-from outcomes import with_any_outcome
-from script import keeps_limits
+from outcomes import with_any_count, with_any_outcome
+from script import OutcomeLimits, TableLimits, keeps_limits
 from wrong_oracles import HigherServed, KindsIgnored, LeafAlwaysEnds, NoneServedByAll, NoneServesAll, RootOfAnyKind, StageRestarts
 
 
@@ -80,8 +80,23 @@ class OutcomeTurnedAway(Judge):
         return super().keeps(p) and p.status == NOTHING
 
 
+class CountNotTested(Judge):
+    """A planner with more filled than it has cells is not turned away."""
+
+    def keeps(self, p):
+        return TableLimits().keep(p) and OutcomeLimits().keep(p)
+
+
+class CountTurnedAway(Judge):
+    """A planner of which cells are filled is turned away."""
+
+    def keeps(self, p):
+        return super().keeps(p) and p.filled == 0
+
+
 WRONG = [
     AnyRoot, LeafEnds, RowRestarts, BlindToKinds, NoneForAll, AllForNone, LowerForHigher, AnyKindOfRoot, OutcomeNotTested, OutcomeTurnedAway,
+    CountNotTested, CountTurnedAway,
 ]
 PROPOSED = 12  # runs judged in each case
 
@@ -153,11 +168,13 @@ def left(planner, lines):
 
 
 def judged_runs(rng, planner, lines):
-    """Proposed runs of a cabinet, each with the planner handed in and the judge's answer. It has no outcome, that of its plan, or any."""
+    """Proposed runs of a cabinet, each with the planner handed in and the judge's answer. It has no outcome, that of its plan, or any, or any count
+    of filled cells."""
     bare, planned = left(planner, lines), left(planner, [b'plan'])
     oracles = [after(judge(), lines) for judge in [Judge] + WRONG]
     near = sorted(set().union(*(runs_of(oracle) for oracle in oracles)))
-    asked = [(rng.choice((bare, planned, with_any_outcome(rng, bare))), proposal(rng, oracles[0], near)) for _ in range(PROPOSED)]
+    planners = [lambda: bare, lambda: planned, lambda: with_any_outcome(rng, bare), lambda: with_any_count(rng, planned)]
+    asked = [(rng.choice(planners)(), proposal(rng, oracles[0], near)) for _ in range(PROPOSED)]
     return [(p, numbers, Planner(planner.library, content_with(p)).judge(numbers)) for p, numbers in asked]
 
 

@@ -6,7 +6,7 @@ touch.
 import ctypes
 
 import script
-from limits import CELLS, PLANNER_BYTES, SAVE_BYTES, VERSION, WORD_LOADS, Part, Reply, StoredPlanner
+from limits import CELLS, PLANNER_BYTES, SAVE_BYTES, VERSION, WORD_LOADS, Part, PortionReply, Reply, StoredPlanner
 
 GUARD = bytes(range(160, 224))
 
@@ -23,6 +23,8 @@ class Library:
         self.fresh.argtypes, self.fresh.restype = [pointer], None
         self.call = shared.hulmeide_call
         self.call.argtypes, self.call.restype = [pointer, pointer, size, pointer, size, size, pointer, size], Reply
+        self.portion = shared.hulmeide_portion
+        self.portion.argtypes, self.portion.restype = [pointer, size, pointer, size, size, pointer, size], PortionReply
         self.judge = shared.hulmeide_judge
         self.judge.argtypes, self.judge.restype = [pointer, pointer, size], ctypes.c_uint32
         self.draw = shared.hulmeide_draw
@@ -77,6 +79,12 @@ class Planner:
         reply = self.library.call(self.state.memory, line, len(line), out.memory, len(output), place, cells.memory, len(work) // 4)
         return reply.number, reply.count, out.content(), cells.content()
 
+    def portion(self, most, output, place, work):
+        """The number, the counts of cells filled and of bytes written, and output and work after a portion of at most so many cells."""
+        out, cells = Lent(output), Lent(work)
+        reply = self.library.portion(self.state.memory, most, out.memory, len(output), place, cells.memory, len(work) // 4)
+        return reply.number, reply.filled, reply.count, out.content(), cells.content()
+
     def answer(self, line):
         """The lines printed for a line, with what the line program lends."""
         _, count, output, _ = self.call(line, bytes(SAVE_BYTES), 0, bytes(4 * CELLS))
@@ -111,6 +119,7 @@ def content_with(p):
     planner.outcome.status = p.status
     run.set.low, run.set.high = p.set % 2**WORD_LOADS, p.set >> WORD_LOADS
     run.states[:], run.load_rules[:], run.row_rules[:] = zip(*p.run)
+    planner.filled = p.filled
     return bytes(planner)
 
 
@@ -125,6 +134,7 @@ def held(content):
     p.budget = planner.budget
     p.status, p.set = planner.outcome.status, run.set.low + (run.set.high << WORD_LOADS)
     p.run = list(zip(run.states, run.load_rules, run.row_rules))
+    p.filled = planner.filled
     return p
 
 

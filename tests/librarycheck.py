@@ -7,8 +7,8 @@ Each line of a random session is handed to the library with an output full of ru
 full of rubbish, of any length. In half of the sessions no change is turned away by that, so that the cabinet is built as it was meant. Compared
 are the number, the count, every byte of the output, every cell of the work and every field of the planner. The lines of the save that each
 session ends with, each with the free bytes that it needs, must make the planner that an earlier session left hold the same tables and no outcome.
-Then the planner is handed in with any outcome in the place of its own, and now and then with any kind, in range or not. Callers that are wrong on
-purpose are given the same lines, with the same output and work, and each must be told apart.
+Then the planner is handed in with any outcome in the place of its own, and now and then with any kind or any count of filled cells, in range or
+not. Callers that are wrong on purpose are given the same lines, with the same output and work, and each must be told apart.
 The sessions of edges.py, with what the line program lends, must have the answers that stand there, and planners that are wrong on purpose must
 be told apart in one of them. The free bytes that lines need are given to the last byte, by name, on a cabinet of the most loads and on a fresh
 planner. The last line is 'N passed, M failed'.
@@ -27,7 +27,7 @@ from library import Lent, Library, Planner, content_with, held
 from limits import FREE_BYTES, LINE_BYTES, MAX_BUDGET, MAX_LOADS, MAX_NEED, NO_SET, NOTHING, PLANNED, PLANNER_BYTES, RUN_BYTES, SAVE_BYTES
 from limits import WORD_LOADS
 from oracle import Oracle, bytes_needed, parse
-from outcomes import with_any_kind, with_any_outcome
+from outcomes import with_any_count, with_any_kind, with_any_outcome
 from script import is_plan, number_of, searches, stored, zero_cells
 from wrong_oracles import CellsOfLeast, FewCellsWipe, budget_in
 
@@ -402,7 +402,7 @@ def rebuilds(planner, other):
     return set(replies) == {(0, len('ok\n'))} and held(other.state.content()).same(held(planner.state.content()).without_outcome())
 
 
-# ---- planners handed in with any outcome and with any kind
+# ---- planners handed in with any outcome, with any kind and with any count of filled cells
 
 
 def handed_in_fault(rng, library, p, lines):
@@ -419,13 +419,15 @@ def handed_in_fault(rng, library, p, lines):
 
 
 def outcome_faults(rng, library, p, lines, count, seen):
-    """What is wrong with a planner handed in with so many outcomes by chance, and now and then with a kind by chance. What `last` answers is
-    counted, 1 where either is out of range."""
+    """What is wrong with a planner handed in with so many outcomes by chance, and now and then with a kind or a count by chance. What `last` answers
+    is counted, 1 where one of them is out of range."""
     faults = []
     for _ in range(count):
         q = with_any_outcome(rng, p)
         if rng.random() < 0.4:
             q = with_any_kind(rng, q)
+        if rng.random() < 0.3:
+            q = with_any_count(rng, q)
         seen[script.reply(q, script.ROOM, b'last').number] += 1
         faults.append(handed_in_fault(rng, library, q, lines))
     return faults
@@ -599,7 +601,7 @@ def main():
         print('DIFFERS: ' + fault)
     failed = sum(fault is not None for fault in checked.faults)
     print('%d calls in %d sessions, and %d sessions by name' % (sum(map(len, cases)), len(cases), len(EDGES)))
-    print('%d outcomes and kinds handed in; last: %s' % (
+    print('%d outcomes, kinds and counts handed in; last: %s' % (
         sum(checked.seen.values()), ', '.join('%d times %d' % (checked.seen[number], number) for number in sorted(checked.seen))))
     print('%d passed, %d failed' % (len(checked.faults) - failed, failed))
     return 1 if failed else 0

@@ -44,6 +44,7 @@ MAX_POWER = SIZES['MAX_POWER']
 MAX_WORTH = SIZES['MAX_WORTH']
 MAX_BUDGET = SIZES['MAX_BUDGET']
 MAX_KIND = SIZES['MAX_KIND']
+MAX_PORTION = SIZES['MAX_PORTION']
 WORD_LOADS = SIZES['WORD_LOADS']
 MAX_NEED = MAX_LOADS * MAX_WORTH
 PAGE_ROWS = SIZES['PAGE_ROWS']
@@ -77,6 +78,7 @@ for found, body in re.findall(r'^struct hulmeide_(\w+) \{\n(.*?)^\};$', HEADER, 
 
 StoredPlanner = STRUCTS['planner']  # the planner as C has it
 Reply = STRUCTS['reply']
+PortionReply = STRUCTS['portion_reply']
 Part = STRUCTS['part']
 PLANNER_BYTES = ctypes.sizeof(StoredPlanner)
 

@@ -1,5 +1,5 @@
-"""Paper 01 and requests One to Five and Eight to Ten of paper 02 by plain enumeration: every run of every set, straight from the text. It shares no
-code with the product, and with the header of the product only the limits.
+"""Paper 01 and requests One to Five and Eight to Eleven of paper 02 by plain enumeration: every run of every set, straight from the text. It shares
+no code with the product, and with the header of the product only the limits.
 
 It is slow on purpose. Trees of up to five or six loads and small books are what it is for. For large trees there is fronts.py.
 """
@@ -49,7 +49,8 @@ def bytes_needed(line):
 
 
 class Oracle:
-    """The tables of a planner and the outcome that it stores, and what each line answers."""
+    """The tables of a planner, the outcome that it stores and how many cells portions have filled, and what each line answers. portions.py has what a
+    portion does."""
     most_bytes = LINE_BYTES  # of a line
     most_loads = MAX_LOADS
     most_kind = MAX_KIND
@@ -58,6 +59,7 @@ class Oracle:
     def __init__(self):
         self.clear()
         self.wipe()
+        self.start_over()
 
     def clear(self):
         self.loads = []  # (parent, power, worth, kind), load k at place k - 1
@@ -77,6 +79,10 @@ class Oracle:
 
     def wipe(self):
         self.outcome = NOTHING
+
+    def start_over(self):
+        """"Only an accepted change and the answer .. start the filling over." """
+        self.filled = 0
 
     def shown(self):
         """What is stored, as `plan` prints it. The figures are those of its set."""
@@ -233,6 +239,31 @@ class Oracle:
         if bests[-1] is None:
             return ['no,9']
         return ['need,%d' % self.least(bests, worth)] if self.does(bests[-1], worth) else ['no,15']
+
+    # ---- "There is a cell for each load, state and allowance, and one for each load, stage and allowance"
+
+    def row_from(self, k):
+        """"the row from that load onward (load 1 is a row of itself)": it and its later siblings."""
+        return [j for j in range(k, len(self.loads) + 1) if self.loads[j - 1][0] == self.loads[k - 1][0]]
+
+    def parts_of(self, k):
+        """Every run of load k's branch from each state, and then of the row from it onward at each stage."""
+        branches = [self.branch_runs(k, state) for state in range(1, self.states + 1)]
+        return branches + [self.row_runs(self.row_from(k), stage) for stage in range(1, self.stages + 1)]
+
+    def cell(self, runs, allowance):
+        """"the best of their branch or row, as worth × 512 + 512 − power, or 0 for none"."""
+        best = self.best(runs, allowance)
+        return 0 if best is None else best[0] * 512 + 512 + best[1]
+
+    def cell_values(self):
+        """What every cell is to hold: "loads from last to first, states then stages, allowances upward"."""
+        values = []
+        for k in range(len(self.loads), 0, -1):
+            for runs in self.parts_of(k):
+                figures = {(worth, power, None) for worth, power, _ in runs}
+                values += [self.cell(figures, allowance) for allowance in range(self.budget + 1)]
+        return values
 
     # ---- the run of a checked set: the lowest from the top down that can be completed
 
@@ -400,4 +431,5 @@ class Oracle:
             return self.save1()
         self.act(word, f)
         self.wipe()
+        self.start_over()
         return ['ok']

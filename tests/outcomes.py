@@ -1,4 +1,4 @@
-"""Outcomes and kinds by chance, in range and out of it, for planners that are handed in."""
+"""Outcomes, kinds and counts of filled cells by chance, in range and out of it, for planners that are handed in."""
 import copy
 
 from limits import MAX_KIND, MAX_LOADS, MAX_RULES, NO_SET, NOTHING, PLANNED, WORD_LOADS
@@ -55,4 +55,12 @@ def with_any_outcome(rng, p):
         q.set = rng.choice((0, 2**p.load_count - 1, rng.randrange(2**p.load_count)))
     if rng.random() < 0.5:
         damage(rng, q)
+    return q
+
+
+def with_any_count(rng, p):
+    """The planner with a count of filled cells by chance, in range or not."""
+    q, cells = copy.copy(p), p.load_count * (p.states + p.stages) * (p.budget + 1)
+    near = 0, 1, cells - 1, cells, cells, cells + 1, cells + 2, 2**16, 2**16 + cells, 2**31, 2**32 - 1
+    q.filled = rng.choice((rng.randint(0, cells), max(0, rng.choice(near))))
     return q

@@ -4,11 +4,12 @@
   pagecheck.py LIBRARY.so [--cases N] [--seed S]
 
 Half of the pages are drawn in random sessions, of whose plans the enumeration says what they are (oracle.py), after each line. The others are of
-planners handed in: cabinets of any size with any outcome, in range or not, and such as break a limit of their tables. Each is drawn from loads
-around every end, on pages of every length around theirs, with rubbish on them. Compared are the number and every byte of the page; the planner
-and the bytes around the page must stay as they are. What is drawn goes to a glass: compared are the place, the count and the row of each stretch,
-and the glass with the stretch on it. So are stretches of every set of differing rows, of each single bit, and of other lengths. The pages of
-page_edges.py stand there by hand, and must be those of the library and of the model; those that docs/ELECTRICIAN.md shows must be among them.
+planners handed in: cabinets of any size with any outcome, in range or not, some with any count of filled cells, and such as break a limit of
+their tables. Each is drawn from loads around every end, on pages of every length around theirs, with rubbish on them. Compared are the number and
+every byte of the page; the planner and the bytes around the page must stay as they are. What is drawn goes to a glass: compared are the place, the
+count and the row of each stretch, and the glass with the stretch on it. So are stretches of every set of differing rows, of each single bit, and
+of other lengths. The pages of page_edges.py stand there by hand, and must be those of the library and of the model; those that docs/ELECTRICIAN.md
+shows must be among them.
 Then the same is asked of models that are wrong on purpose (wrong_pages.py), and each must be told apart.
 The last line is 'N passed, M failed'.
 """
@@ -26,7 +27,7 @@ from edges import ALL_ON
 from library import Library, Planner, content_with
 from limits import MAX_BUDGET, MAX_LOADS, MAX_POWER, MAX_WORTH, NO_SET, NOTHING, PAGE_BYTES, PAGE_ROWS, PLANNED, ROW_BYTES, WORD_LOADS
 from oracle import Oracle
-from outcomes import with_any_outcome
+from outcomes import with_any_count, with_any_outcome
 from page_edges import EDGES
 from pages import Asked, Pages, put
 from script import DARK, Followed, changed, keeps_limits, padded, stored
@@ -72,10 +73,11 @@ def with_lines(lines):
 
 
 def cabinet(rng):
-    """A cabinet of any size, with any outcome, in range or not; now and then it breaks a limit of its tables."""
+    """A cabinet of any size, with any outcome, in range or not; now and then with any count, and now and then it breaks a limit of its tables."""
     count = rng.choice((*COUNTS, rng.randint(0, MAX_LOADS)))
     loads = [load_line(rng, number, WIDE, EVERY_KIND) for number in range(count)]
     p = with_any_outcome(rng, with_lines([*any_book(rng, WIDE, EVERY_KIND), *loads, budget_line(rng, WIDE)]))
+    p = with_any_count(rng, p) if rng.random() < 0.2 else p
     return changed(p, [rng.choice(BROKEN)]) if rng.random() < 0.1 else p
 
 

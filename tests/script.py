@@ -10,7 +10,8 @@ Each line of a script is one step, a word and what follows it:
     call LINE LINE ..                 calls, each reported; each is on the planner that the one before left
     judge N N ..                      a run for the judge, three numbers for each load
     page LOAD BYTES                   the page from a load on, drawn on so many bytes, and put on the glass, which `fresh` makes dark
-    with CHANGE and CHANGE ..         calls, runs and pages for the planner with changes from outside, which are then forgotten
+    most N N ..                       portions of at most so many cells, each reported, in a work that no line gets and `fresh` fills with rubbish
+    with CHANGE and CHANGE ..         calls, runs, pages and portions for the planner with changes from outside, which are then forgotten
 
 LINEs are parted by one blank each, so two blanks stand around an empty one. crates/planner_tests/stdin is a script, of every step but `with`.
 tests/largest is another, for which planner_tests has no room, and tests/damaged a third, where `%` and two digits of base 16 stand for a byte of a
@@ -22,6 +23,7 @@ LINE. A CHANGE is one of these, with places counted from 0:
     load at place I: PARENT POWER WORTH              rubbish (255 in every byte)
     status STATUS (of the outcome)                   set LOW HIGH (the words that hold the outcome's loads, HIGH being 0 without it)
     run at place I: STATE LOAD-RULE ROW-RULE (of the outcome)
+    filled CELLS (that portions have filled)
 
 A rule, of either sort, and a load may have a kind as last number, which is 0 without it.
 """
@@ -30,10 +32,12 @@ import re
 import sys
 
 from fronts import Fronts, is_run
-from limits import LINE_BYTES, MAX_BUDGET, MAX_KIND, MAX_LOADS, MAX_NEED, MAX_POWER, MAX_RULES, MAX_STAGES, MAX_STATES, MAX_WORTH
+from limits import LINE_BYTES, MAX_BUDGET, MAX_KIND, MAX_LOADS, MAX_NEED, MAX_PORTION, MAX_POWER, MAX_RULES, MAX_STAGES, MAX_STATES, MAX_WORTH
 from limits import NO_SET, NOTHING, PAGE_BYTES, PLANNED, WORD_LOADS
 from oracle import Oracle, bytes_needed, parse
 from pages import Asked, Pages, put
+from portions import CELL_BYTES, Portions
+from portions import Asked as Portion
 
 NONE = (0, 0, 0)  # what an unused place of a run holds
 UNUSED = (0, 0, 0, 0)  # and one of the rules or of the loads
@@ -43,7 +47,9 @@ HANDED_IN = (
     b'need,', b'x' * (LINE_BYTES + 1),
 )
 HANDED_IN_PAGES = (1, PAGE_BYTES), (4, PAGE_BYTES), (5, PAGE_BYTES), (MAX_LOADS, PAGE_BYTES), (1, PAGE_BYTES - 1), (0, PAGE_BYTES + 1)
+HANDED_IN_PORTIONS = 1, 17, MAX_PORTION, MAX_PORTION + 1, 0
 RUBBISH_BYTE = b'\xaa'  # what an output, a page and a glass hold before: no byte of an answer and of a page is this one
+RUBBISH_CELL = CELL_BYTES * RUBBISH_BYTE  # and a work: no plan and no portion leaves such a cell
 DARK = RUBBISH_BYTE * PAGE_BYTES
 ENUMERATED = 9  # trees of more loads are not enumerated
 
@@ -66,6 +72,7 @@ class Planner:
         self.status = NOTHING  # of the outcome
         self.run = [NONE] * MAX_LOADS  # its (state, load rule, row rule)
         self.set = 0  # its loads: bit 0 is for load 1
+        self.filled = 0  # the cells that portions have filled
 
     def same(self, other):
         return vars(self) == vars(other)
@@ -77,7 +84,7 @@ class Planner:
         return other
 
 
-# ---- The limits of "Loads and book", and "a stored figure out of range for the tables"
+# ---- The limits of "Loads and book", "a stored figure out of range for the tables", and "more filled than it has cells"
 
 
 def marks_on(marks):
@@ -172,8 +179,20 @@ class OutcomeLimits:
         return p.status in self.statuses and in_range and self.unused(p.run[used:]) and p.set in self.sets(p)
 
 
-def keeps_limits(p, tables=TableLimits(), outcome=OutcomeLimits()):
-    return tables.keep(p) and outcome.keep(p)
+class FilledLimits:
+    """What the count of filled cells ranges over, given tables that keep their limits. wrong_limits.py gets it wrong on purpose."""
+    of = 'filled'
+
+    def cells(self, p):
+        return p.load_count * (p.states + p.stages) * (p.budget + 1)
+
+    def keep(self, p):
+        """"A planner with more filled than it has cells is refusal 1." """
+        return p.filled <= self.cells(p)
+
+
+def keeps_limits(p, tables=TableLimits(), outcome=OutcomeLimits(), filled=FilledLimits()):
+    return tables.keep(p) and outcome.keep(p) and filled.keep(p)
 
 
 # ---- A planner that keeps the limits, and the tables of the oracle
@@ -189,6 +208,7 @@ def tables_of(p):
     tables.budget = p.budget
     run = {k + 1: (p.set >> k & 1, *entry) for k, entry in enumerate(p.run[: p.load_count])}
     tables.outcome = run if p.status == PLANNED else p.status
+    tables.filled = p.filled
     return tables
 
 
@@ -211,6 +231,7 @@ def stored(tables):
         p.status, run = PLANNED, tables.outcome
         p.run = padded([run[k][1:] for k in sorted(run)], MAX_LOADS)
         p.set = sum(run[k][0] << (k - 1) for k in run)
+    p.filled = tables.filled
     return p
 
 
@@ -221,6 +242,7 @@ class Followed(Oracle):
         if answer == ['ok']:
             self.act(*parse(line))
             self.wipe()
+            self.start_over()
         elif is_plan(line) and answer == ['no,9']:
             self.store(None)
         elif is_plan(line) and answer[0].startswith('plan,'):
@@ -323,6 +345,7 @@ def fill(p):
     p.load_rule_count = p.row_rule_count = p.load_count = 2**64 - 1
     p.budget = 2**16 - 1
     p.status, p.run, p.set = 2**8 - 1, [(2**8 - 1,) * 3] * MAX_LOADS, 2**MAX_LOADS - 1
+    p.filled = 2**32 - 1
 
 
 def with_kind(figures):
@@ -361,6 +384,8 @@ def make(q, change):
         q.set = n[0] + (n[1] << WORD_LOADS if len(n) > 1 else 0)
     elif name == 'run':
         q.run[n[0]] = tuple(n[1:])
+    elif name == 'filled':
+        (q.filled,) = n
     elif name == 'rubbish':
         fill(q)
     else:
@@ -374,14 +399,17 @@ class Script:
     """The planner that the steps so far left, what is lent to its calls, and what the glass shows. What becomes of each step is for the classes
     below it to say."""
     pages = Pages()
+    portions = Portions()
 
     def __init__(self):
-        self.planner = Planner()
         self.lent = ROOM
-        self.glass = DARK
+        self.start()
+
+    def start(self):
+        self.planner, self.glass, self.work = Planner(), DARK, b''
 
     def told(self, line):
-        """A step but for `call`, `judge` and `page`."""
+        """A step but for `call`, `judge`, `page` and `most`."""
 
     def called(self, p, lent, line, reply, every):
         """A call, and what it leaves. It is to be reported if it is refused or every call is."""
@@ -391,6 +419,10 @@ class Script:
 
     def paged(self, asked, drawn, stretch, glass):
         """A drawing, what it leaves, the stretch for the glass, and what that shows then. A refused drawing leaves the glass as it is."""
+
+    def portioned(self, p, asked):
+        """A portion. Returned is what it leaves."""
+        return self.portions.done(asked)
 
     def line_of(self, word):
         """The line that a LINE stands for."""
@@ -415,6 +447,18 @@ class Script:
         self.paged(asked, drawn, stretch, glass)
         return glass
 
+    def portion(self, p, lent, most, work):
+        """What a portion leaves, on as much of a work as is lent, with rubbish after it if that is more."""
+        rubbish = RUBBISH_CELL * (lent.cells - len(work) // CELL_BYTES)
+        lent_work = work[:CELL_BYTES * lent.cells] + rubbish
+        return self.portioned(p, Portion(tables_of(p) if keeps_limits(p) else None, most, RUBBISH_BYTE * lent.size, lent.place, lent_work))
+
+    def portions_of(self, numbers):
+        for most in numbers:
+            done = self.portion(self.planner, self.lent, most, self.work)
+            self.planner = stored(done.tables) if done.tables else self.planner
+            self.work = done.work + self.work[len(done.work):]
+
     def handed_in(self, p):
         for line in HANDED_IN:
             self.call(p, ROOM, line, True)
@@ -422,14 +466,16 @@ class Script:
         self.judged(p, [], verdict(p, []))
         for load, size in HANDED_IN_PAGES:
             self.page(p, load, size)
+        for most in HANDED_IN_PORTIONS:
+            self.portion(p, ROOM, most, b'')
 
     def step(self, line):
         """One line of the script."""
         word, *rest = line.split(' ')
-        if word not in ('call', 'judge', 'page'):
+        if word not in ('call', 'judge', 'page', 'most'):
             self.told(line)
         if word == 'fresh':
-            self.planner, self.glass = Planner(), DARK
+            self.start()
         elif word == 'lent':
             self.lent = Lent(*numbers(line))
         elif word == 'told':
@@ -440,6 +486,8 @@ class Script:
             self.judged(self.planner, numbers(line), verdict(self.planner, numbers(line)))
         elif word == 'page':
             self.glass = self.page(self.planner, *numbers(line))
+        elif word == 'most':
+            self.portions_of(numbers(line))
         elif word == 'with':
             self.handed_in(changed(self.planner, ' '.join(rest).split(' and ')))
         elif word != '#':

@@ -3,9 +3,10 @@
 
   scriptcheck.py LIBRARY.so SCRIPT..
 
-Compared are the number, the count, every byte of the output, every cell of the work and every field of the planner after each call, the
-judge's answer on each run, and number, page, stretch and glass of each drawing. Which planners were turned away, in calls, by the judge and in
-drawings, must tell the limits of kinds, of the most loads and of a stored outcome from such as are wrong on purpose (wrong_limits.py).
+Compared are the number, the count, every byte of the output, every cell of the work and every field of the planner after each call and each
+portion, the judge's answer on each run, and number, page, stretch and glass of each drawing. Which planners were turned away, in calls, by the
+judge, in drawings and in portions, must tell the limits of kinds, of the most loads, of a stored outcome and of filled cells from such as are
+wrong on purpose (wrong_limits.py).
 The last line is 'N passed, M failed'.
 """
 import argparse
@@ -16,10 +17,10 @@ from urllib.parse import unquote_to_bytes
 from library import Library, Planner, content_with, held
 from limits import NOT_A_RUN, NUMBERS, PAGE_BYTES
 from pages import put
-from script import RUBBISH_BYTE, Script
+from portions import Done
+from script import RUBBISH_BYTE, RUBBISH_CELL, Script, stored
 from wrong_limits import WRONG, keeps
 
-RUBBISH_CELL = b'rubb'
 VERDICTS = {'yes': 0, 'no': NOT_A_RUN}
 TURNED_AWAY = NUMBERS['TURNED_AWAY']
 
@@ -37,7 +38,8 @@ class Compared(Script):
         super().__init__()
         self.library = library
         self.passed = self.failed = 0
-        self.called_with, self.judged_with, self.drawn_with = [], [], []  # planners, each with whether it was turned away by itself
+        # planners, each with whether it was turned away by itself
+        self.called_with, self.judged_with, self.drawn_with, self.portioned_with = [], [], [], []
 
     def line_of(self, word):
         return unquote_to_bytes(word)
@@ -75,14 +77,25 @@ class Compared(Script):
         self.compare(what, ((number, page), (start, count, row), shown), (drawn, stretch, glass))
 
 
+    def portioned(self, p, asked):
+        planner = Planner(self.library, content_with(p))
+        got = Done(*planner.portion(*asked[1:]), held(planner.state.content()))
+        want = self.portions.done(asked, got)
+        if self.portions.has_room(asked):
+            note(self.portioned_with, p, got.number == TURNED_AWAY)
+        self.compare('most %d' % asked.most, got[:-1], want[:-1])
+        self.compare('the planner after most %d' % asked.most, vars(got.tables), vars(stored(want.tables) if want.tables else p))
+        return want
+
+
 def told_apart(limits, handed_in):
     """Was some planner turned away though it keeps these limits, or the other way round?"""
     return any(keeps(p, limits) == away for p, away in handed_in)
 
 
 def untold(scripts):
-    """The wrong limits that the calls, the judge or the drawings do not tell apart."""
-    sorts = [[one for s in scripts for one in getattr(s, sort)] for sort in ('called_with', 'judged_with', 'drawn_with')]
+    """The wrong limits that the calls, the judge, the drawings or the portions do not tell apart."""
+    sorts = [[one for s in scripts for one in getattr(s, sort)] for sort in ('called_with', 'judged_with', 'drawn_with', 'portioned_with')]
     return [limits.__name__ for limits in WRONG if not all(told_apart(limits, handed_in) for handed_in in sorts)]
 
 

@@ -1,9 +1,9 @@
-"""Limits of kinds, of the most loads and of a stored outcome (script.py) that are wrong on purpose, each in one place. A script that cannot tell
-them from the product's would show nothing."""
+"""Limits of kinds, of the most loads, of a stored outcome and of filled cells (script.py) that are wrong on purpose, each in one place. A script
+that cannot tell them from the product's would show nothing."""
 import copy
 
-from limits import MAX_KIND, MAX_LOADS, NO_SET, NOTHING, PLANNED, WORD_LOADS
-from script import NONE, UNUSED, OutcomeLimits, TableLimits, keeps_limits, verdict
+from limits import MAX_BUDGET, MAX_KIND, MAX_LOADS, MAX_PORTION, MAX_STAGES, MAX_STATES, NO_SET, NOTHING, PLANNED, WORD_LOADS
+from script import NONE, UNUSED, FilledLimits, OutcomeLimits, TableLimits, keeps_limits, verdict
 
 # ---- kinds
 
@@ -509,9 +509,124 @@ class KindsOfRules(OutcomeLimits):
         return super().keep(p) and all(p.load_rules[rule - 1][3] == load[3] for (_, rule, _), load in zip(p.run, p.loads) if rule)
 
 
+# ---- filled cells
+
+
+class FilledNotTested(FilledLimits):
+    """Any count of filled cells will do."""
+
+    def keep(self, p):
+        return True
+
+
+class FilledMore(FilledLimits):
+    """There may be one more filled than there are cells."""
+
+    def cells(self, p):
+        return super().cells(p) + 1
+
+
+class NotAllFilled(FilledLimits):
+    """Not every cell may be filled."""
+
+    def keep(self, p):
+        return p.filled == 0 or p.filled < self.cells(p)
+
+
+class FilledBarred(FilledLimits):
+    """No cell may be filled."""
+
+    def keep(self, p):
+        return p.filled == 0
+
+
+class FilledOfStates(FilledLimits):
+    """There are no cells for stages."""
+
+    def cells(self, p):
+        return p.load_count * p.states * (p.budget + 1)
+
+
+class FilledOfWatts(FilledLimits):
+    """There is no cell for the allowance of 0."""
+
+    def cells(self, p):
+        return p.load_count * (p.states + p.stages) * p.budget
+
+
+class FilledOfOneLoad(FilledLimits):
+    """There are the cells of one load."""
+
+    def cells(self, p):
+        return min(1, p.load_count) * (p.states + p.stages) * (p.budget + 1)
+
+
+class FilledOfPlacesForLoads(FilledLimits):
+    """There are the cells of the most loads."""
+
+    def cells(self, p):
+        return MAX_LOADS * (p.states + p.stages) * (p.budget + 1)
+
+
+class FilledOfMostCells(FilledLimits):
+    """There are the cells of the largest cabinet."""
+
+    def cells(self, p):
+        return MAX_LOADS * (MAX_STATES + MAX_STAGES) * (MAX_BUDGET + 1)
+
+
+class FilledByOnePortion(FilledLimits):
+    """No more cells may be filled than one portion fills."""
+
+    def cells(self, p):
+        return min(MAX_PORTION, super().cells(p))
+
+
+class FilledInTwoBytes(FilledLimits):
+    """Of the count the last 16 binary digits are tested."""
+
+    def keep(self, p):
+        return p.filled % 2**16 <= self.cells(p)
+
+
+class FilledSigned(FilledLimits):
+    """A count whose first binary digit is 1 is not tested."""
+
+    def keep(self, p):
+        return p.filled >= 2**31 or super().keep(p)
+
+
+class FilledWithoutOutcome(FilledLimits):
+    """No cell may be filled where an outcome is stored."""
+
+    def keep(self, p):
+        return super().keep(p) and (p.filled == 0 or p.status == NOTHING)
+
+
+class FilledNotTestedWithOutcome(FilledLimits):
+    """The count is not tested where an outcome is stored."""
+
+    def keep(self, p):
+        return p.status != NOTHING or super().keep(p)
+
+
+class FilledOfNoLoads(FilledLimits):
+    """The count is not tested where there are no loads."""
+
+    def keep(self, p):
+        return p.load_count == 0 or super().keep(p)
+
+
+class FilledOfNoBook(FilledLimits):
+    """The count is not tested where there is no book."""
+
+    def keep(self, p):
+        return p.states == 0 or super().keep(p)
+
+
 def keeps(p, wrong):
     """Does a planner keep the limits with such as are wrong in the place of the right ones?"""
     return keeps_limits(p, **{wrong.of: wrong()})
 
 
-WRONG = TableLimits.__subclasses__() + OutcomeLimits.__subclasses__()
+WRONG = TableLimits.__subclasses__() + OutcomeLimits.__subclasses__() + FilledLimits.__subclasses__()

@@ -4,7 +4,7 @@ from itertools import permutations
 
 from limits import NO_SET, NOTHING, PAGE_BYTES, PAGE_ROWS, ROW_BYTES, WORD_LOADS
 from pages import Pages, cut
-from script import TableLimits
+from script import FilledLimits, OutcomeLimits, TableLimits
 
 # ---- rows
 
@@ -399,7 +399,22 @@ class OutcomeNotTested(Passed):
     """A planner whose outcome is out of range is drawn."""
 
     def passes(self, number, asked):
-        return number == 1 and TableLimits().keep(asked.p)
+        return number == 1 and TableLimits().keep(asked.p) and FilledLimits().keep(asked.p)
+
+
+class CountNotTested(Passed):
+    """A planner with more filled than it has cells is drawn."""
+
+    def passes(self, number, asked):
+        return number == 1 and TableLimits().keep(asked.p) and OutcomeLimits().keep(asked.p)
+
+
+class CountTurnedAway(Pages):
+    """A planner of which cells are filled is not drawn."""
+
+    def causes(self, asked):
+        first, broken, *others = super().causes(asked)
+        return first, (1, broken[1] or asked.p.filled > 0), *others
 
 
 class NumberNotTested(Passed):

@@ -11,12 +11,12 @@ ghost use Prim.Native.Nat.{_≤_};
 // What output and work hold before each call. No byte of an answer is this one.
 pub const RUBBISH_BYTE: u8 = 170;
 
-const RUBBISH_CELL: u32 = 2863311530;
+pub const RUBBISH_CELL: u32 = 2863311530;
 
 // The lengths of output and work, of which a part is lent: a script can lend no more.
-const ALL_BYTES: usize = 4200;
+pub const ALL_BYTES: usize = 4200;
 
-const ALL_CELLS: usize = 620;
+pub const ALL_CELLS: usize = 620;
 
 // How many bytes and cells are lent, and the place of the answer.
 pub struct Lent {
@@ -63,7 +63,7 @@ fn cells_with(work: &[u32], value: u32) -> usize {
 }
 
 // The answer, which ends its last line itself. Where there is none, the line of the report is ended here.
-fn print_answer(out: &[u8], place: usize, count: usize) {
+pub(crate) fn print_answer(out: &[u8], place: usize, count: usize) {
     let start = least(place, out.len());
     let end = start + least(count, out.len() - start);
     print(&out[start..end]);
@@ -72,7 +72,7 @@ fn print_answer(out: &[u8], place: usize, count: usize) {
     }
 }
 
-fn print_kept(out: &[u8], work: &[u32]) {
+pub(crate) fn print_kept(out: &[u8], work: &[u32]) {
     print_count(b" | ", bytes_kept(out));
     print_count(b" bytes kept, ", cells_with(work, 0));
     print_count(b" cells 0, ", cells_with(work, RUBBISH_CELL));

@@ -1,8 +1,9 @@
-// The tests of the planner's calls, of its judge and of the handheld's pages. Standard input is the script of the tests; what is written is the
+// The tests of the planner's calls, of its judge, of the handheld's pages and of portions. Standard input is the script of the tests; what is written is the
 // report on them. The report is held to the file `stdout`, which tests/expected.py derives from the same script by plain enumeration.
 mod call;
 mod glass;
 mod judging;
+mod portion;
 mod printing;
 mod script;
 mod text;

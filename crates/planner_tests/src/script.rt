@@ -6,17 +6,22 @@ use crate::glass::DARK;
 use crate::glass::Glass;
 use crate::glass::paged;
 use crate::judging::judged;
+use crate::portion::Filling;
+use crate::portion::UNTOUCHED;
+use crate::portion::Work;
+use crate::portion::portions;
 use crate::printing::print_line;
 use crate::text::end_of;
 use crate::text::numbers;
 use crate::text::past;
 use planner::Planner;
 
-// The planner that the steps so far left, what is lent to its calls, and what the glass shows.
+// The planner that the steps so far left, what is lent to its calls, what the glass shows, and the work of its portions.
 struct Test {
     planner: Planner,
     lent: Lent,
     glass: Glass,
+    work: Work,
 }
 
 // The planner after a step: `call`, `told` and `fresh` give another.
@@ -29,12 +34,13 @@ fn planner_after(p: Planner, lent: Lent, letter: u8, rest: &[u8]) -> Planner {
     }
 }
 
-// What a step reports but for calls and pages: the step itself, and what `judge` finds.
+// What a step reports but for calls, pages and portions: the step itself, and what `judge` finds.
 fn reported(p: Planner, letter: u8, line: &[u8]) {
     match letter {
         b'c' => {}
         b'j' => judged(p, line),
         b'p' => {}
+        b'm' => {}
         _ => print_line(line),
     }
 }
@@ -62,6 +68,19 @@ fn glass_after(p: Planner, glass: Glass, letter: u8, line: &[u8]) -> Glass {
     }
 }
 
+fn filling_of(planner: Planner, work: Work) -> Filling {
+    Filling { planner, work }
+}
+
+// The planner and the work of its portions after a step, the planner being the one that calls left.
+fn filling_after(f: Filling, lent: Lent, letter: u8, line: &[u8]) -> Filling {
+    match letter {
+        b'm' => portions(f, lent, line),
+        b'f' => f.anew(),
+        _ => f,
+    }
+}
+
 // One step.
 fn obey(t: Test, line: &[u8]) -> Test {
     if line.len() == 0 {
@@ -70,13 +89,17 @@ fn obey(t: Test, line: &[u8]) -> Test {
     let letter = line[0];
     let start = past(line, end_of(line, 0, b' '));
     reported(t.planner, letter, line);
-    let planner = planner_after(t.planner, t.lent, letter, &line[start..]);
+    let called = planner_after(t.planner, t.lent, letter, &line[start..]);
     let lent = lent_after(t.lent, letter, &line[start..]);
     let glass = glass_after(t.planner, t.glass, letter, line);
+    let f = filling_after(filling_of(called, t.work), t.lent, letter, line);
+    let planner = f.planner;
+    let work = f.work;
     Test {
         planner,
         lent,
         glass,
+        work,
     }
 }
 
@@ -86,6 +109,7 @@ pub(crate) fn follow(script: &[u8]) {
         planner: Planner::fresh(),
         lent: ROOM,
         glass: DARK,
+        work: UNTOUCHED,
     };
     let mut at: usize = 0;
     while at < script.len() {
