@@ -45,4 +45,8 @@ void plain_rust_plan(const Tables *t, uint32_t *work, size_t cells, Outcome *out
 typedef struct { struct hulmeide_reply reply; uint8_t text[HULMEIDE_SAVE_BYTES]; } Answer;
 
 void answer_line(Tables *t, const char *line, uint32_t *work, Answer *answer);
+
+// The next portion of a plan, of so many cells, and the count that it filled. Where it filled none it has answered as a line is answered.
+size_t fill_portion(Tables *t, size_t most, uint32_t *work, Answer *answer);
+
 Outcome shown(const Answer *answer);

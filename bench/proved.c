@@ -1,9 +1,15 @@
-// The proved planner, called as firmware calls it: a line in, and an answer in text out.
+// The proved planner, called as firmware calls it: a line in, and an answer in text out; or a plan by portions.
 #include "cabinet.h"
 #include <string.h>
 
 void answer_line(Tables *t, const char *line, uint32_t *work, Answer *answer) {
     answer->reply = hulmeide_call(t, (const uint8_t *)line, strlen(line), answer->text, sizeof answer->text, 0, work, cells_of(t));
+}
+
+size_t fill_portion(Tables *t, size_t most, uint32_t *work, Answer *answer) {
+    struct hulmeide_portion_reply reply = hulmeide_portion(t, most, answer->text, sizeof answer->text, 0, work, cells_of(t));
+    answer->reply = (struct hulmeide_reply){reply.number, reply.count};
+    return reply.filled;
 }
 
 // The number that ends at the next comma or line feed. `at` is left after that byte.

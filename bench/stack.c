@@ -46,6 +46,7 @@ static Tables tables;
 static const char *line;
 static Answer answer;
 static uint32_t run[3 * HULMEIDE_MAX_LOADS];
+static struct hulmeide_portion_reply portion;
 static uint32_t verdict;
 static uint8_t page[HULMEIDE_PAGE_BYTES];
 static uint8_t glass[HULMEIDE_PAGE_BYTES];
@@ -59,6 +60,10 @@ static void nothing(void) {
 
 static void proved_call(void) {
     answer_line(&tables, line, work, &answer);
+}
+
+static void proved_portion(void) {
+    portion = hulmeide_portion(&tables, HULMEIDE_MAX_PORTION, answer.text, sizeof answer.text, 0, work, cells_of(&tables));
 }
 
 static void proved_judge(void) {
@@ -122,6 +127,15 @@ static void print_check_and_judge(void) {
     expect(verdict, HULMEIDE_ACCEPTED);
 }
 
+// The portion of a plan that went deepest, and the call that gives its answer.
+static void print_portions(void) {
+    size_t deepest = 0, used = depth(proved_portion);
+    for (; portion.filled > 0; used = depth(proved_portion))
+        deepest = used > deepest ? used : deepest;
+    printf(" portion %zu, its answer %zu,", deepest, used);
+    expect(portion.number, HULMEIDE_ACCEPTED);
+}
+
 // The page of the last load, of the plan that is stored, on a glass that shows nothing of it.
 static void print_page(void) {
     printf(" page %zu,", depth(proved_draw));
@@ -139,6 +153,7 @@ static void print_calls(Shape shape) {
     print_check_and_judge();
     print_line("last", "last", HULMEIDE_ACCEPTED);
     print_line("need", "need,0", HULMEIDE_ACCEPTED);
+    print_portions();
     print_page();
     print_of_last_load("change", "power", ",1");
     print_line("save", "save", HULMEIDE_ACCEPTED);

@@ -1,5 +1,5 @@
-// Times of the four plans by tree, loads, rules and budget, and on cabinets that tell which of equal plans each shows; and those of a page and of
-// `need`.
+// Times of the four plans by tree, loads, rules and budget, and on cabinets that tell which of equal plans each shows; and those of a page, of
+// `need` and of portions.
 #include "measure.h"
 #include <stdio.h>
 #include <stdlib.h>
@@ -161,6 +161,82 @@ static void print_needs(void) {
         print_need(shape, with_equals(tables_of(largest(shape))));
 }
 
+// ---- portions
+
+// The fewest cells of a portion that is timed, the most calls that a plan by such portions takes, the last of which gives the answer, and how the
+// portions grow.
+enum { FEWEST_CELLS = 256, CALLS = HULMEIDE_MAX_CELLS / FEWEST_CELLS + 2, GROWTH = 4 };
+
+// The best time of each call.
+static double least[CALLS];
+static Answer by_portions;
+
+static double lesser(double x, double y) {
+    return x < y ? x : y;
+}
+
+// A plan by portions, and how many calls it took.
+static int plan_by_portions(size_t most) {
+    int calls = 1;
+    while (fill_portion(&planned, most, work, &by_portions) > 0)
+        calls++;
+    return calls;
+}
+
+static void time_calls(size_t most) {
+    size_t filled = 1;
+    for (int call = 0; filled > 0; call++) {
+        double began = seconds();
+        filled = fill_portion(&planned, most, work, &by_portions);
+        least[call] = lesser(least[call], seconds() - began);
+    }
+}
+
+static void compare_portions(void) {
+    if (answer.reply.number != by_portions.reply.number || answer.reply.count != by_portions.reply.count
+        || memcmp(answer.text, by_portions.text, answer.reply.count) != 0) {
+        printf("answers differ: a plan, and one by portions\n");
+        exit(1);
+    }
+}
+
+// Each round times a plan, one by portions, and one by portions call by call.
+static void print_portion(Shape shape, int loads, size_t most) {
+    double plan = 1, portions = 1, longest = 0;
+    int calls = 0;
+    for (int call = 0; call < CALLS; call++)
+        least[call] = 1;
+    for (int round = 0; round < ROUNDS; round++) {
+        double began = seconds();
+        answer_line(&planned, "plan", work, &answer);
+        double between = seconds();
+        calls = plan_by_portions(most);
+        plan = lesser(plan, between - began);
+        portions = lesser(portions, seconds() - between);
+        compare_portions();
+        time_calls(most);
+    }
+    for (int call = 0; call < calls - 1; call++)
+        longest = least[call] > longest ? least[call] : longest;
+    printf("%-11s %5d %6zu  %8.4f %8.4f  %6.3f %6d %9.1f %9.1f\n", shape_names[shape], loads, most, 1e3 * plan, 1e3 * portions, portions / plan, calls,
+        1e6 * longest, 1e6 * least[calls - 1]);
+    fflush(stdout);
+}
+
+static void print_portions(void) {
+    printf("\nA plan by portions: 8 states, 8 stages, 32 + 32 rules, budget 500; processor time in milliseconds, best of %d rounds, over `plan`; the\n"
+           "calls, and in microseconds the longest of those that fill cells, and the last, which gives the answer\n", ROUNDS);
+    printf("%-11s %5s %6s  %8s %8s  %6s %6s %9s %9s\n", "tree", "loads", "cells", "plan", "portions", "/plan", "calls", "longest", "answer");
+    for (Shape shape = 0; shape < SHAPES; shape++)
+        for (int loads = HULMEIDE_MAX_LOADS / 2; loads <= HULMEIDE_MAX_LOADS; loads *= 2) {
+            Cabinet c = largest(shape);
+            c.loads = loads;
+            planned = tables_of(c);
+            for (size_t most = FEWEST_CELLS; most <= HULMEIDE_MAX_PORTION; most *= GROWTH)
+                print_portion(shape, loads, most);
+        }
+}
+
 int main(void) {
     printf("A plan: processor time in milliseconds, best of %d rounds; proved over each other one; the answer that all agree on\n", ROUNDS);
     print_trees();
@@ -169,5 +245,6 @@ int main(void) {
     print_kinds();
     print_pages();
     print_needs();
+    print_portions();
     return 0;
 }

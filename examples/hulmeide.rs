@@ -6,7 +6,7 @@ use std::mem::{size_of, MaybeUninit};
 // ---- Version, sizes and numbers, as include/hulmeide.h has them: tests/limits.py compares the two.
 
 /// The version of the header that this wrapper is for: major * 10000 + minor * 100 + patch.
-pub const VERSION: u32 = 11000;
+pub const VERSION: u32 = 11100;
 
 /// A line has at most this many bytes, its line feed not counted.
 pub const LINE_BYTES: usize = 144;
@@ -18,7 +18,7 @@ pub const MAX_DIGITS: usize = 6;
 /// that breaks its form or is too long.
 pub const FREE_BYTES: usize = 1024;
 
-/// So many must be free for `plan`, `last` and `check`, whose answers have a line for each load.
+/// So many must be free for `plan`, `last` and `check`, whose answers have a line for each load, and for every portion of a plan.
 pub const RUN_BYTES: usize = 2048;
 
 /// So many must be free for `save` and for `save1`. An output of this length is enough for every line.
@@ -49,11 +49,14 @@ pub const PAGE_ROWS: usize = 8;
 pub const ROW_BYTES: usize = 20;
 pub const PAGE_BYTES: usize = PAGE_ROWS * ROW_BYTES;
 
-const PLANNER_BYTES: usize = 1472;
+/// A portion may be asked to fill 1 to this many cells.
+pub const MAX_PORTION: usize = 16384;
+
+const PLANNER_BYTES: usize = 1480;
 const NOT_A_RUN: u32 = 255;
 
-/// Why a line, numbers that were to be judged, or a drawing were refused. A refusal leaves the planner as it was, but that
-/// [`Refusal::NoneFits`] of a plan stores its outcome.
+/// Why a line, numbers that were to be judged, a drawing or a portion were refused. A refusal leaves the planner as it was, but that
+/// [`Refusal::NoneFits`] of a plan stores its outcome, and that of a portion, which is the answer, starts the filling over.
 #[derive(Clone, Copy, Debug, PartialEq, Eq)]
 pub enum Refusal {
     TurnedAway = 1,
@@ -143,7 +146,8 @@ struct Outcome {
     run: Run,
 }
 
-/// The planner's tables, and the outcome of its latest plan. They are changed by lines alone.
+/// The planner's tables, the outcome of its latest plan, and the count of cells that portions have filled. They are changed by lines and portions
+/// alone.
 #[repr(C)]
 #[derive(Clone)]
 pub struct Planner {
@@ -151,6 +155,7 @@ pub struct Planner {
     loads: Loads,
     budget: u16,
     outcome: Outcome,
+    filled: u32,
 }
 
 const _: () = assert!(size_of::<Planner>() == PLANNER_BYTES);
@@ -162,9 +167,25 @@ pub struct Answer {
     pub refusal: Option<Refusal>,
 }
 
+/// What a portion of a plan came to.
+#[derive(Clone, Copy, Debug, PartialEq, Eq)]
+pub enum Portion {
+    /// So many cells were filled, one at least. The next portion goes on.
+    Filled(usize),
+    /// Every cell was filled before: the answer of `plan` was written, which may be [`Refusal::NoneFits`]. The next portion begins anew.
+    Answered(Answer),
+}
+
 #[repr(C)]
 struct Reply {
     number: u32,
+    count: usize,
+}
+
+#[repr(C)]
+struct PortionReply {
+    number: u32,
+    filled: u32,
     count: usize,
 }
 
@@ -187,6 +208,15 @@ extern "C" {
         work: *mut u32,
         work_length: usize,
     ) -> Reply;
+    fn hulmeide_portion(
+        planner: *mut Planner,
+        most: usize,
+        out: *mut u8,
+        out_length: usize,
+        place: usize,
+        work: *mut u32,
+        work_length: usize,
+    ) -> PortionReply;
     fn hulmeide_judge(planner: *const Planner, run: *const u32, run_length: usize) -> u32;
     fn hulmeide_draw(planner: *const Planner, load: usize, page: *mut u8, page_length: usize) -> u32;
     fn hulmeide_stretch(glass: *const u8, glass_length: usize, drawn: *const u8, drawn_length: usize) -> Part;
@@ -273,7 +303,7 @@ pub fn stretch_row(glass: &[u8], drawn: &[u8]) -> usize {
 }
 
 impl Planner {
-    /// A fresh planner: no book, no rules, no loads, budget 0, and no current plan. Panics where the archive is of another version than this
+    /// A fresh planner: no book, no rules, no loads, budget 0, no current plan, and no cell filled. Panics where the archive is of another version than this
     /// wrapper.
     pub fn new() -> Planner {
         assert_eq!(version(), VERSION, "the archive's version and the wrapper's");
@@ -285,7 +315,7 @@ impl Planner {
         }
     }
 
-    /// The cells that a plan needs as the planner stands, and [`Planner::need`] too: loads x (states + stages) x (budget + 1).
+    /// The cells that a plan needs as the planner stands, whole or by portions, and [`Planner::need`] too: loads x (states + stages) x (budget + 1).
     pub fn cells_needed(&self) -> usize {
         let ways = usize::from(self.book.states) + usize::from(self.book.stages);
         self.loads.count * ways * (usize::from(self.budget) + 1)
@@ -308,6 +338,23 @@ impl Planner {
             )
         };
         Answer { count: reply.count, refusal: Refusal::of(reply.number) }
+    }
+
+    /// Fills the next cells of a plan in the work, at most `most` of them, or, where every cell is filled, writes the plan's answer to `out` from
+    /// `place` on. The answer is not stored: [`Planner::last`] and [`Planner::draw`] show what the line `plan` found. An accepted change starts the
+    /// filling over. It is refused with [`Refusal::TurnedAway`], [`Refusal::NoLoads`], [`Refusal::OutOfRange`] where `most` is not 1 to
+    /// [`MAX_PORTION`], and [`Refusal::FewCells`], and changes and writes nothing then.
+    ///
+    /// Each portion but the first of a filling is to get the work as the last one left it, so lend `plan` and [`Planner::need`] other work; else
+    /// figures and answer may be anything.
+    pub fn portion(&mut self, most: usize, out: &mut [u8], place: usize, work: &mut [u32]) -> Result<Portion, Refusal> {
+        // SAFETY: as in `call`.
+        let reply = unsafe { hulmeide_portion(self, most, out.as_mut_ptr(), out.len(), place, work.as_mut_ptr(), work.len()) };
+        match Refusal::of(reply.number) {
+            _ if reply.filled > 0 => Ok(Portion::Filled(reply.filled as usize)),
+            refusal @ (None | Some(Refusal::NoneFits)) => Ok(Portion::Answered(Answer { count: reply.count, refusal })),
+            Some(refusal) => Err(refusal),
+        }
     }
 
     /// The lines that rebuild the tables, each with its line feed, as `save` writes them, with every kind. It changes nothing, and is never

@@ -1,11 +1,14 @@
 //! The line program again, in Rust over the safe wrapper: lines from standard input, answers to standard output.
 
-use hulmeide::{stretch, stretch_row, Planner, Refusal};
+use hulmeide::{stretch, stretch_row, Planner, Portion, Refusal};
 use hulmeide::{LINE_BYTES, LINE_PROGRAM_CELLS, MAX_NEED, PAGE_BYTES, ROW_BYTES, RUN_BYTES, SAVE_BYTES};
 use std::io::{self, BufRead, Write};
 
 /// Of a line that is too long one byte more is kept than a line may have.
 const KEPT_BYTES: usize = LINE_BYTES + 1;
+
+/// The cells that a portion of a plan fills at most.
+const PORTION_CELLS: usize = 1000;
 
 /// Takes the next line off the input, without its line feed, and keeps of it what the planner is to see. False at the end of the input. A
 /// read that was interrupted is tried again.
@@ -93,6 +96,25 @@ fn needs_its_power(planner: &mut Planner, line: &[u8], text: &str, work: &mut [u
     planner.need(worth, work) == Ok(power.parse().expect("a number")) && planner.need(worth + 1, work) == Err(more)
 }
 
+/// Is a plan by portions, in cells of its own, answered as a line was? A line that is no plan passes, and so does one with too few cells. A portion
+/// changes neither the latest plan nor the tables: those are compared after the line.
+fn portions_alike(planner: &mut Planner, line: &[u8], text: &str) -> bool {
+    let cells = planner.cells_needed();
+    let mut out = [0; RUN_BYTES];
+    let mut own = vec![0; LINE_PROGRAM_CELLS];
+    if line != b"plan" || cells > own.len() {
+        return true;
+    }
+    let mut filled = 0;
+    loop {
+        match planner.portion(PORTION_CELLS, &mut out, 0, &mut own) {
+            Ok(Portion::Filled(more)) => filled += more,
+            Ok(Portion::Answered(answer)) => return filled == cells && text.as_bytes() == &out[..answer.count],
+            Err(refusal) => return text == format!("no,{}\n", refusal.number()),
+        }
+    }
+}
+
 /// The latest plan after a line, if one is current then, that before it being this: `plan` stores its answer, a refusal for want of a set too,
 /// an accepted change wipes it, and any other line leaves it.
 fn latest_after(latest: Option<String>, line: &[u8], text: &str) -> Option<String> {
@@ -165,6 +187,7 @@ fn main() -> io::Result<()> {
         assert!(drops_alike(before, &line, answer.refusal), "the wrapper drops otherwise than the line");
         assert!(needs_alike(&mut planner, &line, text, &mut work), "the wrapper needs another budget than the line");
         assert!(needs_its_power(&mut planner, &line, text, &mut work), "a plan's power is not the least budget for its worth");
+        assert!(portions_alike(&mut planner, &line, text), "a plan by portions is another one");
         latest = latest_after(latest, &line, text);
         assert!(shows(&mut planner, &latest), "the wrapper shows another plan than the latest");
         assert!(draws(&planner, &latest, &mut glass), "the wrapper draws another page than the latest plan's");

@@ -2,6 +2,7 @@
 #include "port.h"
 
 #include <errno.h>
+#include <poll.h>
 #include <stdio.h>
 #include <stdlib.h>
 #include <unistd.h>
@@ -23,6 +24,13 @@ void transmit(const uint8_t *bytes, size_t count)
             stop("the port cannot be written");
         }
     }
+}
+
+/* Would `receive` return without waiting? */
+static bool is_ready(void)
+{
+    struct pollfd port = {STDIN_FILENO, POLLIN, 0};
+    return poll(&port, 1, 0) > 0;
 }
 
 /* The bytes that are there, up to `most`, or 0 at the end of the port. A port that fails stops the program: what is held of a line then is
@@ -51,17 +59,25 @@ static void take(struct line *line, uint8_t byte, void (*answer)(const struct li
     }
 }
 
-void serve(void (*answer)(const struct line *line))
+bool poll_port(bool waits, void (*answer)(const struct line *line))
 {
     static struct line line;
     uint8_t bytes[256];
-    size_t count;
-    while ((count = receive(bytes, sizeof bytes)) > 0) {
-        for (size_t i = 0; i < count; i++) {
-            take(&line, bytes[i], answer);
-        }
+    if (!waits && !is_ready()) {
+        return true;
     }
-    if (line.length > 0) {
+    size_t count = receive(bytes, sizeof bytes);
+    for (size_t i = 0; i < count; i++) {
+        take(&line, bytes[i], answer);
+    }
+    if (count == 0 && line.length > 0) {
         answer(&line);
+    }
+    return count > 0;
+}
+
+void serve(void (*answer)(const struct line *line))
+{
+    while (poll_port(true, answer)) {
     }
 }

@@ -7,6 +7,8 @@
 
 #include "hulmeide.h"
 
+#include <stdbool.h>
+
 /* A line without its line feed. One byte more than a line may have is kept of it, so that a longer one is refused as too long. */
 struct line {
     uint8_t bytes[HULMEIDE_LINE_BYTES + 1];
@@ -21,7 +23,11 @@ void stop(const char *message);
 
 void transmit(const uint8_t *bytes, size_t count);
 
-/* Hands each line that comes in to `answer` as soon as it is complete, and at the end of the port a last one that has no line feed. */
+/* Takes the bytes that have come in, and hands each line that is complete to `answer`. Where none have come in it waits for some, or, if it is not
+ * to wait, returns at once. False at the end of the port, where a last line that has no line feed is handed over too. */
+bool poll_port(bool waits, void (*answer)(const struct line *line));
+
+/* Hands each line that comes in to `answer` as soon as it is complete, to the end of the port. */
 void serve(void (*answer)(const struct line *line));
 
 #endif

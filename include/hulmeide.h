@@ -4,14 +4,14 @@
  * Link target/staticlib/libhulmeide.a, which `rt staticlib hulmeide` proves and writes. It is built for x86-64 and the System V ABI, and
  * needs memcpy and memset, nothing else: no heap, no file, no clock, and no memory of its own between calls. All state is in the planner
  * that the caller keeps, so there may be any number of planners, and any number of threads, each with a planner of its own. On the largest
- * cabinet `check` used 20,776 bytes of stack, every other call on a line at most 10,952, the judge 12,224 and a drawing 3,448
- * (docs/PERFORMANCE.md).
+ * cabinet `check` used 20,776 bytes of stack, every other call on a line at most 10,952, a portion of a plan 11,616, the judge 12,224 and a
+ * drawing 3,448 (docs/PERFORMANCE.md).
  *
  * What the caller owes: every pointer is to memory that is there for the length given, aligned for its type and not null, also where the
  * length is 0 (hulmeide_call_bytes and hulmeide_call_text take null there); the planner, the output and the work do not overlap one another
  * or the line, and a page that is drawn on does not overlap the planner; nobody else reads or writes them, or writes the line, the run or
- * the pages that are only read, during a call. hulmeide_call writes the planner even where it refuses the line, so a planner is in no
- * read-only memory.
+ * the pages that are only read, during a call. hulmeide_call and hulmeide_portion write the planner even where they refuse, so a planner is in no
+ * read-only memory. What portions need besides, so that their answer is a plan, stands at hulmeide_portion.
  * What the bytes are does not matter. A planner, an output, a work and a page may hold anything.
  *
  * What is proved is in crates/hulmeide/src/lib.rt: each function has its promise there, for every planner and all buffers. The lines and
@@ -56,8 +56,11 @@ extern "C" {
  *       before: a caller that lends by numbers of its own has to lend more, or has these lines turned away. Saves of earlier versions are taken
  *       as before. One of more than 64 loads is refused by 1.8 and 1.9, with HULMEIDE_FULL at its sixty-fifth load. The set of a run is a
  *       struct hulmeide_load_set, which hulmeide_has_load reads. A planner has 1,472 bytes, and behind its book another layout.
+ * 1.11: hulmeide_portion plans by portions. A planner counts the cells that they have filled, behind the fields of 1.10, which stand where they
+ *       stood: it has 1,480 bytes. One of 1.10 with 8 bytes of 0 behind it is one of 1.11, with no cell filled. Lines and answers are those of
+ *       1.10.
  */
-#define HULMEIDE_VERSION 11000
+#define HULMEIDE_VERSION 11100
 
 /* ---- Sizes ----
  *
@@ -74,8 +77,8 @@ extern "C" {
  * breaks its form, and for one over HULMEIDE_LINE_BYTES bytes. No answer to such a line is longer. */
 #define HULMEIDE_FREE_BYTES 1024
 
-/* So many must be free for `plan`, `last` and `check`, whose answers have a line for each load, also where they are refused. None of these is
- * longer. A line that only begins like one, as `plan,` and `check,2` do, needs HULMEIDE_FREE_BYTES. */
+/* So many must be free for `plan`, `last` and `check`, whose answers have a line for each load, also where they are refused, and for every portion
+ * of a plan. None of these answers is longer. A line that only begins like one, as `plan,` and `check,2` do, needs HULMEIDE_FREE_BYTES. */
 #define HULMEIDE_RUN_BYTES 2048
 
 /* So many must be free for `save` and for `save1`, and no save is longer: a caller that passes every line on lends this. A line that only begins
@@ -108,42 +111,47 @@ extern "C" {
 #define HULMEIDE_ROW_BYTES 20
 #define HULMEIDE_PAGE_BYTES (HULMEIDE_PAGE_ROWS * HULMEIDE_ROW_BYTES)
 
-/* The cells that `plan` and `need` work in: loads x (states + stages) x (budget + 1), with the budget in force. With fewer it is
- * HULMEIDE_FEW_CELLS. */
+/* The cells that `plan`, `need` and the portions of a plan work in: loads x (states + stages) x (budget + 1), with the budget in force. With fewer
+ * it is HULMEIDE_FEW_CELLS. */
 #define HULMEIDE_CELLS_NEEDED(loads, states, stages, budget) ((size_t)(loads) * ((size_t)(states) + (stages)) * ((size_t)(budget) + 1))
 
 /* The cells that a plan of the largest cabinet needs. */
 #define HULMEIDE_MAX_CELLS HULMEIDE_CELLS_NEEDED(HULMEIDE_MAX_LOADS, HULMEIDE_MAX_STATES, HULMEIDE_MAX_STAGES, HULMEIDE_MAX_BUDGET)
 
+/* A portion may be asked to fill 1 to this many cells. */
+#define HULMEIDE_MAX_PORTION 16384
+
 /* ---- Numbers returned ----
  *
- * Of a line and of the judge the lowest number that applies is given; a drawing tests 13 first, and then 1, 5 and 12. A refusal leaves the
- * planner as it was, but that 9 of a plan stores its outcome. A refusal of a line prints "no,N" and a line feed, but for 1, which writes nothing.
+ * Of a line, of a portion and of the judge the lowest number that applies is given; a drawing tests 13 first, and then 1, 5 and 12. A refusal
+ * leaves the planner as it was, but that 9 of a plan stores its outcome, and that 9 of a portion, which is the answer, starts the filling over. A
+ * refusal of a line prints "no,N" and a line feed, but for 1, which writes nothing. Of the refusals of a portion only 9 writes.
  */
 enum hulmeide_number {
-    /* A line was accepted. The judge: yes, the numbers are a run. A page was drawn. */
+    /* A line was accepted. The judge: yes, the numbers are a run. A page was drawn. A portion filled cells, or gave the answer. */
     HULMEIDE_ACCEPTED = 0,
     /* Fewer free bytes from the place on than the line needs (HULMEIDE_SAVE_BYTES for `save` and `save1`, HULMEIDE_RUN_BYTES for `plan`, `last`
-     * and `check`, HULMEIDE_FREE_BYTES for every other line), a place past the end, or a planner that breaks a limit, in its tables or in its
-     * outcome (the judge and a drawing: only the last). Nothing is written, and everything is left as it was. */
+     * and `check`, and for a portion, HULMEIDE_FREE_BYTES for every other line), a place past the end, or a planner that breaks a limit, in its
+     * tables, in its outcome or by more cells filled than there are (the judge and a drawing: only the last). Nothing is written, and everything
+     * is left as it was. */
     HULMEIDE_TURNED_AWAY = 1,
     /* A line over HULMEIDE_LINE_BYTES bytes. */
     HULMEIDE_LONG_LINE = 2,
     /* No command of the table, a wrong count of fields, or a field of the wrong form. */
     HULMEIDE_BAD_FORM = 3,
-    /* `plan`, `check`, `need` or the judge, with no loads. */
+    /* `plan`, `check`, `need`, a portion or the judge, with no loads. */
     HULMEIDE_NO_LOADS = 4,
     /* A value out of its range; bits not one for each load; the judge given not three numbers for each load; a drawing from a load that is not
-     * there, with no loads too. */
+     * there, with no loads too; a portion of 0 cells or of more than HULMEIDE_MAX_PORTION. */
     HULMEIDE_OUT_OF_RANGE = 5,
     /* HULMEIDE_MAX_LOADS loads, or HULMEIDE_MAX_RULES rules of that sort, already. */
     HULMEIDE_FULL = 6,
     /* The same rule is in the book already. Two load rules of different kinds are not the same. */
     HULMEIDE_SAME_RULE = 7,
-    /* `plan` or `need` with too few cells of work. */
+    /* `plan`, `need` or a portion with too few cells of work: those of the whole plan. */
     HULMEIDE_FEW_CELLS = 8,
-    /* `plan` and `need`: no allowed set fits the budget. `last`: the latest plan was refused so, and no change was accepted since. (A drawing
-     * shows that, and is not refused.) */
+    /* `plan`, `need` and the answer of portions: no allowed set fits the budget. `last`: the latest plan was refused so, and no change was
+     * accepted since. (A drawing shows that, and is not refused.) */
     HULMEIDE_NONE_FITS = 9,
     /* The checked set is not allowed. */
     HULMEIDE_NOT_ALLOWED = 10,
@@ -164,8 +172,8 @@ enum hulmeide_number {
 
 /* ---- The planner ----
  *
- * Make one with hulmeide_fresh, and change it by lines alone. Its fields may be read. One that was changed otherwise, or that comes from
- * a file, is tested at each call: where it breaks a limit the call is turned away (1). The padding between the fields means nothing, and a
+ * Make one with hulmeide_fresh, and change it by lines and portions alone. Its fields may be read. One that was changed otherwise, or that comes
+ * from a file, is tested at each call: where it breaks a limit the call is turned away (1). The padding between the fields means nothing, and a
  * call may change it.
  */
 
@@ -241,25 +249,35 @@ struct hulmeide_outcome {
 
 /*
  * The tables, and beside them the outcome of the latest plan. `plan` stores it, with HULMEIDE_NONE_FITS too, and a line that is answered with
- * "ok" wipes it; nothing else does either.
+ * "ok" wipes it; nothing else does either. `filled` counts the cells that hulmeide_portion has filled of its next answer. A line that is answered
+ * with "ok" sets it to 0, and so does that answer; nothing else does.
  *
  * A planner may be copied and handed in again. (To flash write the lines of a `save`, as docs/FIRMWARE.md says: the layout may change with a
  * version.) Its outcome is tested as its tables are, but only for its ranges: a state of the book, rules of the book, no load that is not there.
  * A figure out of range turns every call away (1). That the run is one of these tables, or the best, is not tested: where something else than
  * these functions changed a byte in between, `last` and a drawing may show what no plan has shown, a power above the budget among it. So firmware
  * that cannot trust such a copy asks for a `plan` before it shows either, or keeps the lines of a `save` in the place of the planner: a planner
- * that takes them has no outcome.
+ * that takes them has no outcome. `filled` is tested too: more than hulmeide_cells_needed turns every call away. That the work holds these cells
+ * is not tested: a copy goes on with a copy of the work, or is given a line that is answered with "ok" first.
  */
 struct hulmeide_planner {
     struct hulmeide_book book;
     struct hulmeide_loads loads;
     uint16_t budget;
     struct hulmeide_outcome outcome;
+    uint32_t filled;
 };
 
 /* What a call on a line returns: its number, and the count of bytes written. */
 struct hulmeide_reply {
     uint32_t number;
+    size_t count;
+};
+
+/* What a portion of a plan returns: its number, the count of cells filled, and the count of bytes written. */
+struct hulmeide_portion_reply {
+    uint32_t number;
+    uint32_t filled;
     size_t count;
 };
 
@@ -272,6 +290,9 @@ struct hulmeide_part {
 /* An output with room for a save has room for every answer, and one with room for a plan for every answer but a save. */
 HULMEIDE_ASSERT(HULMEIDE_SAVE_BYTES >= HULMEIDE_RUN_BYTES, "HULMEIDE_SAVE_BYTES");
 HULMEIDE_ASSERT(HULMEIDE_RUN_BYTES >= HULMEIDE_FREE_BYTES, "HULMEIDE_RUN_BYTES");
+
+/* The greatest count of cells fits the field that counts the filled ones. */
+HULMEIDE_ASSERT(HULMEIDE_MAX_CELLS <= UINT32_MAX, "HULMEIDE_MAX_CELLS");
 
 /* Two words hold a mark for every load. */
 HULMEIDE_ASSERT(HULMEIDE_MAX_LOADS == 2 * HULMEIDE_WORD_LOADS, "HULMEIDE_WORD_LOADS");
@@ -304,12 +325,16 @@ HULMEIDE_ASSERT(offsetof(struct hulmeide_run, row_rules) == 256, "hulmeide_run.r
 HULMEIDE_ASSERT(offsetof(struct hulmeide_run, set) == 384, "hulmeide_run.set");
 HULMEIDE_ASSERT(sizeof(struct hulmeide_outcome) == 408, "hulmeide_outcome");
 HULMEIDE_ASSERT(offsetof(struct hulmeide_outcome, run) == 8, "hulmeide_outcome.run");
-HULMEIDE_ASSERT(sizeof(struct hulmeide_planner) == 1472, "hulmeide_planner");
+HULMEIDE_ASSERT(sizeof(struct hulmeide_planner) == 1480, "hulmeide_planner");
 HULMEIDE_ASSERT(offsetof(struct hulmeide_planner, loads) == 280, "hulmeide_planner.loads");
 HULMEIDE_ASSERT(offsetof(struct hulmeide_planner, budget) == 1056, "hulmeide_planner.budget");
 HULMEIDE_ASSERT(offsetof(struct hulmeide_planner, outcome) == 1064, "hulmeide_planner.outcome");
+HULMEIDE_ASSERT(offsetof(struct hulmeide_planner, filled) == 1472, "hulmeide_planner.filled");
 HULMEIDE_ASSERT(sizeof(struct hulmeide_reply) == 16, "hulmeide_reply");
 HULMEIDE_ASSERT(offsetof(struct hulmeide_reply, count) == 8, "hulmeide_reply.count");
+HULMEIDE_ASSERT(sizeof(struct hulmeide_portion_reply) == 16, "hulmeide_portion_reply");
+HULMEIDE_ASSERT(offsetof(struct hulmeide_portion_reply, filled) == 4, "hulmeide_portion_reply.filled");
+HULMEIDE_ASSERT(offsetof(struct hulmeide_portion_reply, count) == 8, "hulmeide_portion_reply.count");
 HULMEIDE_ASSERT(sizeof(struct hulmeide_part) == 16, "hulmeide_part");
 HULMEIDE_ASSERT(offsetof(struct hulmeide_part, count) == 8, "hulmeide_part.count");
 
@@ -318,7 +343,7 @@ HULMEIDE_ASSERT(offsetof(struct hulmeide_part, count) == 8, "hulmeide_part.count
 /* The version of the archive. Compare it with HULMEIDE_VERSION before anything else is called. */
 uint32_t hulmeide_version(void);
 
-/* Makes the planner fresh, whatever it held: no book, no rules, no loads, budget 0, and no current plan. */
+/* Makes the planner fresh, whatever it held: no book, no rules, no loads, budget 0, no current plan, and no cell filled. */
 void hulmeide_fresh(struct hulmeide_planner *planner);
 
 /*
@@ -339,6 +364,33 @@ void hulmeide_fresh(struct hulmeide_planner *planner);
  */
 struct hulmeide_reply hulmeide_call(struct hulmeide_planner *planner, const uint8_t *line, size_t line_length, uint8_t *out,
                                     size_t out_length, size_t place, uint32_t *work, size_t work_length);
+
+/*
+ * Plans by portions, for a main loop that a whole plan would hold too long. While cells of the plan are open, a call fills the next `most` of
+ * them, 1 to HULMEIDE_MAX_PORTION, or those that are left where they are fewer, and returns 0, how many it filled, and 0 bytes: nothing is
+ * written. The call after the last cell fills none and gives the answer: number, count and bytes are those that `plan` would give,
+ * HULMEIDE_NONE_FITS with "no,9" among them. So a reply with cells filled says: call again. With no book there are no cells, and the first call
+ * gives the answer.
+ *
+ * A call changes no cell of the work but those it fills, from cell number `filled` of the planner on; the answer leaves 0 in all cells of the
+ * plan, and starts the filling over. An accepted change starts it over too, and nothing else: no other line and no refusal. No table changes. The
+ * answer is not stored, and what is stored stays: `last` and a drawing show what `plan` found.
+ *
+ * Each cell holds the best of its branch or row with an allowance, as worth x 512 + 512 - power, or 0 where nothing is allowed. They stand in the
+ * work from its start: loads from the last to load 1, of each its states and then its stages, of each the allowances from 0 to the budget. The
+ * cell of a load and a stage is for the row from that load onward; load 1 is a row of itself.
+ *
+ * HULMEIDE_TURNED_AWAY, HULMEIDE_NO_LOADS, HULMEIDE_OUT_OF_RANGE for `most` and HULMEIDE_FEW_CELLS, tested in this order and on the answering call
+ * too, fill nothing and write nothing; planner, output and work are as they were. HULMEIDE_RUN_BYTES must be free on every call, and the work has
+ * the cells of the whole plan.
+ *
+ * What the caller owes so that cells and answer are right: only these functions change the planner, from hulmeide_fresh on; and each portion gets
+ * the work as the last one left it, but the first of a filling, which takes any. `plan` and `need` leave 0 in the work that they are lent, so lend
+ * them other work while a filling is open. Where that was not kept, the calls still end and do nothing undefined, but what they fill and answer
+ * may be anything.
+ */
+struct hulmeide_portion_reply hulmeide_portion(struct hulmeide_planner *planner, size_t most, uint8_t *out, size_t out_length, size_t place,
+                                               uint32_t *work, size_t work_length);
 
 /*
  * Are these numbers a run? They are three for each load in load order: its state, its load rule, which is of the load's kind, and its row rule
@@ -376,7 +428,7 @@ size_t hulmeide_stretch_row(const uint8_t *glass, size_t glass_length, const uin
 
 /* ---- What callers would write ---- */
 
-/* The cells that a plan of this planner needs, as it stands, and `need` too. */
+/* The cells that a plan of this planner needs, as it stands, whole or by portions, and `need` too. */
 static inline size_t hulmeide_cells_needed(const struct hulmeide_planner *planner)
 {
     return HULMEIDE_CELLS_NEEDED(planner->loads.count, planner->book.states, planner->book.stages, planner->budget);
