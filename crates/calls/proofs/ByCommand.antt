@@ -10,26 +10,26 @@ use lib.ListN.{length}
 use Rattle.lists.specs.Tests.{pick}
 use Rattle.lines.specs.declared.Command.{Command}
 use Rattle.lines.specs.declared.Command.TheVariants as line
-use Rattle.lines.specs.Grammar.{parse, lineCommand}
-use Rattle.lines.specs.Saved.{saveBytes}
-use Rattle.lines.specs.Answers.{freeBytes}
+use Rattle.lines.specs.Grammar.{parse, line_command}
+use Rattle.lines.specs.Saved.{save_bytes}
+use Rattle.lines.specs.Answers.{free_bytes}
 use Rattle.lines.proofs.Sizes.{numbers-short}
 use Rattle.tables.specs.Refusals as no
 use Rattle.meaning.specs.Cells.{cells_of}
 use Rattle.calls.specs.State.{State, StoredState, fresh, state_of, keeps}
-use Rattle.calls.specs.Rows.{Cause, row, lineRow, bytes_of, causesOf, isChange, isShow, cells_for}
-use Rattle.calls.specs.Causes.{Applies, here, there, allCauses}
+use Rattle.calls.specs.Rows.{Cause, row, line_row, bytes_of, causes_of, is_change, is_show, cells_for}
+use Rattle.calls.specs.Causes.{Applies, here, there, all_causes}
 use Rattle.calls.specs.Printing.{zeroed, searched}
-use Rattle.calls.specs.Calls.{Call, Done, rowFor}
+use Rattle.calls.specs.Calls.{Call, Done, row_for}
 use Rattle.calls.specs.Demand1 as demand
-use Rattle.calls.specs.Demand1.{bytesFor, bytesNeeded, onlyShows, looks, Demand1, ByCommand}
+use Rattle.calls.specs.Demand1.{bytes_for, bytes_needed, only_shows, looks, Demand1, ByCommand}
 use Rattle.calls.proofs.Numbers.{Ascending, rising, lowest-least}
 use Rattle.calls.proofs.Answers.{row_is}
 use Rattle.calls.proofs.Rows.{line-right}
 
 -- ---- the bytes that a line needs
 -- they go by the command, and so by the line, alone
-pub row-bytes : (s : State) (c : Command) → bytes_of (row s c) ≡ bytesFor c
+pub row-bytes : (s : State) (c : Command) → bytes_of (row s c) ≡ bytes_for c
 unfolding row
 row-bytes s (line.Change x) = refl
 row-bytes s line.Plan = refl
@@ -41,7 +41,7 @@ row-bytes s line.Broken = refl
 row-bytes s line.TooLong = refl
 
 -- so does whether it only shows
-row_shows : (s : State) (c : Command) → isShow (row s c) ≡ onlyShows c
+row_shows : (s : State) (c : Command) → is_show (row s c) ≡ only_shows c
 unfolding row
 row_shows s (line.Change x) = refl
 row_shows s line.Plan = refl
@@ -64,12 +64,12 @@ row-cells s (line.Need v) = refl
 row-cells s line.Broken = refl
 row-cells s line.TooLong = refl
 
-pub bytes-needed : (s : State) (l : List ℕ) → bytes_of (lineRow s l) ≡ bytesNeeded l
-unfolding lineRow bytesNeeded
-bytes-needed s l = row-bytes s (lineCommand l)
+pub bytes-needed : (s : State) (l : List ℕ) → bytes_of (line_row s l) ≡ bytes_needed l
+unfolding line_row bytes_needed
+bytes-needed s l = row-bytes s (line_command l)
 
 -- "1,024 bytes must be free from there"; "saves 4,096, and the line program lends 4,096"
-pub needed-range : (l : List ℕ) → (freeBytes ≤ bytesNeeded l) × (bytesNeeded l ≤ saveBytes)
+pub needed-range : (l : List ℕ) → (free_bytes ≤ bytes_needed l) × (bytes_needed l ≤ save_bytes)
 needed-range l = let x = line-right (fresh 0) 0 l in rw (← (bytes-needed (fresh 0) l)) (x.room, x.most)
 
 -- no number of a row is 1
@@ -80,31 +80,31 @@ module _ (p : StoredState) (c : Call) (d : Done) (x : Demand1 p c d) where
   abbrev s : State
   s = state_of p
 
-  room-needed : bytes_of (rowFor s c) ≡ bytesNeeded c.line
+  room-needed : bytes_of (row_for s c) ≡ bytes_needed c.line
   room-needed = bytes-needed s c.line
 
   -- ---- refusal 1
-  one-cause : Applies no.unusable (demand.causesOf p c) → (keeps p ≡ false) ⊎ (length c.output < c.place + bytesNeeded c.line)
-  unfolding allCauses
+  one-cause : Applies no.unusable (demand.causes_of p c) → (keeps p ≡ false) ⊎ (length c.output < c.place + bytes_needed c.line)
+  unfolding all_causes
   one-cause (here e h) = inl (not-true (keeps p) h)
-  one-cause (there (here e h)) = inr (rw (← room-needed) (ltb-true (length c.output) (c.place + bytes_of (rowFor s c)) h))
-  one-cause (there (there q)) = absurd (not-of-row (causesOf (length c.work) (rowFor s c)) (line-right s (length c.work) c.line).ordered q)
+  one-cause (there (here e h)) = inr (rw (← room-needed) (ltb-true (length c.output) (c.place + bytes_of (row_for s c)) h))
+  one-cause (there (there q)) = absurd (not-of-row (causes_of (length c.work) (row_for s c)) (line-right s (length c.work) c.line).ordered q)
 
-  one-given : Applies no.unusable (demand.causesOf p c) → d.reply.number ≡ no.unusable
+  one-given : Applies no.unusable (demand.causes_of p c) → d.reply.number ≡ no.unusable
   one-given q = omega (arith, x.number.least no.unusable q)
 
-  too_few : length c.output < c.place + bytesNeeded c.line → Applies no.unusable (demand.causesOf p c)
-  unfolding allCauses
-  too_few l = there (here refl (lt-ltb (length c.output) (c.place + bytes_of (rowFor s c)) (rw room-needed l)))
+  too_few : length c.output < c.place + bytes_needed c.line → Applies no.unusable (demand.causes_of p c)
+  unfolding all_causes
+  too_few l = there (here refl (lt-ltb (length c.output) (c.place + bytes_of (row_for s c)) (rw room-needed l)))
 
   -- ---- the work
   -- the cells that its row works in
   abbrev looked : Bool
-  looked = looks (lineCommand c.line)
+  looked = looks (line_command c.line)
 
-  cells_are : (b : Bool) → looked ≡ b → cells_for (rowFor s c) ≡ pick b (cells_of s.tables) 0
-  unfolding lineRow
-  cells_are b e = row-cells s (lineCommand c.line) ∙ rw e
+  cells_are : (b : Bool) → looked ≡ b → cells_for (row_for s c) ≡ pick b (cells_of s.tables) 0
+  unfolding line_row
+  cells_are b e = row-cells s (line_command c.line) ∙ rw e
 
   cleared : looked ≡ true → searched d.reply.number ≡ true → d.reply.work ≡ zeroed (cells_of s.tables) c.work
   cleared q h = x.cleared h ∙ ap (λ (n : ℕ). zeroed n c.work) (cells_are true q)
@@ -121,11 +121,11 @@ module _ (p : StoredState) (c : Call) (d : Done) (x : Demand1 p c d) where
   -- ---- what the planner keeps
   plans : parse c.line ≡ line.Plan → d.state.tables ≡ p.tables
   unfolding row
-  plans q = x.still (ap isChange (row_is s c line.Plan q (numbers-short c.line line.Plan q refl)))
+  plans q = x.still (ap is_change (row_is s c line.Plan q (numbers-short c.line line.Plan q refl)))
 
-  shown : onlyShows (lineCommand c.line) ≡ true → d.state ≡ p
-  unfolding lineRow
-  shown e = x.shows (row_shows s (lineCommand c.line) ∙ e)
+  shown : only_shows (line_command c.line) ≡ true → d.state ≡ p
+  unfolding line_row
+  shown e = x.shows (row_shows s (line_command c.line) ∙ e)
 
   pub by-command : ByCommand p c d
   by-command = record {

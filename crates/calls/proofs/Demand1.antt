@@ -12,11 +12,11 @@ use lib.Seq.{sets, sets-eq, take_at, drop_at}
 use Rattle.lines.specs.Answers.{refused}
 use Rattle.tables.specs.Refusals as no
 use Rattle.tables.specs.Stored.{stored}
-use Rattle.calls.specs.State.{State, StoredState, storedState, state_of, keeps, Within, Sized}
+use Rattle.calls.specs.State.{State, StoredState, stored_state, state_of, keeps, Within, Sized}
 use Rattle.calls.specs.Rows.{Cause, ◌if◌, Row, bytes_of}
-use Rattle.calls.specs.Causes.{lowest, allCauses, refusal}
+use Rattle.calls.specs.Causes.{lowest, all_causes, refusal}
 use Rattle.calls.specs.Printing.{text}
-use Rattle.calls.specs.Calls.{Call, Reply, written_by, rowFor, numberFor, reply, answer, turnedAway, handled, calledIf, called}
+use Rattle.calls.specs.Calls.{Call, Reply, written_by, row_for, number_for, reply, answer, turned_away, handled, called_if, called}
 use Rattle.calls.specs.Demand1.{Demand1}
 use Rattle.calls.proofs.State.{state-stored, keeps-stored, keeps-kept, kept-within, kept-stored}
 use Rattle.calls.proofs.Rows.{Right, line-right}
@@ -27,7 +27,7 @@ use Rattle.calls.proofs.Keeps.{answer-fits}
 use Rattle.calls.proofs.Printed.{written_is}
 
 -- ---- a planner that breaks a limit
-broken : (p : StoredState) (c : Call) → keeps p ≡ false → Demand1 p c (record { state = p; reply = turnedAway c })
+broken : (p : StoredState) (c : Call) → keeps p ≡ false → Demand1 p c (record { state = p; reply = turned_away c })
 unfolding lowest
 broken p c e =
     record {
@@ -73,10 +73,10 @@ refusal-text (suc (suc n)) r h = refl
 
 module _ (s : State) (h : Within s) (c : Call) where
   abbrev r : Row
-  r = rowFor s c
+  r = row_for s c
 
   abbrev n : ℕ
-  n = numberFor s c
+  n = number_for s c
 
   abbrev bs : List ℕ
   bs = text n r
@@ -84,13 +84,13 @@ module _ (s : State) (h : Within s) (c : Call) where
   x : Right s (length c.work) r
   x = line-right s (length c.work) c.line
 
-  one : n ≡ no.unusable → answer s c ≡ turnedAway c
+  one : n ≡ no.unusable → answer s c ≡ turned_away c
   unfolding text
   one e = answer_at s c no.unusable r e refl ∙ ap (reply c no.unusable []) (unsearched no.unusable r c.work refl)
 
   -- a call that is not turned away has room for its answer
   room : (n ≡ no.unusable → ⊥) → c.place + length bs ≤ length c.output
-  unfolding refusal allCauses answer
+  unfolding refusal all_causes answer
   room d = omega (arith, ltb-false (length c.output) (c.place + bytes_of r) (not-one _ _ d), answer-fits s h c)
 
   one-or-room : (n ≡ no.unusable) ⊎ (c.place + length bs ≤ length c.output)
@@ -101,23 +101,23 @@ module _ (s : State) (h : Within s) (c : Call) where
       go false e = inr (room (eqb-false n no.unusable e))
 
   -- what it wrote is its text
-  pub wrote : written_by c (answer s c) ≡ text (numberFor s c) (rowFor s c)
+  pub wrote : written_by c (answer s c) ≡ text (number_for s c) (row_for s c)
   unfolding answer text
   wrote = ⊎_elim nothing (written_is c.output bs c.place) one-or-room
     where
       nothing : n ≡ no.unusable → written_by c (answer s c) ≡ text n r
       nothing e = subst (λ (b : List ℕ). take (length b) (drop c.place (sets c.output c.place b)) ≡ b) (sym (ap (λ (i : ℕ). text i r) e)) refl
 
-  held : Demand1 (storedState s) c (handled s c)
+  held : Demand1 (stored_state s) c (handled s c)
   unfolding answer refusal lowest
   held =
       record {
         number = rw (keeps-stored s h, state-stored s h) (causes-lowest x false (length c.output) c.place);
         most = refusal-most x (length c.output) c.place;
         tables = λ l. ap stored (refused-tables s c l);
-        state = λ l e. ap storedState (refused-keeps s c l e);
+        state = λ l e. ap stored_state (refused-keeps s c l e);
         still = λ e. ap (λ (x : State). stored x.tables) (after-number s c) ∙ ap stored (still-tables s n r (rw (state-stored s h) at e));
-        shows = λ e. ap storedState (shown-keeps s c (rw (state-stored s h) at e));
+        shows = λ e. ap stored_state (shown-keeps s c (rw (state-stored s h) at e));
         one = one;
         prints = λ l. written_is c.output bs c.place (room (λ e. absurd (omega (arith, l, e)))) ∙ refusal-text n r l;
         fits = rw (state-stored s h) (answer-fits s h c);
@@ -134,8 +134,8 @@ unfolding called
 demand1 p len c = go (keeps p) refl
   where
     go : (b : Bool) → keeps p ≡ b → Demand1 p c (called p c)
-    go false e = subst (λ (b : Bool). Demand1 p c (calledIf b p c)) (sym e) (broken p c e)
+    go false e = subst (λ (b : Bool). Demand1 p c (called_if b p c)) (sym e) (broken p c e)
     go true e =
         let h = keeps-kept p len e in
         let s = state_of p in
-        subst (λ (x : StoredState). Demand1 x c (called x c)) (sym (kept-stored p h)) (subst (Demand1 (storedState s) c) (sym (called-stored s (kept-within p h) c)) (held s (kept-within p h) c))
+        subst (λ (x : StoredState). Demand1 x c (called x c)) (sym (kept-stored p h)) (subst (Demand1 (stored_state s) c) (sym (called-stored s (kept-within p h) c)) (held s (kept-within p h) c))

@@ -11,45 +11,45 @@ use lib.ListN.{length, get_or}
 use Rattle.lists.specs.Each.{none, more}
 use Rattle.lists.proofs.Each.{each_all}
 use Rattle.lists.specs.Argmax.{guard}
-use Rattle.lines.specs.Answers.{runBytes, Ranged, AllRanged}
+use Rattle.lines.specs.Answers.{run_bytes, Ranged, AllRanged}
 use Rattle.lines.proofs.Answers.{plan-fits, check-fits}
 use Rattle.tables.specs.declared.load.Load.{Load}
-use Rattle.tables.specs.Tables.{Tables, noLoad}
+use Rattle.tables.specs.Tables.{Tables, no_load}
 use Rattle.tables.specs.declared.rule.Sort.TheVariants as sort
-use Rattle.tables.specs.Limits.{maxPower, maxWorth, mostPlaces, Limits}
+use Rattle.tables.specs.Limits.{max_power, max_worth, most_places, Limits}
 use Rattle.tables.specs.Lawful.{Lawful}
 use Rattle.tables.proofs.Lawful.{lawful}
 use Rattle.meaning.specs.Forest.{IsTree, sum}
-use Rattle.meaning.specs.Sets.{counted, power, worth, numberOn}
-use Rattle.meaning.specs.Best.{bestPlan}
+use Rattle.meaning.specs.Sets.{counted, power, worth, number_on}
+use Rattle.meaning.specs.Best.{best_plan}
 use Rattle.tables.specs.declared.entry.Entry.{Entry}
-use Rattle.meaning.specs.Choice.{noEntry, find, inOrder, check, planEntries, checkEntries, shownSet}
-use Rattle.meaning.specs.Need.{noneFits}
+use Rattle.meaning.specs.Choice.{no_entry, find, in_order, check, plan_entries, check_entries, shown_set}
+use Rattle.meaning.specs.Need.{none_fits}
 use Rattle.meaning.proofs.Ranges.{Bounded, check-bounded}
 use Rattle.meaning.proofs.Entries.{Listed, check-listed}
 use Rattle.meaning.proofs.InOrder.{listed-length}
 use Rattle.meaning.proofs.Ordered.{loads-ordered}
-use Rattle.runs.specs.Outcome.{planned, range_of, outcomeIn}
+use Rattle.runs.specs.Outcome.{planned, range_of, outcome_in}
 use Rattle.runs.proofs.Entries.{number_at}
 use Rattle.runs.proofs.Stored as outcomes
 use Rattle.runs.proofs.Stored.{LinesIn, lines-in, named_in}
-use Rattle.calls.specs.Rows.{showingPlan, showingCheck, shownText}
+use Rattle.calls.specs.Rows.{showing_plan, showing_check, shown_text}
 use Rattle.calls.proofs.Answers.{positive}
 
 -- ---- load lines
 ranged : (es : List Entry) → ((i : ℕ) → Bounded (find es i)) → (k n : ℕ) → ((i : ℕ) → k ≤ i → i < k + n → (find es i).number < 1000)
-    → AllRanged (inOrder es k n)
-unfolding inOrder
+    → AllRanged (in_order es k n)
+unfolding in_order
 ranged es b k zero h = none
 ranged es b k (suc n) h =
     more (record { number = h k (omega arith) (omega arith); mark = (b k).mark; state = (b k).state; rule = (b k).rule; row = (b k).row })
     (ranged es b (suc k) n (λ i c d. h i (omega arith) (omega arith)))
 
-all-ranged : (es : List Entry) (n : ℕ) → n < 1000 → Listed es n → ((i : ℕ) → Bounded (find es i)) → AllRanged (inOrder es 1 n)
+all-ranged : (es : List Entry) (n : ℕ) → n < 1000 → Listed es n → ((i : ℕ) → Bounded (find es i)) → AllRanged (in_order es 1 n)
 all-ranged es n few l b = ranged es b 1 n (λ i c d. omega (arith, l.number i c (omega arith)))
 
 -- ---- the figures of a set
-sum-most : (w : ℕ → Load → ℕ) (m : ℕ) (ls : List Load) (k : ℕ) → ((j : ℕ) → j < length ls → (n : ℕ) → w n (get_or ls j noLoad) ≤ m) → sum w ls k ≤ m * length ls
+sum-most : (w : ℕ → Load → ℕ) (m : ℕ) (ls : List Load) (k : ℕ) → ((j : ℕ) → j < length ls → (n : ℕ) → w n (get_or ls j no_load) ≤ m) → sum w ls k ≤ m * length ls
 unfolding sum
 sum-most w m [] k f = zero-le
 sum-most w m (l ∷ ls) k f = omega (arith, mul-suc m (length ls), f 0 (omega arith) k, sum-most w m ls (suc k) (λ j b. f (suc j) (omega arith)))
@@ -64,15 +64,15 @@ one-most false = lit≤ tt
 
 module _ (t : Tables) (h : Lawful t) (σ : ℕ → ℕ) where
   all-power : power t σ < 1000000
-  all-power = omega (arith, sum-most (λ k l. counted (σ k) l.power) maxPower t.loads 1 (λ j l n. counted-most (σ n) _ maxPower (h.load j l).power))
+  all-power = omega (arith, sum-most (λ k l. counted (σ k) l.power) max_power t.loads 1 (λ j l n. counted-most (σ n) _ max_power (h.load j l).power))
 
-  pub worth-most : worth t σ ≤ maxWorth * length t.loads
-  worth-most = sum-most (λ k l. counted (σ k) l.worth) maxWorth t.loads 1 (λ j l n. counted-most (σ n) _ maxWorth (h.load j l).worth)
+  pub worth-most : worth t σ ≤ max_worth * length t.loads
+  worth-most = sum-most (λ k l. counted (σ k) l.worth) max_worth t.loads 1 (λ j l n. counted-most (σ n) _ max_worth (h.load j l).worth)
 
   all-worth : worth t σ < 1000000
   all-worth = omega (arith, worth-most)
 
-  all-on : numberOn t σ < 1000
+  all-on : number_on t σ < 1000
   all-on = omega (arith, sum-most (λ k l. guard (eqb (σ k) 1) 1) 1 t.loads 1 (λ j l n. one-most (eqb (σ n) 1)))
 
 -- ---- answers
@@ -83,22 +83,22 @@ module _ (t : Tables) (h : Limits t) where
   listed : IsTree t.loads
   listed = loads-ordered t.loads w.load
 
-  few : length t.loads ≤ mostPlaces
+  few : length t.loads ≤ most_places
   few = omega (arith, w.loads, w.places)
 
-  pub check-ranged : (σ : ℕ → ℕ) → AllRanged (checkEntries t σ)
-  unfolding checkEntries
+  pub check-ranged : (σ : ℕ → ℕ) → AllRanged (check_entries t σ)
+  unfolding check_entries
   check-ranged σ = all-ranged (check t σ) (length t.loads) (omega (arith, few)) (check-listed t listed σ) (check-bounded t w σ)
 
-  check-few : (σ : ℕ → ℕ) → 14 * length (checkEntries t σ) + 23 ≤ runBytes
-  unfolding checkEntries
+  check-few : (σ : ℕ → ℕ) → 14 * length (check_entries t σ) + 23 ≤ run_bytes
+  unfolding check_entries
   check-few σ = omega (arith, few, listed-length (check t σ) (length t.loads) (check-listed t listed σ))
 
   -- the lines of a plan that is in range
   module _ (es : List Entry) (l : LinesIn (range_of t) es) where
-    figures : (i : ℕ) → i < length es → Ranged (get_or es i noEntry)
+    figures : (i : ℕ) → i < length es → Ranged (get_or es i no_entry)
     figures i b =
-        let f = named_in (range_of t) (get_or es i noEntry) (l.figures i b) in
+        let f = named_in (range_of t) (get_or es i no_entry) (l.figures i b) in
         record {
           number = omega (arith, number_at es 1 i l.each b, l.all, few);
           mark = l.marks i b;
@@ -108,19 +108,19 @@ module _ (t : Tables) (h : Limits t) where
         }
 
     pub lines-ranged : AllRanged es
-    lines-ranged = each_all noEntry es figures
+    lines-ranged = each_all no_entry es figures
 
-    pub lines_fit : length (shownText (showingPlan t es)) ≤ runBytes
+    pub lines_fit : length (shown_text (showing_plan t es)) ≤ run_bytes
     lines_fit =
-        let σ = shownSet es in
-        plan-fits es lines-ranged (omega (arith, l.all, few)) (worth t σ) (power t σ) (numberOn t σ) (all-worth t w σ) (all-power t w σ) (all-on t w σ)
+        let σ = shown_set es in
+        plan-fits es lines-ranged (omega (arith, l.all, few)) (worth t σ) (power t σ) (number_on t σ) (all-worth t w σ) (all-power t w σ) (all-on t w σ)
 
-  pub plan-in : noneFits t ≡ false → outcomeIn (range_of t) (planned (planEntries t)) ≡ true
-  unfolding noneFits
-  plan-in e = outcomes.plan-in t h (positive (eqb-false (bestPlan t) 0 e))
+  pub plan-in : none_fits t ≡ false → outcome_in (range_of t) (planned (plan_entries t)) ≡ true
+  unfolding none_fits
+  plan-in e = outcomes.plan-in t h (positive (eqb-false (best_plan t) 0 e))
 
-  pub planned-fits : noneFits t ≡ false → length (shownText (showingPlan t (planEntries t))) ≤ runBytes
-  planned-fits e = lines_fit (planEntries t) (lines-in (range_of t) (planEntries t) (plan-in e))
+  pub planned-fits : none_fits t ≡ false → length (shown_text (showing_plan t (plan_entries t))) ≤ run_bytes
+  planned-fits e = lines_fit (plan_entries t) (lines-in (range_of t) (plan_entries t) (plan-in e))
 
-  pub checked-fits : (σ : ℕ → ℕ) → length (shownText (showingCheck (checkEntries t σ))) ≤ runBytes
-  checked-fits σ = check-fits (checkEntries t σ) (check-ranged σ) (check-few σ)
+  pub checked-fits : (σ : ℕ → ℕ) → length (shown_text (showing_check (check_entries t σ))) ≤ run_bytes
+  checked-fits σ = check-fits (check_entries t σ) (check-ranged σ) (check-few σ)

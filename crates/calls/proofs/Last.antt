@@ -12,30 +12,30 @@ use Rattle.lines.specs.declared.SaveForm.{SaveForm}
 use Rattle.lines.specs.declared.Command.{Command}
 use Rattle.lines.specs.declared.Command.TheVariants as line
 use Rattle.lines.specs.Text.{same}
-use Rattle.lines.specs.Grammar.{lineCommand, line_of}
+use Rattle.lines.specs.Grammar.{line_command, line_of}
 use Rattle.lines.specs.Written.{parted}
-use Rattle.lines.specs.Saved.{saved, changesText}
-use Rattle.lines.specs.Answers.{ok, refused, planLine, needLine}
+use Rattle.lines.specs.Saved.{saved, changes_text}
+use Rattle.lines.specs.Answers.{ok, refused, plan_line, need_line}
 use Rattle.lines.proofs.Sizes.{numbers-short}
 use Rattle.tables.specs.Refusals as no
 use Rattle.tables.specs.Tables.{Tables}
-use Rattle.meaning.specs.Best.{bestPlan}
-use Rattle.meaning.specs.Choice.{planEntries}
+use Rattle.meaning.specs.Best.{best_plan}
+use Rattle.meaning.specs.Choice.{plan_entries}
 use Rattle.meaning.specs.Cells.{cells_of}
-use Rattle.meaning.specs.Need.{noneFits}
-use Rattle.runs.specs.Outcome.{Outcome, nothing, noSet, planned, found, isNothing, isNoSet, entriesOf}
+use Rattle.meaning.specs.Need.{none_fits}
+use Rattle.runs.specs.Outcome.{Outcome, nothing, no_set, planned, found, is_nothing, is_no_set, entries_of}
 use Rattle.runs.proofs.Stored.{found_none, found_some}
-use Rattle.calls.specs.State.{State, StoredState, storedState, state_of, Within, Kept}
-use Rattle.calls.specs.Rows.{◌if◌, Row, planText, showingPlan, shownText, row, lineRow, bytes_of, causesOf, isChange, isShow}
-use Rattle.calls.specs.Causes.{lowest, allCauses, refusal}
-use Rattle.calls.specs.Effects.{stateBy}
-use Rattle.calls.specs.Printing.{text, hasOutcome, workAfter}
-use Rattle.calls.specs.Calls.{Call, Reply, Exchange, written_by, rowFor, numberFor, after, reply, answer, called}
+use Rattle.calls.specs.State.{State, StoredState, stored_state, state_of, Within, Kept}
+use Rattle.calls.specs.Rows.{◌if◌, Row, plan_text, showing_plan, shown_text, row, line_row, bytes_of, causes_of, is_change, is_show}
+use Rattle.calls.specs.Causes.{lowest, all_causes, refusal}
+use Rattle.calls.specs.Effects.{state_by}
+use Rattle.calls.specs.Printing.{text, has_outcome, work_after}
+use Rattle.calls.specs.Calls.{Call, Reply, Exchange, written_by, row_for, number_for, after, reply, answer, called}
 use Rattle.calls.specs.Demand2.{Enough, PlanCall}
-use Rattle.calls.specs.Last.{printedOk, asksPlan, currentAfter, keptOutcome, LastCall, shownAs, StoredShown, LastRight}
+use Rattle.calls.specs.Last.{printed_ok, asks_plan, current_after, kept_outcome, LastCall, shown_as, StoredShown, LastRight}
 use Rattle.calls.proofs.State.{kept-stored}
 use Rattle.calls.proofs.Numbers.{passed}
-use Rattle.calls.proofs.Answers.{positive, refusedIf, roomy, row_is, answer_at, called-kept}
+use Rattle.calls.proofs.Answers.{positive, refused_if, roomy, row_is, answer_at, called-kept}
 use Rattle.calls.proofs.Work.{clash, no_cells}
 use Rattle.calls.proofs.Refusals.{after-number, still-state, shown-keeps}
 use Rattle.calls.proofs.Keeps.{none-of-row}
@@ -49,13 +49,13 @@ not-ok zero r = refl
 not-ok (suc n) r = refl
 
 -- a save begins with `clear`
-save-not : (f : SaveForm) (t : Tables) → same (changesText f (saved t)) ok ≡ false
-unfolding saved changesText line_of parted same
+save-not : (f : SaveForm) (t : Tables) → same (changes_text f (saved t)) ok ≡ false
+unfolding saved changes_text line_of parted same
 save-not f t = refl
 
 -- a row prints it exactly if it is a change and its number is 0
-prints-ok : (s : State) (m : ℕ) (c : Command) (n : ℕ) → (n ≡ 0 → lowest (causesOf m (row s c)) ≡ 0) → same (text n (row s c)) ok ≡ isChange (row s c) && eqb n 0
-unfolding row text same planLine needLine lowest
+prints-ok : (s : State) (m : ℕ) (c : Command) (n : ℕ) → (n ≡ 0 → lowest (causes_of m (row s c)) ≡ 0) → same (text n (row s c)) ok ≡ is_change (row s c) && eqb n 0
+unfolding row text same plan_line need_line lowest
 prints-ok s m (line.Change c) zero e = refl
 prints-ok s m (line.Change c) (suc n) e = not-ok n (row s (line.Change c)) ∙ sym (ne_eqb (suc n) 0 (λ z. absurd (omega arith)))
 prints-ok s m line.Plan zero e = refl
@@ -75,57 +75,57 @@ prints-ok s m line.TooLong (suc n) e = not-ok n (row s line.TooLong)
 
 -- ---- a state with a current plan, or with none
 pub record Current (b : Bool) (s : State) : Type 0 where
-  pub outcome : s.outcome ≡ keptOutcome b s.tables
+  pub outcome : s.outcome ≡ kept_outcome b s.tables
   pub loads : b ≡ true → 0 < length s.tables.loads
 
 -- 9 is given only where no set fits, on loads that are there
-nine-given : (a b c : Bool) → lowest ((no.noLoads if a) ∷ (no.tooFewCells if b) ∷ (no.noneFits if c) ∷ []) ≡ no.noneFits → (a ≡ false) × (c ≡ true)
+nine-given : (a b c : Bool) → lowest ((no.no_loads if a) ∷ (no.too_few_cells if b) ∷ (no.none_fits if c) ∷ []) ≡ no.none_fits → (a ≡ false) × (c ≡ true)
 unfolding lowest
 nine-given true b c e = absurd (omega arith)
 nine-given false true c e = absurd (omega arith)
 nine-given false false true e = (refl, refl)
 nine-given false false false e = absurd (omega arith)
 
-nine-of-row : (n room place : ℕ) (r : Row) → refusal n room place r ≡ no.noneFits → lowest (causesOf n r) ≡ no.noneFits
-unfolding refusal allCauses lowest
+nine-of-row : (n room place : ℕ) (r : Row) → refusal n room place r ≡ no.none_fits → lowest (causes_of n r) ≡ no.none_fits
+unfolding refusal all_causes lowest
 nine-of-row n room place r e = go (ltb room (place + bytes_of r)) e
   where
-    go : (b : Bool) → elim b as (λ x. ℕ) [ true ↦ no.unusable | false ↦ lowest (causesOf n r) ] ≡ no.noneFits → lowest (causesOf n r) ≡ no.noneFits
+    go : (b : Bool) → elim b as (λ x. ℕ) [ true ↦ no.unusable | false ↦ lowest (causes_of n r) ] ≡ no.none_fits → lowest (causes_of n r) ≡ no.none_fits
     go true e = absurd (omega arith)
     go false e = e
 
 -- the current plan after a row, by its command and its number
-abbrev currentBy : Bool → Command → (changes : Bool) (number : ℕ) → Bool
-currentBy b c x n = pick (x && eqb n 0) false (pick (asksPlan c && hasOutcome n) true b)
+abbrev current_by : Bool → Command → (changes : Bool) (number : ℕ) → Bool
+current_by b c x n = pick (x && eqb n 0) false (pick (asks_plan c && has_outcome n) true b)
 
 module _ (b : Bool) (s : State) (h : Current b s) (m : ℕ) where
   none_left : {x : State} → x.outcome ≡ nothing → Current false x
   none_left e = record { outcome = e; loads = λ q. absurd (clash (sym q)) }
 
   -- a plan with this number
-  plan-left : (n : ℕ) → (n ≡ 0 → lowest (causesOf m (row s line.Plan)) ≡ 0) → (n ≡ no.noneFits → lowest (causesOf m (row s line.Plan)) ≡ no.noneFits)
-      → Current (pick (hasOutcome n) true b) (stateBy s n (row s line.Plan))
-  unfolding row noneFits
+  plan-left : (n : ℕ) → (n ≡ 0 → lowest (causes_of m (row s line.Plan)) ≡ 0) → (n ≡ no.none_fits → lowest (causes_of m (row s line.Plan)) ≡ no.none_fits)
+      → Current (pick (has_outcome n) true b) (state_by s n (row s line.Plan))
+  unfolding row none_fits
   plan-left zero e f =
       let t = s.tables in
-      let p = passed no.noLoads (eqb (length t.loads) 0) _ (lit< tt) (e refl) in
-      let q = passed no.tooFewCells (ltb m (cells_of t)) _ (lit< tt) p.1 in
-      let some = positive (eqb-false (bestPlan t) 0 (passed no.noneFits (eqb (bestPlan t) 0) [] (lit< tt) q.1).0) in
-      record { outcome = found_some (bestPlan t) (planEntries t) some; loads = λ _. positive (eqb-false (length t.loads) 0 p.0) }
-  plan-left (suc n) e f = rw (ne_eqb (suc n) 0 (λ z. absurd (omega arith))) (go (eqb (suc n) no.noneFits) refl)
+      let p = passed no.no_loads (eqb (length t.loads) 0) _ (lit< tt) (e refl) in
+      let q = passed no.too_few_cells (ltb m (cells_of t)) _ (lit< tt) p.1 in
+      let some = positive (eqb-false (best_plan t) 0 (passed no.none_fits (eqb (best_plan t) 0) [] (lit< tt) q.1).0) in
+      record { outcome = found_some (best_plan t) (plan_entries t) some; loads = λ _. positive (eqb-false (length t.loads) 0 p.0) }
+  plan-left (suc n) e f = rw (ne_eqb (suc n) 0 (λ z. absurd (omega arith))) (go (eqb (suc n) no.none_fits) refl)
     where
-      go : (i : Bool) → eqb (suc n) no.noneFits ≡ i → Current (pick i true b) (record { tables = s.tables; outcome = pick i noSet s.outcome; filled = s.filled })
+      go : (i : Bool) → eqb (suc n) no.none_fits ≡ i → Current (pick i true b) (record { tables = s.tables; outcome = pick i no_set s.outcome; filled = s.filled })
       go true q =
-          let g = nine-given _ _ _ (f (eqb-true (suc n) no.noneFits q)) in
-          record { outcome = found_none (bestPlan s.tables) (planEntries s.tables) (eqb-true (bestPlan s.tables) 0 g.1); loads = λ _. positive (eqb-false (length s.tables.loads) 0 g.0) }
+          let g = nine-given _ _ _ (f (eqb-true (suc n) no.none_fits q)) in
+          record { outcome = found_none (best_plan s.tables) (plan_entries s.tables) (eqb-true (best_plan s.tables) 0 g.1); loads = λ _. positive (eqb-false (length s.tables.loads) 0 g.0) }
       go false q = h
 
   -- a row that leaves the state
-  shown-left : (n : ℕ) (r : Row) → isShow r ≡ true → Current b (stateBy s n r)
+  shown-left : (n : ℕ) (r : Row) → is_show r ≡ true → Current b (state_by s n r)
   shown-left n r e = subst (Current b) (sym (still-state s n r e)) h
 
-  row-left : (c : Command) (n : ℕ) → (n ≡ 0 → lowest (causesOf m (row s c)) ≡ 0) → (n ≡ no.noneFits → lowest (causesOf m (row s c)) ≡ no.noneFits)
-      → Current (currentBy b c (isChange (row s c)) n) (stateBy s n (row s c))
+  row-left : (c : Command) (n : ℕ) → (n ≡ 0 → lowest (causes_of m (row s c)) ≡ 0) → (n ≡ no.none_fits → lowest (causes_of m (row s c)) ≡ no.none_fits)
+      → Current (current_by b c (is_change (row s c)) n) (state_by s n (row s c))
   unfolding row
   row-left (line.Change c) zero e f = none_left refl
   row-left (line.Change c) (suc n) e f = rw (ne_eqb (suc n) 0 (λ z. absurd (omega arith))) h
@@ -142,44 +142,44 @@ module _ (s : State) (c : Call) (k : LastCall c) where
   abbrev r : Row
   r = row s line.Last
 
-  last_row : rowFor s c ≡ r
+  last_row : row_for s c ≡ r
   last_row = row_is s c line.Last k.line (numbers-short c.line line.Last k.line refl)
 
-  last-causes : numberFor s c ≡ lowest ((no.noneFits if isNoSet s.outcome) ∷ (no.noPlan if isNothing s.outcome) ∷ [])
+  last-causes : number_for s c ≡ lowest ((no.none_fits if is_no_set s.outcome) ∷ (no.no_plan if is_nothing s.outcome) ∷ [])
   unfolding row
   last-causes = ap (refusal (length c.work) (length c.output) c.place) last_row ∙ roomy (length c.work) (length c.output) c.place r k.free
 
   -- with this outcome
-  last-number : (o : Outcome) → s.outcome ≡ o → numberFor s c ≡ lowest ((no.noneFits if isNoSet o) ∷ (no.noPlan if isNothing o) ∷ [])
-  last-number o e = last-causes ∙ ap (λ (o : Outcome). lowest ((no.noneFits if isNoSet o) ∷ (no.noPlan if isNothing o) ∷ [])) e
+  last-number : (o : Outcome) → s.outcome ≡ o → number_for s c ≡ lowest ((no.none_fits if is_no_set o) ∷ (no.no_plan if is_nothing o) ∷ [])
+  last-number o e = last-causes ∙ ap (λ (o : Outcome). lowest ((no.none_fits if is_no_set o) ∷ (no.no_plan if is_nothing o) ∷ [])) e
 
   -- it works in no cells, and leaves the state
-  last-work : (n : ℕ) → workAfter n r c.work ≡ c.work
+  last-work : (n : ℕ) → work_after n r c.work ≡ c.work
   unfolding row
   last-work n = no_cells n r c.work refl
 
   last-after : after s c ≡ s
   unfolding row
-  last-after = shown-keeps s c (ap isShow last_row)
+  last-after = shown-keeps s c (ap is_show last_row)
 
   -- it shows what is stored
-  last-shown : answer s c ≡ shownAs s.tables s.outcome c
-  unfolding text row lowest planText
+  last-shown : answer s c ≡ shown_as s.tables s.outcome c
+  unfolding text row lowest plan_text
   last-shown = go s.outcome refl
     where
-      go : (o : Outcome) → s.outcome ≡ o → answer s c ≡ shownAs s.tables o c
-      go nothing e = answer_at s c no.noPlan r (last-number nothing e) last_row ∙ ap (reply c no.noPlan (refused no.noPlan)) (last-work no.noPlan)
-      go noSet e = answer_at s c no.noneFits r (last-number noSet e) last_row ∙ ap (reply c no.noneFits (refused no.noneFits)) (last-work no.noneFits)
+      go : (o : Outcome) → s.outcome ≡ o → answer s c ≡ shown_as s.tables o c
+      go nothing e = answer_at s c no.no_plan r (last-number nothing e) last_row ∙ ap (reply c no.no_plan (refused no.no_plan)) (last-work no.no_plan)
+      go no_set e = answer_at s c no.none_fits r (last-number no_set e) last_row ∙ ap (reply c no.none_fits (refused no.none_fits)) (last-work no.none_fits)
       go (planned es) e =
           answer_at s c 0 r (last-number (planned es) e) last_row ∙ ap (reply c 0 (text 0 r)) (last-work 0)
-          ∙ ap (λ (o : Outcome). reply c 0 (shownText (showingPlan s.tables (entriesOf o))) c.work) e
+          ∙ ap (λ (o : Outcome). reply c 0 (shown_text (showing_plan s.tables (entries_of o))) c.work) e
 
 -- on every planner that keeps the limits
 pub last_stored : {n : ℕ} (p : StoredState) → Kept n p → (c : Call) → LastCall c → StoredShown p c (called p c)
 last_stored p h c k =
     let s = state_of p in
     let shown = last-shown s c k in
-    let left = ap storedState (last-after s c k) ∙ sym (kept-stored p h) in
+    let left = ap stored_state (last-after s c k) ∙ sym (kept-stored p h) in
     called-kept p h c ∙ (λ i. record { state = left i; reply = shown i })
 
 -- ---- a call
@@ -188,86 +188,86 @@ module _ (s : State) (h : Within s) (x : Exchange) (is : x.done.reply ≡ answer
   c = x.call
 
   -- its number, and its row by its command
-  number_is : x.done.reply.number ≡ numberFor s c
+  number_is : x.done.reply.number ≡ number_for s c
   unfolding answer
   number_is = ap (λ (r : Reply). r.number) is
 
-  pub change-is : printedOk x ≡ isChange (rowFor s c) && eqb (numberFor s c) 0
-  unfolding lineRow
+  pub change-is : printed_ok x ≡ is_change (row_for s c) && eqb (number_for s c) 0
+  unfolding line_row
   change-is =
       ap (λ (r : Reply). same (written_by c r) ok) is ∙ ap (λ (b : List ℕ). same b ok) (wrote s h c)
-      ∙ prints-ok s (length c.work) (lineCommand c.line) (numberFor s c) (none-of-row (length c.work) (length c.output) c.place (rowFor s c))
+      ∙ prints-ok s (length c.work) (line_command c.line) (number_for s c) (none-of-row (length c.work) (length c.output) c.place (row_for s c))
 
   -- is there a current plan after it?
-  current-is : (b : Bool) → currentAfter b x ≡ currentBy b (lineCommand c.line) (isChange (rowFor s c)) (numberFor s c)
+  current-is : (b : Bool) → current_after b x ≡ current_by b (line_command c.line) (is_change (row_for s c)) (number_for s c)
   current-is b = rw (change-is, number_is)
 
-  pub current-after : (b : Bool) → Current b s → Current (currentAfter b x) (after s c)
-  unfolding lineRow
+  pub current-after : (b : Bool) → Current b s → Current (current_after b x) (after s c)
+  unfolding line_row
   current-after b k =
       let m = length c.work in
-      let n = numberFor s c in
-      let left = row-left b s k m (lineCommand c.line) n (none-of-row m (length c.output) c.place (rowFor s c)) (nine-of-row m (length c.output) c.place (rowFor s c)) in
-      subst (λ (y : State). Current (currentAfter b x) y) (sym (after-number s c)) (subst (λ (i : Bool). Current i (stateBy s n (rowFor s c))) (sym (current-is b)) left)
+      let n = number_for s c in
+      let left = row-left b s k m (line_command c.line) n (none-of-row m (length c.output) c.place (row_for s c)) (nine-of-row m (length c.output) c.place (row_for s c)) in
+      subst (λ (y : State). Current (current_after b x) y) (sym (after-number s c)) (subst (λ (i : Bool). Current i (state_by s n (row_for s c))) (sym (current-is b)) left)
 
   -- ---- on `last`
   module _ (k : LastCall c) (b : Bool) (cur : Current b s) where
     -- none: 12
-    no-plan : b ≡ false → numberFor s c ≡ no.noPlan
+    no-plan : b ≡ false → number_for s c ≡ no.no_plan
     unfolding lowest
-    no-plan e = last-number s c k nothing (cur.outcome ∙ ap (λ (i : Bool). keptOutcome i s.tables) e)
+    no-plan e = last-number s c k nothing (cur.outcome ∙ ap (λ (i : Bool). kept_outcome i s.tables) e)
 
-    none-given : b ≡ false → answer s c ≡ reply c no.noPlan (refused no.noPlan) c.work
-    none-given e = last-shown s c k ∙ ap (λ (o : Outcome). shownAs s.tables o c) (cur.outcome ∙ ap (λ (i : Bool). keptOutcome i s.tables) e)
+    none-given : b ≡ false → answer s c ≡ reply c no.no_plan (refused no.no_plan) c.work
+    none-given e = last-shown s c k ∙ ap (λ (o : Outcome). shown_as s.tables o c) (cur.outcome ∙ ap (λ (i : Bool). kept_outcome i s.tables) e)
 
     -- a current plan: its number, and its text, are those of `plan`
     module _ (e : b ≡ true) where
-      same_outcome : s.outcome ≡ found (bestPlan s.tables) (planEntries s.tables)
-      same_outcome = cur.outcome ∙ ap (λ (i : Bool). keptOutcome i s.tables) e
+      same_outcome : s.outcome ≡ found (best_plan s.tables) (plan_entries s.tables)
+      same_outcome = cur.outcome ∙ ap (λ (i : Bool). kept_outcome i s.tables) e
 
-      plan-number-is : (i : Bool) → noneFits s.tables ≡ i → numberFor s c ≡ refusedIf no.noneFits i
-      unfolding noneFits lowest
-      plan-number-is true q = last-number s c k noSet (same_outcome ∙ sym (found_none (bestPlan s.tables) (planEntries s.tables) (eqb-true (bestPlan s.tables) 0 q)))
-      plan-number-is false q = last-number s c k (planned (planEntries s.tables)) (same_outcome ∙ sym (found_some (bestPlan s.tables) (planEntries s.tables) (positive (eqb-false (bestPlan s.tables) 0 q))))
+      plan-number-is : (i : Bool) → none_fits s.tables ≡ i → number_for s c ≡ refused_if no.none_fits i
+      unfolding none_fits lowest
+      plan-number-is true q = last-number s c k no_set (same_outcome ∙ sym (found_none (best_plan s.tables) (plan_entries s.tables) (eqb-true (best_plan s.tables) 0 q)))
+      plan-number-is false q = last-number s c k (planned (plan_entries s.tables)) (same_outcome ∙ sym (found_some (best_plan s.tables) (plan_entries s.tables) (positive (eqb-false (best_plan s.tables) 0 q))))
 
-      plan-text-is : (i : Bool) → noneFits s.tables ≡ i → text (refusedIf no.noneFits i) (row s line.Last) ≡ text (refusedIf no.noneFits i) (row s line.Plan)
-      unfolding noneFits text row
+      plan-text-is : (i : Bool) → none_fits s.tables ≡ i → text (refused_if no.none_fits i) (row s line.Last) ≡ text (refused_if no.none_fits i) (row s line.Plan)
+      unfolding none_fits text row
       plan-text-is true q = refl
       plan-text-is false q =
-          ap (λ (o : Outcome). shownText (showingPlan s.tables (entriesOf o)))
-          (same_outcome ∙ sym (found_some (bestPlan s.tables) (planEntries s.tables) (positive (eqb-false (bestPlan s.tables) 0 q))))
+          ap (λ (o : Outcome). shown_text (showing_plan s.tables (entries_of o)))
+          (same_outcome ∙ sym (found_some (best_plan s.tables) (plan_entries s.tables) (positive (eqb-false (best_plan s.tables) 0 q))))
 
       module _ (d : Call) (q : Enough s.tables d) where
         plan-call : PlanCall s.tables d
         plan-call = record { enough = q; loads = cur.loads e }
 
-        same_number : numberFor s c ≡ numberFor s d
-        same_number = plan-number-is (noneFits s.tables) refl ∙ sym (plan-number s d plan-call (noneFits s.tables) refl)
+        same_number : number_for s c ≡ number_for s d
+        same_number = plan-number-is (none_fits s.tables) refl ∙ sym (plan-number s d plan-call (none_fits s.tables) refl)
 
-        same_text : text (numberFor s c) (rowFor s c) ≡ text (numberFor s d) (rowFor s d)
+        same_text : text (number_for s c) (row_for s c) ≡ text (number_for s d) (row_for s d)
         same_text =
-            ap₂ text (plan-number-is (noneFits s.tables) refl) (last_row s c k) ∙ plan-text-is (noneFits s.tables) refl
-            ∙ sym (ap₂ text (plan-number s d plan-call (noneFits s.tables) refl) (plan-row s d plan-call))
+            ap₂ text (plan-number-is (none_fits s.tables) refl) (last_row s c k) ∙ plan-text-is (none_fits s.tables) refl
+            ∙ sym (ap₂ text (plan-number s d plan-call (none_fits s.tables) refl) (plan-row s d plan-call))
 
         as-plan : ((answer s c).number ≡ (answer s d).number) × ((answer s c).count ≡ (answer s d).count) × (written_by c (answer s c) ≡ written_by d (answer s d))
         unfolding answer
         as-plan = (same_number, ap length same_text, wrote s h c ∙ same_text ∙ sym (wrote s h d))
 
     -- it is 12 exactly where there is no current plan
-    twelve-none : (i : Bool) → b ≡ i → numberFor s c ≡ no.noPlan → i ≡ false
+    twelve-none : (i : Bool) → b ≡ i → number_for s c ≡ no.no_plan → i ≡ false
     twelve-none false e n = refl
-    twelve-none true e n = go (noneFits s.tables) refl
+    twelve-none true e n = go (none_fits s.tables) refl
       where
-        go : (j : Bool) → noneFits s.tables ≡ j → true ≡ false
+        go : (j : Bool) → none_fits s.tables ≡ j → true ≡ false
         go true q = absurd (omega (arith, plan-number-is e true q))
         go false q = absurd (omega (arith, plan-number-is e false q))
 
-    pub last-right : x.done.state ≡ storedState (after s c) → LastRight b s x
+    pub last-right : x.done.state ≡ stored_state (after s c) → LastRight b s x
     unfolding answer
     last-right state = record {
       shown = λ e d q. rw is (as-plan e d q);
       refusal = λ e. is ∙ none-given e;
       twelve = (λ n. twelve-none b refl (sym number_is ∙ n), λ e. number_is ∙ no-plan e);
-      work = ap (λ (y : Reply). y.work) is ∙ ap (λ (y : Row). workAfter (numberFor s c) y c.work) (last_row s c k) ∙ last-work s c k (numberFor s c);
-      planner = state ∙ ap storedState (last-after s c k);
+      work = ap (λ (y : Reply). y.work) is ∙ ap (λ (y : Row). work_after (number_for s c) y c.work) (last_row s c k) ∙ last-work s c k (number_for s c);
+      planner = state ∙ ap stored_state (last-after s c k);
     }

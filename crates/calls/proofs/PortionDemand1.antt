@@ -10,7 +10,7 @@ use native.Mathlib.Nat.{eq-zero-or-pos}
 use lib.Dec.{eqb, lit≤}
 use lib.ListN.{length, take, drop, replicate, length-replicate}
 use lib.Seq.{drop_at, drop-drop}
-use Rattle.lines.specs.Answers.{refused, runBytes}
+use Rattle.lines.specs.Answers.{refused, run_bytes}
 use Rattle.lines.proofs.Answers.{refused-fits}
 use Rattle.tables.specs.Refusals as no
 use Rattle.tables.specs.Tables.{Tables}
@@ -19,13 +19,13 @@ use Rattle.tables.specs.declared.entry.Entry.{Entry}
 use Rattle.meaning.specs.Cells.{cells_of}
 use Rattle.runs.proofs.Stored.{lines-in}
 use Rattle.runs.specs.Outcome.{range_of}
-use Rattle.calls.specs.State.{State, StoredState, storedState, state_of, keeps, Within, Kept, Sized}
-use Rattle.calls.specs.Rows.{◌if◌, planText}
+use Rattle.calls.specs.State.{State, StoredState, stored_state, state_of, keeps, Within, Kept, Sized}
+use Rattle.calls.specs.Rows.{◌if◌, plan_text}
 use Rattle.calls.specs.Causes.{lowest, Lowest}
-use Rattle.calls.specs.Printing.{zeroed, hasOutcome}
+use Rattle.calls.specs.Printing.{zeroed, has_outcome}
 use Rattle.calls.specs.Calls.{Reply, cleared}
-use Rattle.calls.specs.Portions.{PortionCall, PortionDone, planCall, portionCauses, portionNumber, openCells, portionFills, countBy, withFilled, afterPortion, silent, Fills, Shows, Answers, Portioned, portionRefused, portionedIf, Portions}
-use Rattle.calls.specs.Demand1.{portionCausesOf, portionRefusal, PortionDemand1}
+use Rattle.calls.specs.Portions.{PortionCall, PortionDone, plan_call, portion_causes, portion_number, open_cells, portion_fills, count_by, with_filled, after_portion, silent, Fills, Shows, Answers, Portioned, portion_refused, portioned_if, Portions}
+use Rattle.calls.specs.Demand1.{portion_causes_of, portion_refusal, PortionDemand1}
 use Rattle.calls.proofs.State.{keeps-kept, kept-within, kept-stored}
 use Rattle.calls.proofs.Numbers.{Rising, lowest-given, lowest-least}
 use Rattle.calls.proofs.Fits.{lines_fit}
@@ -34,18 +34,18 @@ use Rattle.calls.proofs.Demand1.{stored-before, stored-behind}
 use Rattle.calls.proofs.Portions.{Passes, passes, min-left, min-right}
 
 -- the lowest number that applies is given, each exactly in its case
-in_order : (p : StoredState) (c : PortionCall) → Rising 1 (portionCausesOf p c)
-unfolding portionCauses
+in_order : (p : StoredState) (c : PortionCall) → Rising 1 (portion_causes_of p c)
+unfolding portion_causes
 in_order p c = (lit≤ tt, (lit≤ tt, (lit≤ tt, (lit≤ tt, (lit≤ tt, tt)))))
 
-exactly : (p : StoredState) (c : PortionCall) → Lowest (portionCausesOf p c) (portionRefusal p c)
-exactly p c = record { given = lowest-given (portionCausesOf p c); least = lowest-least 1 (portionCausesOf p c) (in_order p c) }
+exactly : (p : StoredState) (c : PortionCall) → Lowest (portion_causes_of p c) (portion_refusal p c)
+exactly p c = record { given = lowest-given (portion_causes_of p c); least = lowest-least 1 (portion_causes_of p c) (in_order p c) }
 
 -- ---- refused: everything is left as it was
-refused-right : (p : StoredState) (c : PortionCall) (n : ℕ) → portionRefusal p c ≡ n → 0 < n → PortionDemand1 p c (portionRefused p c n)
+refused-right : (p : StoredState) (c : PortionCall) (n : ℕ) → portion_refusal p c ≡ n → 0 < n → PortionDemand1 p c (portion_refused p c n)
 refused-right p c n e l = record {
   lowest = exactly p c;
-  refused = λ _. ap (portionRefused p c) (sym e);
+  refused = λ _. ap (portion_refused p c) (sym e);
   passed = λ z. absurd (omega (arith, e, z, l));
   tables = refl;
   outcome = refl;
@@ -59,12 +59,12 @@ refused-right p c n e l = record {
   behind = refl;
 }
 
-broken : (p : StoredState) (c : PortionCall) → keeps p ≡ false → portionRefusal p c ≡ no.unusable
+broken : (p : StoredState) (c : PortionCall) → keeps p ≡ false → portion_refusal p c ≡ no.unusable
 unfolding lowest
 broken p c e = rw e
 
-kept-number : (p : StoredState) (c : PortionCall) → keeps p ≡ true → portionRefusal p c ≡ portionNumber (state_of p) c
-unfolding lowest portionNumber
+kept-number : (p : StoredState) (c : PortionCall) → keeps p ≡ true → portion_refusal p c ≡ portion_number (state_of p) c
+unfolding lowest portion_number
 kept-number p c e = rw e
 
 -- ---- on a planner that keeps the limits
@@ -86,8 +86,8 @@ module _ {n : ℕ} (p : StoredState) (k : Kept n p) (c : PortionCall) (d : Porti
   h : Within s
   h = kept-within p k
 
-  same-state : (m : ℕ) → portionNumber s c ≡ m → d.state ≡ storedState (withFilled s (countBy m s c))
-  same-state m q = y.state ∙ ap (λ (m : ℕ). storedState (withFilled s (countBy m s c))) q
+  same-state : (m : ℕ) → portion_number s c ≡ m → d.state ≡ stored_state (with_filled s (count_by m s c))
+  same-state m q = y.state ∙ ap (λ (m : ℕ). stored_state (with_filled s (count_by m s c))) q
 
   tables : d.state.tables ≡ p.tables
   tables = ap (λ (x : StoredState). x.tables) y.state ∙ sym (ap (λ (x : StoredState). x.tables) (kept-stored p k))
@@ -95,22 +95,22 @@ module _ {n : ℕ} (p : StoredState) (k : Kept n p) (c : PortionCall) (d : Porti
   outcome : d.state.outcome ≡ p.outcome
   outcome = ap (λ (x : StoredState). x.outcome) y.state ∙ sym (ap (λ (x : StoredState). x.outcome) (kept-stored p k))
 
-  turned : (m : ℕ) → portionNumber s c ≡ suc m → d ≡ portionRefused p c (suc m)
+  turned : (m : ℕ) → portion_number s c ≡ suc m → d ≡ portion_refused p c (suc m)
   turned m q =
       let a : d.state ≡ p = same-state (suc m) q ∙ sym (kept-stored p k) in
-      let b : d.filled ≡ 0 = y.filled ∙ ap (λ (i : ℕ). portionFills i s c) q in
+      let b : d.filled ≡ 0 = y.filled ∙ ap (λ (i : ℕ). portion_fills i s c) q in
       let f : d.reply ≡ silent c (suc m) c.work = y.refusal (rw q (omega arith)) ∙ ap (λ (i : ℕ). silent c i c.work) q in
       λ i. record { state = a i; filled = b i; reply = f i }
 
-  module _ (z : portionNumber s c ≡ 0) where
-    filled : d.filled ≡ min c.most (openCells s)
-    filled = y.filled ∙ ap (λ (i : ℕ). portionFills i s c) z
+  module _ (z : portion_number s c ≡ 0) where
+    filled : d.filled ≡ min c.most (open_cells s)
+    filled = y.filled ∙ ap (λ (i : ℕ). portion_fills i s c) z
 
-    none-refused : portionRefusal p c ≡ 0
+    none-refused : portion_refusal p c ≡ 0
     none-refused = kept-number p c e ∙ z
 
     -- cells were filled
-    module _ (o : 0 < openCells s) where
+    module _ (o : 0 < open_cells s) where
       f : Fills s.tables c s.filled (s.filled + d.filled) d.reply
       f = y.fills z o
 
@@ -118,13 +118,13 @@ module _ {n : ℕ} (p : StoredState) (k : Kept n p) (c : PortionCall) (d : Porti
       filled-right = record {
         lowest = exactly p c;
         refused = λ l. absurd (omega (arith, none-refused, l));
-        passed = λ _. ap (λ (r : Reply). hasOutcome r.number) f.silence;
+        passed = λ _. ap (λ (r : Reply). has_outcome r.number) f.silence;
         tables = tables;
         outcome = outcome;
-        most = omega (arith, filled, min-left c.most (openCells s));
+        most = omega (arith, filled, min-left c.most (open_cells s));
         below = λ _. f.below;
         above = λ _. f.above;
-        rest = later (s.filled + d.filled) (cells_of s.tables) d.reply.work c.work (omega (arith, filled, min-right c.most (openCells s), h.filled)) f.above;
+        rest = later (s.filled + d.filled) (cells_of s.tables) d.reply.work c.work (omega (arith, filled, min-right c.most (open_cells s), h.filled)) f.above;
         silent = λ _. (ap (λ (r : Reply). r.count) f.silence, ap (λ (r : Reply). r.output) f.silence);
         fits = rw (ap (λ (r : Reply). r.count) f.silence) (omega arith);
         before = ap (λ (r : Reply). take c.place r.output) f.silence;
@@ -132,18 +132,18 @@ module _ {n : ℕ} (p : StoredState) (k : Kept n p) (c : PortionCall) (d : Porti
       }
 
     -- none was open
-    module _ (o : openCells s ≡ 0) where
+    module _ (o : open_cells s ≡ 0) where
       none_filled : d.filled ≡ 0
-      none_filled = omega (arith, filled, min-right c.most (openCells s), o)
+      none_filled = omega (arith, filled, min-right c.most (open_cells s), o)
 
       -- an answer of so many bytes
-      wrote_right : (m : ℕ) (bs : List ℕ) → hasOutcome m ≡ true → length bs ≤ runBytes → d.reply ≡ cleared s.tables (planCall c) m bs → PortionDemand1 p c d
+      wrote_right : (m : ℕ) (bs : List ℕ) → has_outcome m ≡ true → length bs ≤ run_bytes → d.reply ≡ cleared s.tables (plan_call c) m bs → PortionDemand1 p c d
       wrote_right m bs is few q =
           let room = (passes s c z).free in
           record {
             lowest = exactly p c;
             refused = λ l. absurd (omega (arith, none-refused, l));
-            passed = λ _. ap (λ (r : Reply). hasOutcome r.number) q ∙ is;
+            passed = λ _. ap (λ (r : Reply). has_outcome r.number) q ∙ is;
             tables = tables;
             outcome = outcome;
             most = omega (arith, none_filled);
@@ -157,24 +157,24 @@ module _ {n : ℕ} (p : StoredState) (k : Kept n p) (c : PortionCall) (d : Porti
           }
 
       answer-right : PortionDemand1 p c d
-      unfolding planText
+      unfolding plan_text
       answer-right = go (y.answers z o).formed
         where
-          go : (d.reply ≡ cleared s.tables (planCall c) no.noneFits (refused no.noneFits)) ⊎ ((es : List Entry) × Shows s.tables (planCall c) d.reply es) → PortionDemand1 p c d
-          go (inl q) = wrote_right no.noneFits (refused no.noneFits) refl (omega (arith, refused-fits no.noneFits (lit≤ tt))) q
-          go (inr x) = wrote_right 0 (planText s.tables x.0) refl (lines_fit s.tables h.tables x.0 (lines-in (range_of s.tables) x.0 x.1.inside)) x.1.shown
+          go : (d.reply ≡ cleared s.tables (plan_call c) no.none_fits (refused no.none_fits)) ⊎ ((es : List Entry) × Shows s.tables (plan_call c) d.reply es) → PortionDemand1 p c d
+          go (inl q) = wrote_right no.none_fits (refused no.none_fits) refl (omega (arith, refused-fits no.none_fits (lit≤ tt))) q
+          go (inr x) = wrote_right 0 (plan_text s.tables x.0) refl (lines_fit s.tables h.tables x.0 (lines-in (range_of s.tables) x.0 x.1.inside)) x.1.shown
 
   held : PortionDemand1 p c d
-  held = go (portionNumber s c) refl
+  held = go (portion_number s c) refl
     where
-      go : (m : ℕ) → portionNumber s c ≡ m → PortionDemand1 p c d
-      go zero z = ⊎_elim (answer-right z) (filled-right z) (eq-zero-or-pos (openCells s))
+      go : (m : ℕ) → portion_number s c ≡ m → PortionDemand1 p c d
+      go zero z = ⊎_elim (answer-right z) (filled-right z) (eq-zero-or-pos (open_cells s))
       go (suc m) z = subst (PortionDemand1 p c) (sym (turned m z)) (refused-right p c (suc m) (kept-number p c e ∙ z) (omega arith))
 
 pub portion-demand1 : {n : ℕ} (p : StoredState) → Sized n p → (c : PortionCall) (d : PortionDone) → Portions p c d → PortionDemand1 p c d
 unfolding Portions
 portion-demand1 p len c d y = go (keeps p) refl y
   where
-    go : (b : Bool) → keeps p ≡ b → portionedIf b p c d → PortionDemand1 p c d
+    go : (b : Bool) → keeps p ≡ b → portioned_if b p c d → PortionDemand1 p c d
     go true e y = held p (keeps-kept p len e) c d e y
     go false e y = subst (PortionDemand1 p c) (sym y) (refused-right p c no.unusable (broken p c e) (lit≤ tt))

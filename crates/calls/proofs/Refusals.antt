@@ -12,36 +12,36 @@ use Rattle.lists.proofs.Bools.{or_right}
 use Rattle.lines.specs.declared.Change.{Change}
 use Rattle.lines.specs.declared.Command.{Command}
 use Rattle.lines.specs.declared.Command.TheVariants as line
-use Rattle.lines.specs.Grammar.{lineCommand}
+use Rattle.lines.specs.Grammar.{line_command}
 use Rattle.tables.specs.Refusals as no
 use Rattle.tables.specs.Tables.{Tables}
 use Rattle.calls.specs.State.{State, plain}
-use Rattle.calls.specs.Rows.{◌if◌, Row, changes, shows, works, changing, row, lineRow, causesOf, effect_of, isChange, isShow}
-use Rattle.calls.specs.Causes.{lowest, allCauses, refusal, Lowest}
-use Rattle.calls.specs.Effects.{acted, changed, outcomeBy, filledBy, stateBy}
-use Rattle.calls.specs.Printing.{hasOutcome}
-use Rattle.calls.specs.Calls.{Call, rowFor, after, numberFor}
+use Rattle.calls.specs.Rows.{◌if◌, Row, changes, shows, works, changing, row, line_row, causes_of, effect_of, is_change, is_show}
+use Rattle.calls.specs.Causes.{lowest, all_causes, refusal, Lowest}
+use Rattle.calls.specs.Effects.{acted, changed, outcome_by, filled_by, state_by}
+use Rattle.calls.specs.Printing.{has_outcome}
+use Rattle.calls.specs.Calls.{Call, row_for, after, number_for}
 use Rattle.calls.proofs.Numbers.{rising, ascending-from, lowest-given, lowest-least, lowest-range}
 use Rattle.calls.proofs.Work.{clash}
 use Rattle.calls.proofs.Rows.{Right}
 
 module _ {s : State} {n : ℕ} {r : Row} (x : Right s n r) where
   -- the lowest number that applies is given, each exactly in its case
-  pub causes-lowest : (b : Bool) (room place : ℕ) → let cs = (no.unusable if b) ∷ allCauses n room place r in Lowest cs (lowest cs)
-  unfolding allCauses
-  causes-lowest b room place = record { given = lowest-given _; least = lowest-least 1 _ (lit≤ tt, (lit≤ tt, rising 1 (causesOf n r) (ascending-from (lit≤ tt) (causesOf n r) x.ordered))) }
+  pub causes-lowest : (b : Bool) (room place : ℕ) → let cs = (no.unusable if b) ∷ all_causes n room place r in Lowest cs (lowest cs)
+  unfolding all_causes
+  causes-lowest b room place = record { given = lowest-given _; least = lowest-least 1 _ (lit≤ tt, (lit≤ tt, rising 1 (causes_of n r) (ascending-from (lit≤ tt) (causes_of n r) x.ordered))) }
 
   pub refusal-most : (room place : ℕ) → refusal n room place r ≤ no.greatest
-  unfolding refusal allCauses
+  unfolding refusal all_causes
   refusal-most room place = go (eq-zero-or-pos _)
     where
-      go : (lowest (allCauses n room place r) ≡ 0) ⊎ (0 < lowest (allCauses n room place r)) → lowest (allCauses n room place r) ≤ no.greatest
+      go : (lowest (all_causes n room place r) ≡ 0) ⊎ (0 < lowest (all_causes n room place r)) → lowest (all_causes n room place r) ≤ no.greatest
       go (inl e) = omega arith
-      go (inr l) = (lowest-range 1 (allCauses n room place r) (lit≤ tt, ascending-from (lit≤ tt) (causesOf n r) x.ordered) l).1
+      go (inr l) = (lowest-range 1 (all_causes n room place r) (lit≤ tt, ascending-from (lit≤ tt) (causes_of n r) x.ordered) l).1
 
   -- the number of a row with enough free bytes: 0, or or a number of the row
-  pub past_one : 0 < lowest (causesOf n r) → (no.unusable < lowest (causesOf n r)) × (lowest (causesOf n r) ≤ no.greatest)
-  past_one = lowest-range 2 (causesOf n r) x.ordered
+  pub past_one : 0 < lowest (causes_of n r) → (no.unusable < lowest (causes_of n r)) × (lowest (causes_of n r) ≤ no.greatest)
+  past_one = lowest-range 2 (causes_of n r) x.ordered
 
 -- what leaves the tables where it is accepted leaves them always
 idle : (t : Tables) (n : ℕ) (r : Row) → effect_of t r ≡ t → acted t n r ≡ t
@@ -50,7 +50,7 @@ idle t (suc n) r e = refl
 
 -- no change's number depends on the cells, and no other row acts
 acts-alike : (t : Tables) (m n room place : ℕ) (r : Row) → acted t (refusal m room place r) r ≡ acted t (refusal n room place r) r
-unfolding refusal allCauses
+unfolding refusal all_causes
 acts-alike t m n room place (changes x) = refl
 acts-alike t m n room place (shows b cs x) = refl
 acts-alike t m n room place (works k b cells before after x) =
@@ -75,37 +75,37 @@ acts-plain s room place line.Broken = refl
 acts-plain s room place line.TooLong = refl
 
 -- a call acts exactly if its number is 0
-pub after-number : (s : State) (c : Call) → after s c ≡ stateBy s (numberFor s c) (rowFor s c)
-unfolding changed lineRow
+pub after-number : (s : State) (c : Call) → after s c ≡ state_by s (number_for s c) (row_for s c)
+unfolding changed line_row
 after-number s c =
-    let acts = acts-plain s (length c.output) c.place (lineCommand c.line)
-    ∙ acts-alike s.tables 0 (length c.work) (length c.output) c.place (rowFor s c) in
-    λ i. record { tables = acts i; outcome = outcomeBy (numberFor s c) (rowFor s c) s.outcome; filled = filledBy (numberFor s c) (rowFor s c) s.filled }
+    let acts = acts-plain s (length c.output) c.place (line_command c.line)
+    ∙ acts-alike s.tables 0 (length c.work) (length c.output) c.place (row_for s c) in
+    λ i. record { tables = acts i; outcome = outcome_by (number_for s c) (row_for s c) s.outcome; filled = filled_by (number_for s c) (row_for s c) s.filled }
 
 -- the line of a change: its row, and the tables that it leaves where it is accepted
-module _ (s : State) (x : Call) (c : Change) (on : lineCommand x.line ≡ line.Change c) where
-  pub change-row : rowFor s x ≡ changes (changing s.tables c)
-  unfolding lineRow row
+module _ (s : State) (x : Call) (c : Change) (on : line_command x.line ≡ line.Change c) where
+  pub change-row : row_for s x ≡ changes (changing s.tables c)
+  unfolding line_row row
   change-row = ap (row s) on
 
-  pub change-after : numberFor s x ≡ 0 → (after s x).tables ≡ (changing s.tables c).after
-  change-after e = ap (λ (y : State). y.tables) (after-number s x ∙ ap₂ (λ (n : ℕ) (r : Row). stateBy s n r) e change-row)
+  pub change-after : number_for s x ≡ 0 → (after s x).tables ≡ (changing s.tables c).after
+  change-after e = ap (λ (y : State). y.tables) (after-number s x ∙ ap₂ (λ (n : ℕ) (r : Row). state_by s n r) e change-row)
 
 -- "a refused one not at all"
-pub refused-tables : (s : State) (c : Call) → 0 < numberFor s c → (after s c).tables ≡ s.tables
-refused-tables s c h = ap (λ (x : State). x.tables) (after-number s c) ∙ go (numberFor s c) h
+pub refused-tables : (s : State) (c : Call) → 0 < number_for s c → (after s c).tables ≡ s.tables
+refused-tables s c h = ap (λ (x : State). x.tables) (after-number s c) ∙ go (number_for s c) h
   where
-    go : (n : ℕ) → 0 < n → acted s.tables n (rowFor s c) ≡ s.tables
+    go : (n : ℕ) → 0 < n → acted s.tables n (row_for s c) ≡ s.tables
     go zero l = absurd (omega arith)
     go (suc n) l = refl
 
 -- a row that is no change leaves the tables, and one that does not store the outcome too
-pub still-tables : (s : State) (n : ℕ) (r : Row) → isChange r ≡ false → (stateBy s n r).tables ≡ s.tables
+pub still-tables : (s : State) (n : ℕ) (r : Row) → is_change r ≡ false → (state_by s n r).tables ≡ s.tables
 still-tables s n (changes x) e = absurd (clash e)
 still-tables s n (shows b cs x) e = idle s.tables n (shows b cs x) refl
 still-tables s n (works k b m before after x) e = idle s.tables n (works k b m before after x) refl
 
-pub still-state : (s : State) (n : ℕ) (r : Row) → isShow r ≡ true → stateBy s n r ≡ s
+pub still-state : (s : State) (n : ℕ) (r : Row) → is_show r ≡ true → state_by s n r ≡ s
 still-state s n (changes x) e = absurd (clash (sym e))
 still-state s zero (shows b cs x) e = refl
 still-state s (suc n) (shows b cs x) e = refl
@@ -113,16 +113,16 @@ still-state s n (works true b m before after x) e = absurd (clash (sym e))
 still-state s zero (works false b m before after x) e = refl
 still-state s (suc n) (works false b m before after x) e = refl
 
-pub shown-keeps : (s : State) (c : Call) → isShow (rowFor s c) ≡ true → after s c ≡ s
-shown-keeps s c e = after-number s c ∙ still-state s (numberFor s c) (rowFor s c) e
+pub shown-keeps : (s : State) (c : Call) → is_show (row_for s c) ≡ true → after s c ≡ s
+shown-keeps s c e = after-number s c ∙ still-state s (number_for s c) (row_for s c) e
 
 -- and so does a refusal that is no outcome
-pub refused-state : (s : State) (n : ℕ) (r : Row) → 0 < n → hasOutcome n ≡ false → stateBy s n r ≡ s
+pub refused-state : (s : State) (n : ℕ) (r : Row) → 0 < n → has_outcome n ≡ false → state_by s n r ≡ s
 refused-state s zero r l e = absurd (omega arith)
 refused-state s (suc n) (changes x) l e = refl
 refused-state s (suc n) (shows b cs x) l e = refl
-refused-state s (suc n) (works true b m before after x) l e = rw (or_right (eqb (suc n) 0) (eqb (suc n) no.noneFits) e)
+refused-state s (suc n) (works true b m before after x) l e = rw (or_right (eqb (suc n) 0) (eqb (suc n) no.none_fits) e)
 refused-state s (suc n) (works false b m before after x) l e = refl
 
-pub refused-keeps : (s : State) (c : Call) → 0 < numberFor s c → hasOutcome (numberFor s c) ≡ false → after s c ≡ s
-refused-keeps s c h e = after-number s c ∙ refused-state s (numberFor s c) (rowFor s c) h e
+pub refused-keeps : (s : State) (c : Call) → 0 < number_for s c → has_outcome (number_for s c) ≡ false → after s c ≡ s
+refused-keeps s c h e = after-number s c ∙ refused-state s (number_for s c) (row_for s c) h e

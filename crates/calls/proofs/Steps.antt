@@ -9,14 +9,14 @@ use borrow.Author.Tests.{le-leb}
 use lib.Seq.{append_snoc}
 use Rattle.lists.specs.Tests.{pick}
 use Rattle.marks.specs.declared.Marks.{Marks}
-use Rattle.marks.specs.Bits.{hasMark}
+use Rattle.marks.specs.Bits.{has_mark}
 use Rattle.marks.specs.Sets.{marked}
 use Rattle.marks.proofs.Laws.{mark-more, mark-less}
 use Rattle.lines.specs.declared.Change.{Change}
-use Rattle.lines.specs.Saved.{markChange, markChanges}
+use Rattle.lines.specs.Saved.{mark_change, mark_changes}
 use Rattle.tables.specs.declared.rule.Sort.{Sort}
 use Rattle.tables.specs.Tables.{Tables}
-use Rattle.tables.specs.Limits.{between, maxStates}
+use Rattle.tables.specs.Limits.{between, max_states}
 use Rattle.calls.specs.Saves.{Step, Takes, none, next}
 
 pub one : {t u : Tables} {c : Change} → Step t c u → Takes t (c ∷ []) u
@@ -40,19 +40,19 @@ module _ {A : Type 0} (f : A → Change) (at : List A → Tables) (all : List A)
 abbrev pub marks : ℕ → Marks
 marks x = record { 0 = x }
 
-module _ (k : Sort) (at : Marks → Tables) (n : ℕ) (most : n ≤ maxStates)
-    (step : (m : Marks) (q : ℕ) → between 1 n q ≡ true → Step (at m) (markChange k q) (at (marked m q))) (m : Marks) where
-  mark-to : (i : ℕ) → i ≤ n → Takes (at (marks 0)) (markChanges k m i) (at (marks (m.0 % 2 ^ i)))
-  unfolding markChanges
+module _ (k : Sort) (at : Marks → Tables) (n : ℕ) (most : n ≤ max_states)
+    (step : (m : Marks) (q : ℕ) → between 1 n q ≡ true → Step (at m) (mark_change k q) (at (marked m q))) (m : Marks) where
+  mark-to : (i : ℕ) → i ≤ n → Takes (at (marks 0)) (mark_changes k m i) (at (marks (m.0 % 2 ^ i)))
+  unfolding mark_changes
   mark-to zero h = let z : m.0 % 2 ^ 0 ≡ 0 = omega arith in rw z none
-  mark-to (suc i) h = go (hasMark m.0 (suc i)) refl (mark-to i (omega arith))
+  mark-to (suc i) h = go (has_mark m.0 (suc i)) refl (mark-to i (omega arith))
     where
-      go : (b : Bool) → hasMark m.0 (suc i) ≡ b → Takes (at (marks 0)) (markChanges k m i) (at (marks (m.0 % 2 ^ i)))
-          → Takes (at (marks 0)) (markChanges k m i ++ pick b (markChange k (suc i) ∷ []) []) (at (marks (m.0 % 2 ^ suc i)))
+      go : (b : Bool) → has_mark m.0 (suc i) ≡ b → Takes (at (marks 0)) (mark_changes k m i) (at (marks (m.0 % 2 ^ i)))
+          → Takes (at (marks 0)) (mark_changes k m i ++ pick b (mark_change k (suc i) ∷ []) []) (at (marks (m.0 % 2 ^ suc i)))
       go true e ih =
           let s = step (marks (m.0 % 2 ^ i)) (suc i) (rw (le-leb 1 (suc i) (omega arith)) (le-leb (suc i) n h)) in
           takes-append ih (one (rw (mark-more 8 m.0 i (omega arith) e) at s))
       go false e ih = rw (append-nil, mark-less m.0 i e) ih
 
-  pub for-marks : m.0 < 2 ^ n → Takes (at (marks 0)) (markChanges k m n) (at m)
+  pub for-marks : m.0 < 2 ^ n → Takes (at (marks 0)) (mark_changes k m n) (at m)
   for-marks h = let z : m.0 % 2 ^ n ≡ m.0 = mod-eq_of_lt h in rw z at (mark-to n (omega arith))

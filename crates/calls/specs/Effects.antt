@@ -10,8 +10,8 @@ use Rattle.tables.specs.Tables.{Tables}
 use Rattle.tables.specs.declared.entry.Entry.{Entry}
 use Rattle.calls.specs.State.{State, plain}
 use Rattle.tables.specs.Operations.{accepted}
-use Rattle.runs.specs.Outcome.{Outcome, nothing, noSet, planned}
-use Rattle.calls.specs.Rows.{Row, changes, shows, works, effect_of, lineRow}
+use Rattle.runs.specs.Outcome.{Outcome, nothing, no_set, planned}
+use Rattle.calls.specs.Rows.{Row, changes, shows, works, effect_of, line_row}
 use Rattle.calls.specs.Causes.{refusal}
 
 -- a row whose number is 0 acts
@@ -21,26 +21,26 @@ acted t (suc n) r = t
 
 -- the tables after a line, "from the calls' lines, output lengths and places alone". (No change's number depends on the cells.)
 unfoldable pub changed : Tables → (line : List ℕ) (room place : ℕ) → Tables
-changed t l room place = let r = lineRow (plain t) l in acted t (refusal 0 room place r) r
+changed t l room place = let r = line_row (plain t) l in acted t (refusal 0 room place r) r
 
 -- what a plan with this number stores: its entries, that none fits, or nothing new
-abbrev pub foundBy : (number : ℕ) → (entries : List Entry) → Outcome → Outcome
-foundBy zero es o = planned es
-foundBy (suc n) es o = pick (eqb (suc n) no.noneFits) noSet o
+abbrev pub found_by : (number : ℕ) → (entries : List Entry) → Outcome → Outcome
+found_by zero es o = planned es
+found_by (suc n) es o = pick (eqb (suc n) no.none_fits) no_set o
 
 -- the outcome after a row with this number: wiped by "any line that printed `ok`", and stored by a plan and its refusal 9. "Refused commands don't
 -- make it old." What works without storing leaves it.
-abbrev pub outcomeBy : (number : ℕ) → Row → Outcome → Outcome
-outcomeBy n (changes x) o = accepted n nothing o
-outcomeBy n (shows b cs x) o = o
-outcomeBy n (works k b m before after x) o = pick k (foundBy n x.entries o) o
+abbrev pub outcome_by : (number : ℕ) → Row → Outcome → Outcome
+outcome_by n (changes x) o = accepted n nothing o
+outcome_by n (shows b cs x) o = o
+outcome_by n (works k b m before after x) o = pick k (found_by n x.entries o) o
 
 -- the count of filled cells after it: an accepted change starts the filling over, and no other line touches it
-abbrev pub filledBy : (number : ℕ) → Row → (filled : ℕ) → ℕ
-filledBy n (changes x) m = accepted n 0 m
-filledBy n (shows b cs x) m = m
-filledBy n (works k b cells before after x) m = m
+abbrev pub filled_by : (number : ℕ) → Row → (filled : ℕ) → ℕ
+filled_by n (changes x) m = accepted n 0 m
+filled_by n (shows b cs x) m = m
+filled_by n (works k b cells before after x) m = m
 
 -- the state after it
-abbrev pub stateBy : State → (number : ℕ) → Row → State
-stateBy s n r = record { tables = acted s.tables n r; outcome = outcomeBy n r s.outcome; filled = filledBy n r s.filled }
+abbrev pub state_by : State → (number : ℕ) → Row → State
+state_by s n r = record { tables = acted s.tables n r; outcome = outcome_by n r s.outcome; filled = filled_by n r s.filled }

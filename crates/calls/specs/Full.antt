@@ -4,9 +4,9 @@ use Rattle.std.specs.Prelude.{ℕ, suc, ◌+◌, ◌≤◌, ◌<◌, ◌≡◌, 
 use Rattle.lines.specs.declared.Command.TheVariants as line
 use Rattle.lines.specs.declared.Change.TheVariants as to
 use Rattle.lines.specs.Grammar.{parse}
-use Rattle.lines.specs.Answers.{freeBytes}
+use Rattle.lines.specs.Answers.{free_bytes}
 use Rattle.tables.specs.Refusals as no
-use Rattle.tables.specs.Limits.{loadIn}
+use Rattle.tables.specs.Limits.{load_in}
 use Rattle.calls.specs.Rows.{load}
 use Rattle.calls.specs.Calls.{Call}
 use Rattle.calls.specs.Demand3.{Exchange}
@@ -18,8 +18,8 @@ pub record LoadCall (number : ℕ) (c : Call) : Type 0 where
   pub worth : ℕ
   pub kind : ℕ
   pub line : parse c.line ≡ line.Change (to.Load parent power worth kind)
-  pub free : c.place + freeBytes ≤ length c.output
-  pub fits : loadIn number (load parent power worth kind) ≡ true
+  pub free : c.place + free_bytes ≤ length c.output
+  pub fits : load_in number (load parent power worth kind) ≡ true
 
 -- such calls, for the loads from this number on
 abbrev pub LoadCalls : (number : ℕ) → List Exchange → Type 0

@@ -7,21 +7,21 @@ use Rattle.lines.specs.declared.SaveForm.{SaveForm}
 use Rattle.lines.specs.declared.Change.{Change}
 use Rattle.lines.specs.declared.Change.TheVariants as to
 use Rattle.lines.specs.Written.{written}
-use Rattle.lines.specs.Saved.{loadChange, bookChanges}
+use Rattle.lines.specs.Saved.{load_change, book_changes}
 use Rattle.tables.specs.Refusals as no
-use Rattle.tables.specs.Tables.{Tables, noLoad}
+use Rattle.tables.specs.Tables.{Tables, no_load}
 use Rattle.calls.specs.Demand3.{Exchange}
 use Rattle.calls.specs.Full.{number_at}
 use Rattle.calls.specs.Saves.{lines_of}
 
 -- what a save has before the line of load n + 1: `clear`, the book, and the first n loads
-abbrev pub savedBefore : (n : ℕ) → Tables → List Change
-savedBefore n t = (to.Clear ∷ []) ++ bookChanges t.book ++ map loadChange (take n t.loads)
+abbrev pub saved_before : (n : ℕ) → Tables → List Change
+saved_before n t = (to.Clear ∷ []) ++ book_changes t.book ++ map load_change (take n t.loads)
 
 -- the calls xs on the lines of the save of tables t, on a planner with n places for loads
 pub record Overfull (f : SaveForm) (n : ℕ) (t : Tables) (xs : List Exchange) : Type 0 where
   -- the lines before are accepted
-  pub accepted : (j : ℕ) → j < length (savedBefore n t) → number_at xs j ≡ 0
+  pub accepted : (j : ℕ) → j < length (saved_before n t) → number_at xs j ≡ 0
   -- the next is the line of load n + 1, and is refused with 6
-  pub line : get_or (lines_of xs) (length (savedBefore n t)) [] ≡ written f (loadChange (get_or t.loads n noLoad))
-  pub full : number_at xs (length (savedBefore n t)) ≡ no.full
+  pub line : get_or (lines_of xs) (length (saved_before n t)) [] ≡ written f (load_change (get_or t.loads n no_load))
+  pub full : number_at xs (length (saved_before n t)) ≡ no.full

@@ -6,7 +6,7 @@ use Rattle.lists.specs.Pairs.{Pairwise}
 use Rattle.lines.specs.Padding.{SameLine}
 use Rattle.calls.specs.State.{StoredState}
 use Rattle.calls.specs.Calls.{Call}
-use Rattle.calls.specs.Demand3.{Exchange, onLines, given, last}
+use Rattle.calls.specs.Demand3.{Exchange, on_lines, given, last}
 
 -- calls on two such lines, with the same output, place and work
 pub record SameCall (c d : Call) : Type 0 where
@@ -22,4 +22,4 @@ SameCalls = Pairwise (λ (x y : Exchange). SameCall x.call y.call)
 -- "the same treatment": number, count, output, work and planner of each call are the same, and so is the planner at the end
 pub record SameTreatment (p : StoredState) (xs ys : List Exchange) : Type 0 where
   pub replies : given xs ≡ given ys
-  pub planner : last p (onLines xs) ≡ last p (onLines ys)
+  pub planner : last p (on_lines xs) ≡ last p (on_lines ys)

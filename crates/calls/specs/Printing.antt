@@ -5,31 +5,31 @@ use Rattle.std.specs.Prelude.{ℕ, zero, suc, Bool, ◌||◌, List, [], ◌++◌
 use Rattle.lists.specs.Tests.{pick}
 use Rattle.lines.specs.declared.answer.Answer.TheVariants.{Refused}
 use Rattle.tables.specs.Refusals as no
-use Rattle.calls.specs.Rows.{Shown, alone, shownText, Row, shownOf, cells_for}
+use Rattle.calls.specs.Rows.{Shown, alone, shown_text, Row, shown_of, cells_for}
 
 -- what a row with this number, 0 if accepted, is answered
-abbrev pub shownBy : (number : ℕ) → Row → Shown
-shownBy zero r = shownOf r
-shownBy (suc n) r = alone (Refused (suc n))
+abbrev pub shown_by : (number : ℕ) → Row → Shown
+shown_by zero r = shown_of r
+shown_by (suc n) r = alone (Refused (suc n))
 
 -- its text; refusal 1 returns "number, 0 bytes"
 unfoldable pub text : (number : ℕ) → Row → List ℕ
-text zero r = shownText (shownBy 0 r)
+text zero r = shown_text (shown_by 0 r)
 text (suc zero) r = []
-text (suc (suc n)) r = shownText (shownBy (suc (suc n)) r)
+text (suc (suc n)) r = shown_text (shown_by (suc (suc n)) r)
 
 -- "After a plan or refusal 9 those cells are 0; all other cells .. are unchanged."
 unfoldable pub zeroed : ℕ → List ℕ → List ℕ
 zeroed n w = replicate n 0 ++ drop n w
 
 -- is it the number of an outcome: "A plan, or its refusal 9"?
-abbrev pub hasOutcome : ℕ → Bool
-hasOutcome n = eqb n 0 || eqb n no.noneFits
+abbrev pub has_outcome : ℕ → Bool
+has_outcome n = eqb n 0 || eqb n no.none_fits
 
 -- does a row with this number look for a set? At 15 "its work cells are left 0" too.
 abbrev pub searched : ℕ → Bool
-searched n = hasOutcome n || eqb n no.tooPoor
+searched n = has_outcome n || eqb n no.too_poor
 
 -- ".. and all cells after any other call, are unchanged"
-unfoldable pub workAfter : (number : ℕ) → Row → List ℕ → List ℕ
-workAfter n r w = pick (searched n) (zeroed (cells_for r) w) w
+unfoldable pub work_after : (number : ℕ) → Row → List ℕ → List ℕ
+work_after n r w = pick (searched n) (zeroed (cells_for r) w) w

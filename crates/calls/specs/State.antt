@@ -8,10 +8,10 @@ use Rattle.tables.specs.declared.tables.StoredTables.{StoredTables}
 use Rattle.tables.specs.Tables as on-paper
 use Rattle.tables.specs.Tables.{Tables}
 use Rattle.tables.specs.Limits.{Limits}
-use Rattle.tables.specs.Stored.{stored, places_of, tables_of, keepsLimits, Lengths, Holds}
+use Rattle.tables.specs.Stored.{stored, places_of, tables_of, keeps_limits, Lengths, Holds}
 use Rattle.meaning.specs.Cells.{cells_of}
 use Rattle.runs.specs.declared.outcome.StoredOutcome.{StoredOutcome}
-use Rattle.runs.specs.Outcome.{Outcome, nothing, storedOutcome, outcomeOf, range_of, heldRange, outcomeIn, keepsOutcome}
+use Rattle.runs.specs.Outcome.{Outcome, nothing, stored_outcome, outcome_of, range_of, held_range, outcome_in, keeps_outcome}
 
 -- on paper
 pub record State : Type 0 where
@@ -34,27 +34,27 @@ abbrev pub fresh : (places : ℕ) → State
 fresh n = plain (on-paper.fresh n)
 
 -- where it lies, and what lies there
-abbrev pub storedState : State → StoredState
-storedState s = record { tables = stored s.tables; outcome = storedOutcome s.tables.places s.outcome; filled = s.filled }
+abbrev pub stored_state : State → StoredState
+stored_state s = record { tables = stored s.tables; outcome = stored_outcome s.tables.places s.outcome; filled = s.filled }
 
 abbrev pub state_of : StoredState → State
-state_of p = let t = tables_of p.tables in record { tables = t; outcome = outcomeOf (length t.loads) p.outcome; filled = p.filled }
+state_of p = let t = tables_of p.tables in record { tables = t; outcome = outcome_of (length t.loads) p.outcome; filled = p.filled }
 
 -- does a planner that is handed in keep the limits? "A stored figure out of range for the tables is refusal 1."; "A planner with more filled than it has
 -- cells is refusal 1."
 abbrev pub keeps : StoredState → Bool
-keeps p = keepsLimits p.tables && keepsOutcome (heldRange p.tables) p.outcome && leb p.filled (cells_of (tables_of p.tables))
+keeps p = keeps_limits p.tables && keeps_outcome (held_range p.tables) p.outcome && leb p.filled (cells_of (tables_of p.tables))
 
 -- a state within the limits
 pub record Within (s : State) : Type 0 where
   pub tables : Limits s.tables
-  pub outcome : outcomeIn (range_of s.tables) s.outcome ≡ true
+  pub outcome : outcome_in (range_of s.tables) s.outcome ≡ true
   pub filled : s.filled ≤ cells_of s.tables
 
 -- a planner that holds one, with so many places for loads
 pub record Kept (n : ℕ) (p : StoredState) : Type 0 where
   pub tables : Holds n p.tables
-  pub outcome : (o : Outcome) × (outcomeIn (range_of (tables_of p.tables)) o ≡ true) × (p.outcome ≡ storedOutcome (tables_of p.tables).places o)
+  pub outcome : (o : Outcome) × (outcome_in (range_of (tables_of p.tables)) o ≡ true) × (p.outcome ≡ stored_outcome (tables_of p.tables).places o)
   pub filled : p.filled ≤ cells_of (tables_of p.tables)
 
 -- the arrays have the lengths that their types give them, those of the loads so many places
@@ -62,5 +62,5 @@ pub record Sized (n : ℕ) (p : StoredState) : Type 0 where
   pub tables : Lengths p.tables
   pub places : places_of p.tables.loads ≡ n
   pub states : length p.outcome.run.states ≡ n
-  pub loadRules : length p.outcome.run.load_rules ≡ n
-  pub rowRules : length p.outcome.run.row_rules ≡ n
+  pub load_rules : length p.outcome.run.load_rules ≡ n
+  pub row_rules : length p.outcome.run.row_rules ≡ n

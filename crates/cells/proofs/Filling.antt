@@ -11,7 +11,7 @@ use lib.Seq.{get_or-take, get_or-drop, ext_get_or}
 use Rattle.cells.specs.declared.problem.Problem.{Problem}
 use Rattle.cells.specs.declared.problem.Shape.{Shape}
 use Rattle.cells.specs.Problem.{shape_of}
-use Rattle.cells.specs.Work.{place_of, cellsNeeded, cell_of, FilledTo, Filled}
+use Rattle.cells.specs.Work.{place_of, cells_needed, cell_of, FilledTo, Filled}
 use Rattle.cells.specs.Outline.{Outlines}
 use Rattle.cells.specs.Stretch.{Worked, FilledBy}
 use Rattle.cells.proofs.Stretches.{stretch-reached, stretch-sound}
@@ -43,7 +43,7 @@ module _ (sh : Shape) where
       let q' = ap (λ z. z * (sh.states + sh.stages)) q in
       (omega arith, omega arith, omega arith)
 
-  module _ (i : ℕ) (h : i < cellsNeeded sh) where
+  module _ (i : ℕ) (h : i < cells_needed sh) where
     pub across-pos : 0 < sh.states + sh.stages
     across-pos = go (dec_lt 0 (sh.states + sh.stages))
       where

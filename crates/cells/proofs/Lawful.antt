@@ -12,43 +12,43 @@ use Rattle.tables.specs.declared.rule.TransitionList.{TransitionList}
 use Rattle.tables.specs.declared.load.Load.{Load}
 use Rattle.tables.specs.declared.load.LoadList.{LoadList}
 use Rattle.tables.specs.declared.tables.StoredTables.{StoredTables}
-use Rattle.tables.specs.Tables.{noRule, noLoad}
-use Rattle.tables.specs.Limits.{maxRules, maxLoads, maxWorth, ruleRange}
+use Rattle.tables.specs.Tables.{no_rule, no_load}
+use Rattle.tables.specs.Limits.{max_rules, max_loads, max_worth, rule_range}
 use Rattle.tables.specs.Lawful.{RuleFits, LoadFits}
-use Rattle.tables.specs.Stored.{rulesOf, loadsOf, places_of, bookOf, tables_of, Lengths, keepsLimits}
+use Rattle.tables.specs.Stored.{rules_of, loads_of, places_of, book_of, tables_of, Lengths, keeps_limits}
 use Rattle.tables.proofs.Kept.{kept}
 use Rattle.meaning.proofs.Ordered.{loads-ordered}
-use Rattle.meaning.specs.Cell.{powerLimit}
+use Rattle.meaning.specs.Cell.{power_limit}
 use Rattle.cells.specs.Problem.{RulesIn, LoadsIn, Lawful}
 use Rattle.cells.proofs.Tables.{rule-at, rules-length}
 
 -- rules of either sort
-rules-in : (m : RuleRange) (l : TransitionList) → length l.items ≡ maxRules → l.count ≤ maxRules
-    → ((j : ℕ) → j < length (rulesOf l) → RuleFits m (get_or (rulesOf l) j noRule)) → RulesIn l m.low m.high m.to
+rules-in : (m : RuleRange) (l : TransitionList) → length l.items ≡ max_rules → l.count ≤ max_rules
+    → ((j : ℕ) → j < length (rules_of l) → RuleFits m (get_or (rules_of l) j no_rule)) → RulesIn l m.low m.high m.to
 rules-in m l full few h = record { few = few; full = full; label = λ j k. (at j k).gives; to = λ j k. (at j k).leads }
   where
-    at : (j : ℕ) → j < l.count → RuleFits m (get_or l.items j noRule)
+    at : (j : ℕ) → j < l.count → RuleFits m (get_or l.items j no_rule)
     at j k = rw (rule-at l j k) at (h j (omega (arith, rules-length l (omega arith))))
 
 -- loads: what holds of each, and of an unused place, holds at every place
-loads-in : (l : LoadList) → places_of l ≡ maxLoads → ((j : ℕ) → j < length (loadsOf l) → LoadFits (suc j) (get_or (loadsOf l) j noLoad)) → LoadsIn l
+loads-in : (l : LoadList) → places_of l ≡ max_loads → ((j : ℕ) → j < length (loads_of l) → LoadFits (suc j) (get_or (loads_of l) j no_load)) → LoadsIn l
 loads-in l full h = record {
   full = full;
-  ordered = loads-ordered (loadsOf l) h;
-  parents = at_every (λ j (x : Load). x.parent ≤ j) noLoad (loadsOf l) (λ j. zero-le) (λ j k. omega (arith, (h j k).parent));
-  powers = at_every (λ j (x : Load). x.power < powerLimit) noLoad (loadsOf l) (λ j. omega arith) (λ j k. omega (arith, (h j k).power));
-  worths = at_every (λ j (x : Load). x.worth ≤ maxWorth) noLoad (loadsOf l) (λ j. zero-le) (λ j k. (h j k).worth);
+  ordered = loads-ordered (loads_of l) h;
+  parents = at_every (λ j (x : Load). x.parent ≤ j) no_load (loads_of l) (λ j. zero-le) (λ j k. omega (arith, (h j k).parent));
+  powers = at_every (λ j (x : Load). x.power < power_limit) no_load (loads_of l) (λ j. omega arith) (λ j k. omega (arith, (h j k).power));
+  worths = at_every (λ j (x : Load). x.worth ≤ max_worth) no_load (loads_of l) (λ j. zero-le) (λ j k. (h j k).worth);
 }
 
-module _ (s : StoredTables) (h : keepsLimits s ≡ true) (len : Lengths s) (full : places_of s.loads ≡ maxLoads) where
+module _ (s : StoredTables) (h : keeps_limits s ≡ true) (len : Lengths s) (full : places_of s.loads ≡ max_loads) where
   -- at the tables' budget or less
   pub lawful : (b : ℕ) → b ≤ s.budget → (fixed : Bool) (set : LoadSet)
       → Lawful (record { tables = record { book = s.book; loads = s.loads; budget = b }; fixed = fixed; set = set })
-  unfolding tables_of bookOf
+  unfolding tables_of book_of
   lawful b less fixed set =
       let k = kept s h in
       let p = k.lawful in
-      let m = ruleRange s.book.states s.book.stages in
+      let m = rule_range s.book.states s.book.stages in
       record {
         sane = record { loads = omega (arith, k.loads); states = p.states; stages = p.stages; budget = omega (arith, p.budget) };
         staged = p.staged;

@@ -4,23 +4,23 @@
 use Prim.Native.Nat.{ℕ, ◌+◌, ◌-◌, ◌*◌, ◌≤◌, ◌<◌}
 use mathlib.Core.Path.{◌≡◌, refl}
 use native.Mathlib.Omega.{arith}
-use Rattle.tables.specs.Limits.{maxLoads, maxWorth}
-use Rattle.meaning.specs.Cell.{cell, powerLimit, empty}
-use Rattle.cells.specs.Work.{cellLimit, heldIn}
+use Rattle.tables.specs.Limits.{max_loads, max_worth}
+use Rattle.meaning.specs.Cell.{cell, power_limit, empty}
+use Rattle.cells.specs.Work.{cell_limit, held_in}
 
-pub empty-is : powerLimit ≡ empty
+pub empty-is : power_limit ≡ empty
 unfolding cell
 empty-is = refl
 
-pub cell-is : (p v r : ℕ) → r ≡ v * powerLimit + powerLimit - p → r ≡ cell p v
+pub cell-is : (p v r : ℕ) → r ≡ v * power_limit + power_limit - p → r ≡ cell p v
 unfolding cell
 cell-is p v r e = e
 
 -- the cells of so many loads fit
-pub cell-fits : (n x : ℕ) → n ≤ maxLoads → x ≤ cell 0 (maxWorth + (maxWorth + maxWorth * n + maxWorth * n)) → x < cellLimit
+pub cell-fits : (n x : ℕ) → n ≤ max_loads → x ≤ cell 0 (max_worth + (max_worth + max_worth * n + max_worth * n)) → x < cell_limit
 unfolding cell
 cell-fits n x h l = omega arith
 
 -- a cell that fits is read as it is
-pub held_same : (x : ℕ) → x < cellLimit → heldIn x ≡ x
+pub held_same : (x : ℕ) → x < cell_limit → held_in x ≡ x
 held_same x h = omega arith

@@ -11,11 +11,11 @@ use Rattle.lists.specs.Argmax.{guard, Greatest, argmax}
 use Rattle.lists.proofs.Argmax.{argmax-still, argmax-agree}
 use Rattle.tables.specs.declared.rule.Transition.{Transition}
 use Rattle.tables.specs.declared.rule.TransitionList.{TransitionList}
-use Rattle.tables.specs.Stored.{rulesOf}
-use Rattle.meaning.specs.Best.{bestRule}
+use Rattle.tables.specs.Stored.{rules_of}
+use Rattle.meaning.specs.Best.{best_rule}
 use Rattle.cells.specs.declared.outline.Rules.{Rules}
 use Rattle.cells.specs.Problem.{RulesIn}
-use Rattle.cells.specs.Outline.{ruleIn, bestIn, NextRule, Listed}
+use Rattle.cells.specs.Outline.{rule_in, best_in, NextRule, Listed}
 use Rattle.cells.specs.Strip.{Raised}
 use Rattle.cells.proofs.Tables.{rule-at, rules-length}
 use Rattle.cells.proofs.Strips.{raised-agree, raised-next}
@@ -23,12 +23,12 @@ use Rattle.cells.proofs.Strips.{raised-agree, raised-next}
 -- what each rule of the sort counts for
 module _ (o : List ℕ) (r : Rules) (reach : Transition → ℕ) where
   abbrev pub term : ℕ → ℕ
-  term j = guard (eqb (ruleIn o r.at j).from r.from) (reach (ruleIn o r.at j))
+  term j = guard (eqb (rule_in o r.at j).from r.from) (reach (rule_in o r.at j))
 
-  pub term-met : (j : ℕ) → (ruleIn o r.at j).from ≡ r.from → term j ≡ reach (ruleIn o r.at j)
+  pub term-met : (j : ℕ) → (rule_in o r.at j).from ≡ r.from → term j ≡ reach (rule_in o r.at j)
   term-met j h = rw (eq-eqb _ _ h)
 
-  pub term-passed : (j : ℕ) → ((ruleIn o r.at j).from ≡ r.from → ⊥) → term j ≡ 0
+  pub term-passed : (j : ℕ) → ((rule_in o r.at j).from ≡ r.from → ⊥) → term j ≡ 0
   term-passed j h = rw (ne_eqb _ _ h)
 
   pub rules-passed : {j i : ℕ} → NextRule o r j i → argmax term i ≡ argmax term j
@@ -45,20 +45,20 @@ module _ (o : List ℕ) (r : Rules) (reach : ℕ → Transition → ℕ) where
     pub strip-passed : {j i : ℕ} → Ruled s t from to j → NextRule o r j i → Ruled s t from to i
     strip-passed p n = raised-agree p _ (λ a l m. ap (λ (g : Greatest). g.value) (sym (rules-passed o r (reach a) n)))
 
-    pub strip-raised : (j : ℕ) → Ruled s t from to j → (ruleIn o r.at j).from ≡ r.from → {u : List ℕ}
-        → Raised t u from to (λ a. reach a (ruleIn o r.at j)) → Ruled s u from to (j + 1)
+    pub strip-raised : (j : ℕ) → Ruled s t from to j → (rule_in o r.at j).from ≡ r.from → {u : List ℕ}
+        → Raised t u from to (λ a. reach a (rule_in o r.at j)) → Ruled s u from to (j + 1)
     strip-raised j p h q = raised-next (λ a. term o r (reach a)) j p (raised-agree q _ (λ a l m. sym (term-met o r (reach a) j h)))
 
 -- the rules of a list, as they stand in the outline
 pub listed-best : {o : List ℕ} {at n : ℕ} {l : TransitionList} {low high g : ℕ} → RulesIn l low high g → Listed o at n l
-    → (x : ℕ) (reach : Transition → ℕ) → bestIn o (record { at = at; count = n; from = x }) reach ≡ bestRule (rulesOf l) x reach
+    → (x : ℕ) (reach : Transition → ℕ) → best_in o (record { at = at; count = n; from = x }) reach ≡ best_rule (rules_of l) x reach
 listed-best {o} {at} {n} {l} ok d x reach =
     ap (argmax (term o (record { at = at; count = n; from = x }) reach)) e
-    ∙ argmax-agree _ _ (length (rulesOf l))
+    ∙ argmax-agree _ _ (length (rules_of l))
     (λ j h. ap (λ (r : Transition). guard (eqb r.from x) (reach r)) (d.rule j (omega (arith, few)) ∙ sym (rule-at l j (omega (arith, few)))))
   where
-    few : length (rulesOf l) ≡ l.count
+    few : length (rules_of l) ≡ l.count
     few = rules-length l (omega (arith, ok.few, ok.full))
 
-    e : n ≡ length (rulesOf l)
+    e : n ≡ length (rules_of l)
     e = omega (arith, few, d.count)

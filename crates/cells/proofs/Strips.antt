@@ -13,9 +13,9 @@ use lib.Dec.{ltb}
 use lib.ListN.{length, get_or, set, replicate}
 use lib.Seq.{get_or-set_same, get_or-set_other}
 use Rattle.lists.specs.Argmax.{argmax}
-use Rattle.meaning.specs.Cell.{cell, powerLimit, ◌⊕◌}
+use Rattle.meaning.specs.Cell.{cell, power_limit, ◌⊕◌}
 use Rattle.meaning.proofs.Cell.{⊕-right, ⊕-both}
-use Rattle.cells.specs.Strip.{stripLimit, Small, moved, Raised, Starts, Stored}
+use Rattle.cells.specs.Strip.{strip_limit, Small, moved, Raised, Starts, Stored}
 
 -- the greater of two
 max_none : (x y : ℕ) → y ≡ 0 → x ≡ max x y
@@ -46,7 +46,7 @@ pub part_none : (s : List ℕ) (from i : ℕ) (f : ℕ → ℕ) → ((a : ℕ) �
 part_none s from i f h = record { small = λ o. o; under = λ a l. refl; done = λ o a l m. max_none _ _ (h a l m); rest = λ a l. refl }
 
 module _ {s t : List ℕ} {from i : ℕ} {f : ℕ → ℕ} (p : Part s t from i f) where
-  pub part-more : (v y : ℕ) → from ≤ i → i < length t → v ≡ max (get_or t i 0 % stripLimit) y → y ≡ f i → y < stripLimit → Part s (set t i v) from (i + 1) f
+  pub part-more : (v y : ℕ) → from ≤ i → i < length t → v ≡ max (get_or t i 0 % strip_limit) y → y ≡ f i → y < strip_limit → Part s (set t i v) from (i + 1) f
   part-more v y b h e z k = record {
     small = λ o a. little (p.small o) a (dec_le a i) (dec_le i a);
     under = λ a l. get_or-set_other t i a v 0 (λ q. absurd (omega arith)) ∙ p.under a l;
@@ -54,10 +54,10 @@ module _ {s t : List ℕ} {from i : ℕ} {f : ℕ → ℕ} (p : Part s t from i 
     rest = λ a l. get_or-set_other t i a v 0 (λ q. absurd (omega arith)) ∙ p.rest a (omega arith);
   }
     where
-      here : Small t → v < stripLimit
+      here : Small t → v < strip_limit
       here o = omega (arith, o i)
 
-      little : Small t → (a : ℕ) → Dec (a ≤ i) → Dec (i ≤ a) → get_or (set t i v) a 0 < stripLimit
+      little : Small t → (a : ℕ) → Dec (a ≤ i) → Dec (i ≤ a) → get_or (set t i v) a 0 < strip_limit
       little o a (yes l) (yes m) = let q : a ≡ i = omega arith in rw (q, get_or-set_same t i v 0 h) (here o)
       little o a (yes l) (no m) = rw (get_or-set_other t i a v 0 (λ q. absurd (omega arith))) (o a)
       little o a (no l) k = rw (get_or-set_other t i a v 0 (λ q. absurd (omega arith))) (o a)
@@ -105,12 +105,12 @@ raised-from {s} {t} {start} {to} {f} r from b h = record {
     go o a l m (no k) = r.below a (omega arith) ∙ max_none _ _ (h a l (omega arith))
 
 -- a cell of a set that is no worse than the empty one adds as much to each cell, from where they say something on
-pub raised-more : {s t : List ℕ} {f : ℕ → ℕ} {first to : ℕ} → Starts f first to → (c v from start : ℕ) → powerLimit ≤ v → start ≡ max from (c + first)
-    → Raised s t start to (λ a. f (a - c) + (v - powerLimit)) → Raised s t from to (moved c v f)
+pub raised-more : {s t : List ℕ} {f : ℕ → ℕ} {first to : ℕ} → Starts f first to → (c v from start : ℕ) → power_limit ≤ v → start ≡ max from (c + first)
+    → Raised s t start to (λ a. f (a - c) + (v - power_limit)) → Raised s t from to (moved c v f)
 raised-more {s} {t} {f} {first} {to} k c v from start h e r =
     raised-from (raised-agree r (moved c v f) above) from (omega arith) (λ a l m. under a l m (dec_le c a))
   where
-    above : (a : ℕ) → start ≤ a → a < to → f (a - c) + (v - powerLimit) ≡ moved c v f a
+    above : (a : ℕ) → start ≤ a → a < to → f (a - c) + (v - power_limit) ≡ moved c v f a
     above a l m =
         let some : 0 < f (a - c) = k.some (a - c) (omega arith) (omega arith) in
         omega (arith, moved_at c v f a (omega arith), ⊕-both v (f (a - c)) (λ q. absurd (omega arith)) (λ q. absurd (omega arith)))

@@ -3,52 +3,52 @@
 -- takes the lowest .. that can be completed to that set" of paper 01. Assumes nothing.
 use Rattle.std.specs.Prelude.{ℕ, ◌≤◌, ◌<◌, ◌≡◌, Bool, true, false, ◌&&◌, ◌||◌, List, eqb, length, get_or}
 use Rattle.marks.specs.declared.LoadSet.{LoadSet}
-use Rattle.marks.specs.Sets.{noLoads, markIn}
+use Rattle.marks.specs.Sets.{no_loads, mark_in}
 use Rattle.tables.specs.declared.load.Load.{Load}
 use Rattle.tables.specs.declared.load.LoadList.{LoadList}
 use Rattle.tables.specs.declared.rule.TransitionList.{TransitionList}
 use Rattle.tables.specs.declared.tables.StoredTables.{StoredTables}
-use Rattle.tables.specs.Tables.{Book, noLoad, noRule}
-use Rattle.tables.specs.Limits.{maxLoads, maxRules, maxStates, maxWorth}
-use Rattle.tables.specs.Stored.{bookOf, loadsOf}
+use Rattle.tables.specs.Tables.{Book, no_load, no_rule}
+use Rattle.tables.specs.Limits.{max_loads, max_rules, max_states, max_worth}
+use Rattle.tables.specs.Stored.{book_of, loads_of}
 use Rattle.meaning.specs.Forest.{Item, planned, checked, IsTree}
-use Rattle.meaning.specs.Cell.{powerLimit}
+use Rattle.meaning.specs.Cell.{power_limit}
 use Rattle.cells.specs.declared.problem.Problem.{Problem}
 use Rattle.cells.specs.declared.problem.Shape.{Shape}
 use Rattle.cells.specs.declared.problem.StoredItem.{StoredItem}
 
 -- the problem of a plan: the tables as they are
-abbrev pub planProblem : StoredTables → Problem
-planProblem s = record { tables = s; fixed = false; set = noLoads }
+abbrev pub plan_problem : StoredTables → Problem
+plan_problem s = record { tables = s; fixed = false; set = no_loads }
 
 -- the problem of a checked set: no allowance, and no marks but its own
-abbrev pub checkProblem : StoredTables → LoadSet → Problem
-checkProblem s σ = record { tables = record { book = s.book; loads = s.loads; budget = 0 }; fixed = true; set = σ }
+abbrev pub check_problem : StoredTables → LoadSet → Problem
+check_problem s σ = record { tables = record { book = s.book; loads = s.loads; budget = 0 }; fixed = true; set = σ }
 
 -- the book and the loads on paper
-abbrev pub bookFor : Problem → Book
-bookFor p = bookOf p.tables.book
+abbrev pub book_for : Problem → Book
+book_for p = book_of p.tables.book
 
-abbrev pub loadsFor : Problem → List Load
-loadsFor p = loadsOf p.tables.loads
+abbrev pub loads_for : Problem → List Load
+loads_for p = loads_of p.tables.loads
 
 -- what counts of each load, by its number
-abbrev pub itemsIf : Bool → LoadSet → ℕ → Load → Item
-itemsIf false σ = planned
-itemsIf true σ = checked (markIn σ)
+abbrev pub items_if : Bool → LoadSet → ℕ → Load → Item
+items_if false σ = planned
+items_if true σ = checked (mark_in σ)
 
-abbrev pub itemsFor : Problem → ℕ → Load → Item
-itemsFor p = itemsIf p.fixed p.set
+abbrev pub items_for : Problem → ℕ → Load → Item
+items_for p = items_if p.fixed p.set
 
 -- what counts of a load, as the code holds it: any load rule of its kind serves, or those with the load's mark
-abbrev pub anyMark : ℕ
-anyMark = 2
+abbrev pub any_mark : ℕ
+any_mark = 2
 
-abbrev pub servesIf : (ownKind ownMark kind mark : ℕ) → Bool
-servesIf t m k l = eqb k t && (eqb m anyMark || eqb l m)
+abbrev pub serves_if : (own_kind own_mark kind mark : ℕ) → Bool
+serves_if t m k l = eqb k t && (eqb m any_mark || eqb l m)
 
 abbrev pub item_of : StoredItem → Item
-item_of i = record { power = i.power; worth = i.worth; kind = i.kind; serves = λ t. servesIf i.kind i.mark t.kind t.label }
+item_of i = record { power = i.power; worth = i.worth; kind = i.kind; serves = λ t. serves_if i.kind i.mark t.kind t.label }
 
 abbrev pub shape_of : Problem → Shape
 shape_of p = record {
@@ -62,25 +62,25 @@ shape_of p = record {
 
 -- the numbers of a shape are in range
 pub record Sane (sh : Shape) : Type 0 where
-  pub loads : sh.loads ≤ maxLoads
-  pub states : sh.states ≤ maxStates
-  pub stages : sh.stages ≤ maxStates
-  pub budget : sh.budget < powerLimit
+  pub loads : sh.loads ≤ max_loads
+  pub states : sh.states ≤ max_states
+  pub stages : sh.stages ≤ max_states
+  pub budget : sh.budget < power_limit
 
 -- the numbers of rules of one sort are in range: those of the labels are from low to high
 pub record RulesIn (l : TransitionList) (low high stages : ℕ) : Type 0 where
-  pub few : l.count ≤ maxRules
-  pub full : length l.items ≡ maxRules
-  pub label : (j : ℕ) → j < l.count → (low ≤ (get_or l.items j noRule).label) × ((get_or l.items j noRule).label ≤ high)
-  pub to : (j : ℕ) → j < l.count → (0 < (get_or l.items j noRule).to) × ((get_or l.items j noRule).to ≤ stages)
+  pub few : l.count ≤ max_rules
+  pub full : length l.items ≡ max_rules
+  pub label : (j : ℕ) → j < l.count → (low ≤ (get_or l.items j no_rule).label) × ((get_or l.items j no_rule).label ≤ high)
+  pub to : (j : ℕ) → j < l.count → (0 < (get_or l.items j no_rule).to) × ((get_or l.items j no_rule).to ≤ stages)
 
 -- the loads are a tree, and their figures are in range
 pub record LoadsIn (l : LoadList) : Type 0 where
-  pub full : length l.items ≡ maxLoads
-  pub ordered : IsTree (loadsOf l)
-  pub parents : (j : ℕ) → (get_or (loadsOf l) j noLoad).parent ≤ j
-  pub powers : (j : ℕ) → (get_or (loadsOf l) j noLoad).power < powerLimit
-  pub worths : (j : ℕ) → (get_or (loadsOf l) j noLoad).worth ≤ maxWorth
+  pub full : length l.items ≡ max_loads
+  pub ordered : IsTree (loads_of l)
+  pub parents : (j : ℕ) → (get_or (loads_of l) j no_load).parent ≤ j
+  pub powers : (j : ℕ) → (get_or (loads_of l) j no_load).power < power_limit
+  pub worths : (j : ℕ) → (get_or (loads_of l) j no_load).worth ≤ max_worth
 
 -- the tables keep the limits of "Loads and book", as far as the search needs them
 pub record Lawful (p : Problem) : Type 0 where

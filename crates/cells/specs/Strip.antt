@@ -5,11 +5,11 @@ use Rattle.lists.specs.Argmax.{guard}
 use Rattle.meaning.specs.Cell.{◌⊕◌}
 
 -- no number of a strip reaches this
-abbrev pub stripLimit : ℕ
-stripLimit = 2147483648
+abbrev pub strip_limit : ℕ
+strip_limit = 2147483648
 
 abbrev pub Small : List ℕ → Type 0
-Small s = (a : ℕ) → get_or s a 0 < stripLimit
+Small s = (a : ℕ) → get_or s a 0 < strip_limit
 
 -- the cells f, each joined with a cell of its own, and moved up by a power
 abbrev pub moved : (shift own : ℕ) → (ℕ → ℕ) → ℕ → ℕ

@@ -1,7 +1,7 @@
 // The cells of a search, filled in their order.
 ghost use Rattle.std.specs.Prelude.{◌≡◌, min, ◌≤◌};
 ghost use Rattle.cells.specs.Outline.{OutlineFits};
-ghost use Rattle.cells.specs.Work.{cellsNeeded, Ready};
+ghost use Rattle.cells.specs.Work.{cells_needed, Ready};
 ghost use Rattle.cells.specs.Stretch.{FilledBy};
 
 use crate::problem::Shape;
@@ -17,7 +17,7 @@ pub fn lesser(x: usize, y: usize) -> usize
 // did, and every other cell is as it was. Whatever the work holds, it ends.
 pub fn fill(sh: Shape, o: &[u16], work: &mut [u32], from: usize, to: usize)
     requires ready { Ready sh work.old × OutlineFits sh o.now }
-    requires from_le_to { (from ≤ to) × (to ≤ cellsNeeded sh) }
+    requires from_le_to { (from ≤ to) × (to ≤ cells_needed sh) }
     ensures { FilledBy sh o.now work.old work.new from to }
 {
     let width = sh.budget + 1;

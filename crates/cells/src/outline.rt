@@ -1,9 +1,9 @@
 // The outline of a problem: what a search reads of the tables, looked up once and lent as numbers.
 ghost use Rattle.std.specs.Prelude.{◌≡◌, ◌+◌, ◌*◌, ◌≤◌, ◌<◌, length, get_or, replicate};
-ghost use Rattle.tables.specs.Limits.{maxLoads, maxRules, maxWorth};
-ghost use Rattle.meaning.specs.Cell.{powerLimit};
-ghost use Rattle.cells.specs.Problem.{itemsIf, item_of, shape_of, Lawful};
-ghost use Rattle.cells.specs.Outline.{outlineSize, ruleNumbers, leadIn, rulesIn, jointIn, withLoad, withRule, LoadsPut, RulesPut, Outlines, NextRule};
+ghost use Rattle.tables.specs.Limits.{max_loads, max_rules, max_worth};
+ghost use Rattle.meaning.specs.Cell.{power_limit};
+ghost use Rattle.cells.specs.Problem.{items_if, item_of, shape_of, Lawful};
+ghost use Rattle.cells.specs.Outline.{outline_size, rule_numbers, lead_in, rules_in, joint_in, with_load, with_rule, LoadsPut, RulesPut, Outlines, NextRule};
 
 use crate::problem::{ANY_MARK, Problem, Shape, StoredItem};
 use marks::LoadSet;
@@ -53,8 +53,8 @@ pub struct Joint {
 
 // What counts of load k. Where `fixed`, only its kind and the mark that it has in the set do.
 fn item_of(fixed: bool, set: LoadSet, k: usize, l: Load) -> StoredItem
-    requires { (l.power < powerLimit) × (l.worth ≤ maxWorth) }
-    ensures { (item_of result ≡ itemsIf fixed set k l) × (result.power < powerLimit) × (result.worth ≤ maxWorth) }
+    requires { (l.power < power_limit) × (l.worth ≤ max_worth) }
+    ensures { (item_of result ≡ items_if fixed set k l) × (result.power < power_limit) × (result.worth ≤ max_worth) }
 {
     if fixed {
         let mut mark: u16 = 0;
@@ -78,8 +78,8 @@ fn item_of(fixed: bool, set: LoadSet, k: usize, l: Load) -> StoredItem
 
 // Load k, below load q, is written: the child of q till now comes after it.
 fn put_load(o: &mut [u16], k: usize, q: usize, i: StoredItem)
-    requires { (length o.old ≡ outlineSize) × (k ≤ maxLoads) × (q ≤ maxLoads) × (i.power < powerLimit) × (i.worth ≤ maxWorth) }
-    ensures { o.new ≡ withLoad o.old k q i }
+    requires { (length o.old ≡ outline_size) × (k ≤ max_loads) × (q ≤ max_loads) × (i.power < power_limit) × (i.worth ≤ max_worth) }
+    ensures { o.new ≡ with_load o.old k q i }
 {
     let at = LOAD_NUMBERS * k;
     o[at + 1] = o[LOAD_NUMBERS * q];
@@ -93,7 +93,7 @@ fn put_load(o: &mut [u16], k: usize, q: usize, i: StoredItem)
 // The loads are written, from last to first.
 fn put_loads(o: &mut [u16], p: Problem)
     requires lawful { Lawful p }
-    requires o_value { o.old ≡ replicate outlineSize 0 }
+    requires o_value { o.old ≡ replicate outline_size 0 }
     ensures { LoadsPut p o.old 0 o.new }
 {
     let tables = p.tables;
@@ -110,8 +110,8 @@ fn put_loads(o: &mut [u16], p: Problem)
 }
 
 fn put_rule(o: &mut [u16], at: usize, t: Transition)
-    requires { at + ruleNumbers ≤ length o.old }
-    ensures { o.new ≡ withRule o.old at t }
+    requires { at + rule_numbers ≤ length o.old }
+    ensures { o.new ≡ with_rule o.old at t }
 {
     o[at] = t.from as u16;
     o[at + 1] = t.label as u16;
@@ -121,7 +121,7 @@ fn put_rule(o: &mut [u16], at: usize, t: Transition)
 
 // Rules of one sort are written from a place on.
 fn put_rules(o: &mut [u16], rules: TransitionList, at: usize)
-    requires { (rules.count ≤ maxRules) × (length rules.items ≡ maxRules) × (at + ruleNumbers * maxRules ≤ length o.old) }
+    requires { (rules.count ≤ max_rules) × (length rules.items ≡ max_rules) × (at + rule_numbers * max_rules ≤ length o.old) }
     ensures { RulesPut rules o.old at rules.count o.new }
 {
     let n = rules.count;
@@ -134,7 +134,7 @@ fn put_rules(o: &mut [u16], rules: TransitionList, at: usize)
 // The outline of a problem.
 pub fn put_outline(o: &mut [u16], p: Problem)
     requires lawful { Lawful p }
-    requires o_value { o.old ≡ replicate outlineSize 0 }
+    requires o_value { o.old ≡ replicate outline_size 0 }
     ensures { Outlines p (shape_of p) o.new }
 {
     let tables = p.tables;
@@ -150,8 +150,8 @@ pub fn put_outline(o: &mut [u16], p: Problem)
 
 // The rules that begin at state or stage x.
 pub fn rules_at(sh: Shape, o: &[u16], x: usize) -> Rules
-    requires { (length o.now ≡ outlineSize) × (x < 65535) }
-    ensures { result ≡ rulesIn sh o.now x }
+    requires { (length o.now ≡ outline_size) × (x < 65535) }
+    ensures { result ≡ rules_in sh o.now x }
 {
     if sh.states <= x {
         return Rules {
@@ -169,8 +169,8 @@ pub fn rules_at(sh: Shape, o: &[u16], x: usize) -> Rules
 
 // What these rules join at load k.
 pub fn joint_at(sh: Shape, o: &[u16], k: usize, x: usize) -> Joint
-    requires { (length o.now ≡ outlineSize) × (k ≤ maxLoads) }
-    ensures { result ≡ jointIn sh o.now k x }
+    requires { (length o.now ≡ outline_size) × (k ≤ max_loads) }
+    ensures { result ≡ joint_in sh o.now k x }
 {
     let at = LOAD_NUMBERS * k;
     let item = StoredItem {
@@ -197,7 +197,7 @@ pub fn joint_at(sh: Shape, o: &[u16], k: usize, x: usize) -> Joint
 
 // The next of these rules from rule j on, their number if there is none. The rules of a book are reached through this function alone.
 pub fn next_rule(o: &[u16], r: Rules, j: usize) -> usize
-    requires { (r.count ≤ maxRules) × (r.at + ruleNumbers * maxRules ≤ length o.now) × (j ≤ r.count) }
+    requires { (r.count ≤ max_rules) × (r.at + rule_numbers * max_rules ≤ length o.now) × (j ≤ r.count) }
     ensures { NextRule o.now r j result }
 {
     let mut i = j;
@@ -220,8 +220,8 @@ fn number_at(o: &[u16], i: usize) -> usize
 
 // What one of these rules leads to.
 pub fn lead_of(o: &[u16], r: Rules, j: usize) -> Lead
-    requires { (j < maxRules) × (r.at + ruleNumbers * maxRules ≤ length o.now) }
-    ensures { result ≡ leadIn o.now r.at j }
+    requires { (j < max_rules) × (r.at + rule_numbers * max_rules ≤ length o.now) }
+    ensures { result ≡ lead_in o.now r.at j }
 {
     let at = r.at + RULE_NUMBERS * j;
     Lead {

@@ -1,10 +1,10 @@
 // What planning and checking a set have in common, and what is looked up in it.
 ghost use Rattle.std.specs.Prelude.{◌≡◌, true, ◌≤◌, ◌<◌};
-ghost use Rattle.tables.specs.Limits.{maxWorth};
-ghost use Rattle.tables.specs.Stored.{keepsLimits};
-ghost use Rattle.meaning.specs.Cell.{powerLimit, draw, score};
-ghost use Rattle.cells.specs.Problem.{planProblem, checkProblem, item_of, servesIf, shape_of, Lawful};
-ghost use Rattle.cells.specs.Work.{cellLimit};
+ghost use Rattle.tables.specs.Limits.{max_worth};
+ghost use Rattle.tables.specs.Stored.{keeps_limits};
+ghost use Rattle.meaning.specs.Cell.{power_limit, draw, score};
+ghost use Rattle.cells.specs.Problem.{plan_problem, check_problem, item_of, serves_if, shape_of, Lawful};
+ghost use Rattle.cells.specs.Work.{cell_limit};
 
 use crate::cell;
 use marks::{LoadSet, Marks};
@@ -43,8 +43,8 @@ pub struct StoredItem {
 
 // The problem of a plan.
 pub fn plan_problem(tables: StoredTables) -> Problem
-    requires { keepsLimits tables ≡ true }
-    ensures { (result ≡ planProblem tables) × Lawful result }
+    requires { keeps_limits tables ≡ true }
+    ensures { (result ≡ plan_problem tables) × Lawful result }
 {
     Problem {
         tables: tables,
@@ -55,8 +55,8 @@ pub fn plan_problem(tables: StoredTables) -> Problem
 
 // The problem of a checked set.
 pub fn check_problem(tables: StoredTables, set: LoadSet) -> Problem
-    requires { keepsLimits tables ≡ true }
-    ensures { (result ≡ checkProblem tables set) × Lawful result }
+    requires { keeps_limits tables ≡ true }
+    ensures { (result ≡ check_problem tables set) × Lawful result }
 {
     let mut t = tables;
     t.budget = 0;
@@ -87,7 +87,7 @@ pub fn shape_of(p: Problem) -> Shape
 
 // Does a load rule of this kind with this mark serve the load?
 pub fn serves(i: StoredItem, kind: usize, mark: usize) -> bool
-    ensures { result ≡ servesIf i.kind i.mark kind mark }
+    ensures { result ≡ serves_if i.kind i.mark kind mark }
 {
     (kind == i.kind as usize) & ((i.mark == ANY_MARK) | (mark == i.mark as usize))
 }
@@ -101,8 +101,8 @@ pub fn draw_of(i: StoredItem, mark: usize) -> usize
 
 // The cell of a load with this mark.
 pub fn own_of(i: StoredItem, mark: usize) -> u32
-    requires { (i.power < powerLimit) × (i.worth ≤ maxWorth) }
-    ensures { (result ≡ score (item_of i) mark) × (result ≤ cellLimit) }
+    requires { (i.power < power_limit) × (i.worth ≤ max_worth) }
+    ensures { (result ≡ score (item_of i) mark) × (result ≤ cell_limit) }
 {
     if mark == 0 {
         return cell::EMPTY;

@@ -1,10 +1,10 @@
 // A stretch: the cells of one load and one state or stage, made in a strip of their own, rule by rule, and stored.
 ghost use Rattle.std.specs.Prelude.{◌+◌, ◌≤◌, ◌<◌, length};
 ghost use Rattle.meaning.specs.Best.{shares};
-ghost use Rattle.cells.specs.Outline.{ofRow, bestIn, JointFits, RuleFits, RulesFit, OutlineFits};
-ghost use Rattle.cells.specs.Work.{cellLimit, Ready, heldBranch, heldRow};
+ghost use Rattle.cells.specs.Outline.{of_row, best_in, JointFits, RuleFits, RulesFit, OutlineFits};
+ghost use Rattle.cells.specs.Work.{cell_limit, Ready, held_branch, held_row};
 ghost use Rattle.cells.specs.Strip.{moved, Raised, Rising};
-ghost use Rattle.cells.specs.Stretch.{leading, reachOf, Sound, Worked};
+ghost use Rattle.cells.specs.Stretch.{leading, reach_of, Sound, Worked};
 
 use crate::cell::EMPTY;
 use crate::outline::{Joint, Lead, Rules, joint_at, lead_of, next_rule, rules_at};
@@ -32,8 +32,8 @@ struct Spot {
 // The strip raised to a row, joined with `own` and moved up by `shift`.
 fn lift_row(sh: Shape, work: &[u32], strip: &mut [u32], row: Spot, shift: usize, own: u32, s: Span)
     requires ready { Ready sh work.now }
-    requires load_le_loads { (row.load ≤ sh.loads) × (0 < row.stage) × (row.stage ≤ sh.stages) × (s.to ≤ sh.budget + 1) × (s.to ≤ length strip.old) × (own ≤ cellLimit) }
-    ensures { Raised strip.old strip.new s.from s.to (moved shift own (heldRow sh work.now row.load row.stage)) }
+    requires load_le_loads { (row.load ≤ sh.loads) × (0 < row.stage) × (row.stage ≤ sh.stages) × (s.to ≤ sh.budget + 1) × (s.to ≤ length strip.old) × (own ≤ cell_limit) }
+    ensures { Raised strip.old strip.new s.from s.to (moved shift own (held_row sh work.now row.load row.stage)) }
 {
     if row.load == 0 {
         let ends = sh.ends;
@@ -51,7 +51,7 @@ fn raise_split(sh: Shape, work: &[u32], strip: &mut [u32], k: usize, q: usize, r
     requires ready { Ready sh work.now }
     requires k_nonzero { (0 < k) × (k ≤ sh.loads) × (row.load ≤ sh.loads) × (s.to ≤ sh.budget + 1) × (s.to ≤ length strip.old) }
     requires q_nonzero { (0 < q) × (q ≤ sh.states) × (0 < row.stage) × (row.stage ≤ sh.stages) }
-    ensures { Rising (heldBranch sh work.now k q) s.to → Rising (heldRow sh work.now row.load row.stage) s.to → Raised strip.old strip.new s.from s.to (λ a. (shares (heldBranch sh work.now k q) (heldRow sh work.now row.load row.stage) a).value) }
+    ensures { Rising (held_branch sh work.now k q) s.to → Rising (held_row sh work.now row.load row.stage) s.to → Raised strip.old strip.new s.from s.to (λ a. (shares (held_branch sh work.now k q) (held_row sh work.now row.load row.stage) a).value) }
 {
     let x = place(sh, k, q - 1);
     if row.load == 0 {
@@ -69,7 +69,7 @@ fn raise_split(sh: Shape, work: &[u32], strip: &mut [u32], k: usize, q: usize, r
 fn by_rule(sh: Shape, t: Joint, lead: Lead, work: &[u32], strip: &mut [u32], s: Span)
     requires ready { Ready sh work.now × JointFits sh t × RuleFits sh t.branch (leading lead) }
     requires to_bound { (s.to ≤ sh.budget + 1) × (s.to ≤ length strip.old) }
-    ensures { Sound sh work.now t s.to → Raised strip.old strip.new s.from s.to (λ a. reachOf sh work.now t a (leading lead)) }
+    ensures { Sound sh work.now t s.to → Raised strip.old strip.new s.from s.to (λ a. reach_of sh work.now t a (leading lead)) }
 {
     let row = Spot {
         load: t.rest,
@@ -91,7 +91,7 @@ fn by_rule(sh: Shape, t: Joint, lead: Lead, work: &[u32], strip: &mut [u32], s: 
 fn raise(sh: Shape, o: &[u16], t: Joint, r: Rules, work: &[u32], strip: &mut [u32], s: Span)
     requires ready { Ready sh work.now × JointFits sh t × RulesFit sh o.now t.branch r }
     requires to_bound { (s.to ≤ sh.budget + 1) × (s.to ≤ length strip.old) }
-    ensures { Sound sh work.now t s.to → Raised strip.old strip.new s.from s.to (λ a. (bestIn o.now r (reachOf sh work.now t a)).value) }
+    ensures { Sound sh work.now t s.to → Raised strip.old strip.new s.from s.to (λ a. (best_in o.now r (reach_of sh work.now t a)).value) }
 {
     let mut j = next_rule(o, r, 0);
     while j < r.count {

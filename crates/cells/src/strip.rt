@@ -2,7 +2,7 @@
 ghost use Rattle.std.specs.Prelude.{◌≡◌, max, ◌+◌, ◌-◌, ◌≤◌, ◌<◌, length};
 ghost use Rattle.meaning.specs.Cell.{empty};
 ghost use Rattle.meaning.specs.Best.{shares};
-ghost use Rattle.cells.specs.Work.{cellLimit, cellsFrom};
+ghost use Rattle.cells.specs.Work.{cell_limit, cells_from};
 ghost use Rattle.cells.specs.Strip.{moved, Raised, Rising, Starts, Passed, Stored};
 
 use crate::cell::{EMPTY, held, join, raised};
@@ -27,7 +27,7 @@ fn later(x: usize, y: usize) -> usize
 
 // The strip raised to v from the allowance `shift` on.
 pub(crate) fn flat(strip: &mut [u32], shift: usize, v: u32, from: usize, to: usize)
-    requires { (to ≤ length strip.old) × (v ≤ cellLimit) }
+    requires { (to ≤ length strip.old) × (v ≤ cell_limit) }
     ensures { Raised strip.old strip.new from to (moved shift v (λ _. empty)) }
 {
     let mut a = later(from, shift);
@@ -47,8 +47,8 @@ pub(crate) fn lift(
     from: usize,
     to: usize,
 )
-    requires { (to ≤ length strip.old) × (at + to ≤ length cells.now) × (own ≤ cellLimit) }
-    ensures { Raised strip.old strip.new from to (moved shift own (cellsFrom cells.now at)) }
+    requires { (to ≤ length strip.old) × (at + to ≤ length cells.now) × (own ≤ cell_limit) }
+    ensures { Raised strip.old strip.new from to (moved shift own (cells_from cells.now at)) }
 {
     let mut a = later(from, shift);
     while a < to {
@@ -67,8 +67,8 @@ fn rise(
     from: usize,
     to: usize,
 )
-    requires { (shift ≤ from) × (to ≤ length strip.old) × (at + to ≤ length cells.now) × (more ≤ cellLimit) }
-    ensures { Raised strip.old strip.new from to (λ a. cellsFrom cells.now at (a - shift) + more) }
+    requires { (shift ≤ from) × (to ≤ length strip.old) × (at + to ≤ length cells.now) × (more ≤ cell_limit) }
+    ensures { Raised strip.old strip.new from to (λ a. cells_from cells.now at (a - shift) + more) }
 {
     let mut a = from;
     while a < to {
@@ -79,8 +79,8 @@ fn rise(
 
 // The strip raised to the cells of one side, each joined with the cell v of the other and moved up by its allowance c.
 fn lift_step(strip: &mut [u32], cells: &[u32], y: Side, c: usize, v: u32, from: usize, to: usize)
-    requires { (to ≤ length strip.old) × (y.at + to ≤ length cells.now) × (y.first ≤ to) × (c ≤ to) × (v ≤ cellLimit) }
-    ensures { Starts (cellsFrom cells.now y.at) y.first to → Raised strip.old strip.new from to (moved c v (cellsFrom cells.now y.at)) }
+    requires { (to ≤ length strip.old) × (y.at + to ≤ length cells.now) × (y.first ≤ to) × (c ≤ to) × (v ≤ cell_limit) }
+    ensures { Starts (cells_from cells.now y.at) y.first to → Raised strip.old strip.new from to (moved c v (cells_from cells.now y.at)) }
 {
     if v < EMPTY {
         lift(strip, cells, y.at, c, v, from, to);
@@ -93,8 +93,8 @@ fn lift_step(strip: &mut [u32], cells: &[u32], y: Side, c: usize, v: u32, from: 
 // An allowance from `from` on up to which the cells say `last`, in whole strides: of cells that do not fall only the last of a stride is read.
 fn passed(cells: &[u32], at: usize, from: usize, last: u32, stride: usize, to: usize) -> usize
     requires { (from ≤ to) × (0 < stride) × (at + to ≤ length cells.now) }
-    ensures over { Passed (cellsFrom cells.now at) last from to result }
-    ensures far { stride ≤ to - result → cellsFrom cells.now at (result + (stride - 1)) ≡ last → ⊥ }
+    ensures over { Passed (cells_from cells.now at) last from to result }
+    ensures far { stride ≤ to - result → cells_from cells.now at (result + (stride - 1)) ≡ last → ⊥ }
 {
     let mut c = from;
     while stride <= to - c {
@@ -109,8 +109,8 @@ fn passed(cells: &[u32], at: usize, from: usize, last: u32, stride: usize, to: u
 // The first allowance from `from` on at which the cells step up from `last`, `to` if there is none.
 fn next_step(cells: &[u32], at: usize, from: usize, last: u32, to: usize) -> usize
     requires { (from ≤ to) × (at + to ≤ length cells.now) }
-    ensures over { Passed (cellsFrom cells.now at) last from to result }
-    ensures step { result < to → cellsFrom cells.now at result ≡ last → ⊥ }
+    ensures over { Passed (cells_from cells.now at) last from to result }
+    ensures step { result < to → cells_from cells.now at result ≡ last → ⊥ }
 {
     let far = passed(cells, at, from, last, FAR, to);
     let near = passed(cells, at, far, last, NEAR, to);
@@ -138,7 +138,7 @@ fn lighter(cells: &[u32], x: usize, y: usize, to: usize) -> bool
 // An allowance that gives the first no more than a smaller one did is passed over: what is left for the second does not grow.
 fn split(strip: &mut [u32], cells: &[u32], x: usize, y: usize, from: usize, to: usize)
     requires { (to ≤ length strip.old) × (x + to ≤ length cells.now) × (y + to ≤ length cells.now) }
-    ensures { Rising (cellsFrom cells.now x) to → Rising (cellsFrom cells.now y) to → Raised strip.old strip.new from to (λ a. (shares (cellsFrom cells.now x) (cellsFrom cells.now y) a).value) }
+    ensures { Rising (cells_from cells.now x) to → Rising (cells_from cells.now y) to → Raised strip.old strip.new from to (λ a. (shares (cells_from cells.now x) (cells_from cells.now y) a).value) }
 {
     let first = next_step(cells, y, 0, 0, to);
     let mut c = next_step(cells, x, 0, 0, to);
@@ -152,7 +152,7 @@ fn split(strip: &mut [u32], cells: &[u32], x: usize, y: usize, from: usize, to: 
 // The same, by the steps of the one that has fewer.
 pub(crate) fn share(strip: &mut [u32], cells: &[u32], x: usize, y: usize, from: usize, to: usize)
     requires { (to ≤ length strip.old) × (x + to ≤ length cells.now) × (y + to ≤ length cells.now) }
-    ensures { Rising (cellsFrom cells.now x) to → Rising (cellsFrom cells.now y) to → Raised strip.old strip.new from to (λ a. (shares (cellsFrom cells.now x) (cellsFrom cells.now y) a).value) }
+    ensures { Rising (cells_from cells.now x) to → Rising (cells_from cells.now y) to → Raised strip.old strip.new from to (λ a. (shares (cells_from cells.now x) (cells_from cells.now y) a).value) }
 {
     if lighter(cells, y, x, to) {
         split(strip, cells, y, x, from, to);

@@ -1,14 +1,14 @@
 // The cells in the lent work: how many, where each stands, and all of them cleared.
 ghost use Rattle.std.specs.Prelude.{◌≡◌, ◌++◌, ◌+◌, ◌≤◌, ◌<◌, length, drop, replicate};
 ghost use Rattle.cells.specs.Problem.{Sane};
-ghost use Rattle.cells.specs.Work.{place_of, cellsNeeded};
+ghost use Rattle.cells.specs.Work.{place_of, cells_needed};
 
 use crate::problem::Shape;
 
 // The number of cells.
 pub fn cells_needed(sh: Shape) -> usize
     requires { Sane sh }
-    ensures { result ≡ cellsNeeded sh }
+    ensures { result ≡ cells_needed sh }
 {
     sh.loads * (sh.states + sh.stages) * (sh.budget + 1)
 }

@@ -9,8 +9,8 @@ use lib.ListN.{length}
 use types.Run.{OneOf}
 use denote.Enum.Declared.{tag_of}
 use native.Mathlib.Omega.{arith}
-use Rattle.marks.specs.Sets.{noLoads, hasLoad}
-use Rattle.lines.specs.Grammar.{isBits, loadsOf}
+use Rattle.marks.specs.Sets.{no_loads, has_load}
+use Rattle.lines.specs.Grammar.{is_bits, loads_of}
 use Rattle.lines.specs.Reading.{bits_of}
 use Rattle.lines.specs.declared.Command.{Command}
 use Rattle.lines.specs.declared.Command.TheVariants.{Change, Plan, Check, Save, Last, Need, Broken, TooLong}
@@ -19,30 +19,30 @@ use Rattle.tables.specs.Tables.{Tables}
 use Rattle.lists.proofs.Bools.{and_left, and_right}
 use Rattle.lists.specs.Tests.{pick}
 use Rattle.changeover.specs.declared.sets.Written.{Written}
-use Rattle.changeover.specs.Sets.{is_set, onBy, carries, readAs}
+use Rattle.changeover.specs.Sets.{is_set, on_by, carries, read_as}
 use Rattle.changeover.specs.Steps.{steps}
 
 -- what is made of a command
-abbrev pub setRead : (loads : ℕ) → Command → Written
-setRead n (Check s k) = record { right = eqb k n; set = s }
-setRead n (Change c) = record { right = false; set = noLoads }
-setRead n Plan = record { right = false; set = noLoads }
-setRead n (Save f) = record { right = false; set = noLoads }
-setRead n Last = record { right = false; set = noLoads }
-setRead n (Need v) = record { right = false; set = noLoads }
-setRead n Broken = record { right = false; set = noLoads }
-setRead n TooLong = record { right = false; set = noLoads }
+abbrev pub set_read : (loads : ℕ) → Command → Written
+set_read n (Check s k) = record { right = eqb k n; set = s }
+set_read n (Change c) = record { right = false; set = no_loads }
+set_read n Plan = record { right = false; set = no_loads }
+set_read n (Save f) = record { right = false; set = no_loads }
+set_read n Last = record { right = false; set = no_loads }
+set_read n (Need v) = record { right = false; set = no_loads }
+set_read n Broken = record { right = false; set = no_loads }
+set_read n TooLong = record { right = false; set = no_loads }
 
-pub set-read-as : (n : ℕ) (f : List ℕ) → setRead n (bits_of f) ≡ readAs n f
-unfolding bits_of readAs
-set-read-as n f = go (isBits f)
+pub set-read-as : (n : ℕ) (f : List ℕ) → set_read n (bits_of f) ≡ read_as n f
+unfolding bits_of read_as
+set-read-as n f = go (is_bits f)
   where
-    go : (b : Bool) → setRead n (pick b (Check (loadsOf f) (length f)) Broken) ≡ record { right = b && eqb (length f) n; set = pick b (loadsOf f) noLoads }
+    go : (b : Bool) → set_read n (pick b (Check (loads_of f) (length f)) Broken) ≡ record { right = b && eqb (length f) n; set = pick b (loads_of f) no_loads }
     go true = refl
     go false = refl
 
 -- of every command but a check
-pub no-set-read : (n : ℕ) (c : Command) → OneOf (0 ∷ 1 ∷ 3 ∷ 4 ∷ 5 ∷ 6 ∷ 7 ∷ []) (tag_of T.the_type c) → record { right = false; set = noLoads } ≡ setRead n c
+pub no-set-read : (n : ℕ) (c : Command) → OneOf (0 ∷ 1 ∷ 3 ∷ 4 ∷ 5 ∷ 6 ∷ 7 ∷ []) (tag_of T.the_type c) → record { right = false; set = no_loads } ≡ set_read n c
 no-set-read n (Change c) k = refl
 no-set-read n Plan k = refl
 no-set-read n (Check s j) (inl e) = absurd (omega (arith, e))
@@ -59,26 +59,26 @@ no-set-read n Broken k = refl
 no-set-read n TooLong k = refl
 
 -- ---- what was read
-module _ (n : ℕ) (f : List ℕ) (r : Written) (e : r ≡ readAs n f) where
+module _ (n : ℕ) (f : List ℕ) (r : Written) (e : r ≡ read_as n f) where
   pub right-read : r.right ≡ is_set n f
-  unfolding readAs
+  unfolding read_as
   right-read = ap (λ (x : Written). x.right) e
 
-  pub set-read : is_set n f ≡ true → r.set ≡ loadsOf f
-  unfolding readAs
-  set-read h = ap (λ (x : Written). x.set) e ∙ rw (and_left (isBits f) (eqb (length f) n) h) refl
+  pub set-read : is_set n f ≡ true → r.set ≡ loads_of f
+  unfolding read_as
+  set-read h = ap (λ (x : Written). x.set) e ∙ rw (and_left (is_bits f) (eqb (length f) n) h) refl
 
 -- ---- both sets, as they were read for n loads
-module _ (n : ℕ) (old new : List ℕ) (from to : Written) (e : from ≡ readAs n old) (e' : to ≡ readAs n new) where
+module _ (n : ℕ) (old new : List ℕ) (from to : Written) (e : from ≡ read_as n old) (e' : to ≡ read_as n new) where
   pub both-sets : (m : ℕ) {b : Bool} → n ≡ m → from.right && to.right ≡ b → is_set m old && is_set m new ≡ b
   both-sets m is h = rw is at (sym (ap₂ (λ a b. a && b) (right-read n old from e) (right-read n new to e')) ∙ h)
 
-  pub both-carried : (t : Tables) {a b c : Bool} → is_set n old && is_set n new ≡ true → a ≡ carries t (hasLoad from.set) → b ≡ carries t (hasLoad to.set) → a && b ≡ c → carries t (onBy old) && carries t (onBy new) ≡ c
+  pub both-carried : (t : Tables) {a b c : Bool} → is_set n old && is_set n new ≡ true → a ≡ carries t (has_load from.set) → b ≡ carries t (has_load to.set) → a && b ≡ c → carries t (on_by old) && carries t (on_by new) ≡ c
   both-carried t right is is' h =
-      ap₂ (λ x y. x && y) (ap (λ s. carries t (hasLoad s)) (sym (set-read n old from e (and_left (is_set n old) (is_set n new) right))) ∙ sym is)
-      (ap (λ s. carries t (hasLoad s)) (sym (set-read n new to e' (and_right (is_set n old) (is_set n new) right))) ∙ sym is') ∙ h
+      ap₂ (λ x y. x && y) (ap (λ s. carries t (has_load s)) (sym (set-read n old from e (and_left (is_set n old) (is_set n new) right))) ∙ sym is)
+      (ap (λ s. carries t (has_load s)) (sym (set-read n new to e' (and_right (is_set n old) (is_set n new) right))) ∙ sym is') ∙ h
 
   -- the steps between them
-  pub both-steps : is_set n old && is_set n new ≡ true → steps (hasLoad from.set) (hasLoad to.set) n ≡ steps (onBy old) (onBy new) n
+  pub both-steps : is_set n old && is_set n new ≡ true → steps (has_load from.set) (has_load to.set) n ≡ steps (on_by old) (on_by new) n
   both-steps right =
-      ap₂ (λ s u. steps (hasLoad s) (hasLoad u) n) (set-read n old from e (and_left (is_set n old) (is_set n new) right)) (set-read n new to e' (and_right (is_set n old) (is_set n new) right))
+      ap₂ (λ s u. steps (has_load s) (has_load u) n) (set-read n old from e (and_left (is_set n old) (is_set n new) right)) (set-read n new to e' (and_right (is_set n old) (is_set n new) right))

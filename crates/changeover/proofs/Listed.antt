@@ -9,24 +9,24 @@ use borrow.Author.Tests.{ltb-false}
 use lib.Dec.{eqb, leb, ltb}
 use lib.ListN.{length, get_or, set, take, length-append}
 use lib.Seq.{sets, length-sets, take_all}
-use Rattle.lists.proofs.Arrays.{getD-laid}
+use Rattle.lists.proofs.Arrays.{get_or-laid}
 use Rattle.lists.proofs.Bools.{and_left, and_right}
 use Rattle.tables.specs.Tables.{Tables}
-use Rattle.tables.specs.Limits.{maxLoads, limits, Limits}
-use Rattle.tables.specs.Stored.{tables_of, keepsLimits, rulesFree, loadsFree}
+use Rattle.tables.specs.Limits.{max_loads, limits, Limits}
+use Rattle.tables.specs.Stored.{tables_of, keeps_limits, rules_free, loads_free}
 use Rattle.tables.specs.Operations.{accepted}
 use Rattle.tables.specs.Refusals as no
 use Rattle.tables.proofs.Lawful.{lawful}
 use Rattle.meaning.specs.Cells.{cells_of}
-use Rattle.runs.specs.Outcome.{heldRange, keepsOutcome}
+use Rattle.runs.specs.Outcome.{held_range, keeps_outcome}
 use Rattle.calls.specs.State.{StoredState, state_of, keeps}
 use Rattle.calls.proofs.Numbers.{passed, passed-not}
 use Rattle.changeover.specs.declared.order.Step.{Step}
 use Rattle.changeover.specs.declared.order.Order.{Order}
-use Rattle.changeover.specs.Sets.{is_set, onBy, carries}
-use Rattle.changeover.specs.Steps.{noStep, offSteps, onSteps}
-use Rattle.changeover.specs.Order.{laidOrder}
-use Rattle.changeover.specs.Changeover.{steps_of, refusalOf, stepsGiven, order_of, changedTo, changeover}
+use Rattle.changeover.specs.Sets.{is_set, on_by, carries}
+use Rattle.changeover.specs.Steps.{no_step, off_steps, on_steps}
+use Rattle.changeover.specs.Order.{laid_order}
+use Rattle.changeover.specs.Changeover.{steps_of, refusal_of, steps_given, order_of, changed_to, changeover}
 use Rattle.changeover.proofs.Lengths.{steps-few}
 
 -- ---- one more stored behind those that were
@@ -40,7 +40,7 @@ pub record Unrefused (p : StoredState) (old new : List ℕ) (n : ℕ) : Type 0 w
   pub keeps : keeps p ≡ true
   pub loads : eqb (length (state_of p).tables.loads) 0 ≡ false
   pub sets : let k = length (state_of p).tables.loads in is_set k old && is_set k new ≡ true
-  pub carried : let t = (state_of p).tables in carries t (onBy old) && carries t (onBy new) ≡ true
+  pub carried : let t = (state_of p).tables in carries t (on_by old) && carries t (on_by new) ≡ true
   pub room : ltb n (length (steps_of (state_of p).tables old new)) ≡ false
 
 module _ (p : StoredState) (old new : List ℕ) (n : ℕ) where
@@ -50,38 +50,38 @@ module _ (p : StoredState) (old new : List ℕ) (n : ℕ) where
   abbrev k : ℕ
   k = length t.loads
 
-  pub unrefused : refusalOf p old new n ≡ 0 → Unrefused p old new n
-  unfolding refusalOf
+  pub unrefused : refusal_of p old new n ≡ 0 → Unrefused p old new n
+  unfolding refusal_of
   unrefused z =
       let a = passed-not no.unusable (keeps p) _ (omega arith) z in
-      let b = passed no.noLoads (eqb k 0) _ (omega arith) a.1 in
-      let c = passed-not no.outOfRange (is_set k old && is_set k new) _ (omega arith) b.1 in
-      let d = passed-not no.notCarried (carries t (onBy old) && carries t (onBy new)) _ (omega arith) c.1 in
-      let e = passed no.shortList (ltb n (length (steps_of t old new))) [] (omega arith) d.1 in
+      let b = passed no.no_loads (eqb k 0) _ (omega arith) a.1 in
+      let c = passed-not no.out_of_range (is_set k old && is_set k new) _ (omega arith) b.1 in
+      let d = passed-not no.not_carried (carries t (on_by old) && carries t (on_by new)) _ (omega arith) c.1 in
+      let e = passed no.short_list (ltb n (length (steps_of t old new))) [] (omega arith) d.1 in
       record { keeps = a.0; loads = b.0; sets = c.0; carried = d.0; room = e.0 }
 
   -- a planner that keeps its limits has tables that do
   pub kept-limits : keeps p ≡ true → Limits t
-  unfolding keepsLimits
+  unfolding keeps_limits
   kept-limits h =
       let s = p.tables in
-      let tables = and_left (keepsLimits s) (keepsOutcome (heldRange s) p.outcome) (and_left (keepsLimits s && keepsOutcome (heldRange s) p.outcome) (leb p.filled (cells_of (tables_of s))) h) in
-      and_right (rulesFree s.book.load_rules && rulesFree s.book.row_rules && loadsFree s.loads) (limits (tables_of s)) tables
+      let tables = and_left (keeps_limits s) (keeps_outcome (held_range s) p.outcome) (and_left (keeps_limits s && keeps_outcome (held_range s) p.outcome) (leb p.filled (cells_of (tables_of s))) h) in
+      and_right (rules_free s.book.load_rules && rules_free s.book.row_rules && loads_free s.loads) (limits (tables_of s)) tables
 
   pub steps-most : keeps p ≡ true → length (steps_of t old new) ≤ k
-  steps-most h = omega (arith, steps-few (onBy old) (onBy new) k, length-append (offSteps (onBy old) (onBy new) k) (onSteps (onBy old) (onBy new) k))
+  steps-most h = omega (arith, steps-few (on_by old) (on_by new) k, length-append (off_steps (on_by old) (on_by new) k) (on_steps (on_by old) (on_by new) k))
 
   -- the steps that are given have places in the list, and in the array
-  given-fit : (m : ℕ) → refusalOf p old new n ≡ m → let ss = accepted m (steps_of t old new) [] in (length ss ≤ n) × (length ss ≤ maxLoads)
+  given-fit : (m : ℕ) → refusal_of p old new n ≡ m → let ss = accepted m (steps_of t old new) [] in (length ss ≤ n) × (length ss ≤ max_loads)
   given-fit zero z =
       let u = unrefused z in
       let few = lawful t (kept-limits u.keeps) in
       (ltb-false n (length (steps_of t old new)) u.room, omega (arith, steps-most u.keeps, few.loads, few.places))
   given-fit (suc m) z = (omega arith, omega arith)
 
-  pub given-most : (length (stepsGiven p old new n) ≤ n) × (length (stepsGiven p old new n) ≤ maxLoads)
-  unfolding stepsGiven
-  given-most = given-fit (refusalOf p old new n) refl
+  pub given-most : (length (steps_given p old new n) ≤ n) × (length (steps_given p old new n) ≤ max_loads)
+  unfolding steps_given
+  given-most = given-fit (refusal_of p old new n) refl
 
 -- ---- the list after i steps
 pub record Writes (p : StoredState) (old new : List ℕ) (list : List Step) (o : Order) : Type 0 where
@@ -89,19 +89,19 @@ pub record Writes (p : StoredState) (old new : List ℕ) (list : List Step) (o :
   pub start : row 0 ≡ list
   pub long : (i : ℕ) → length (row i) ≡ length list
   pub room : (i : ℕ) → i < o.count → i < length list
-  pub next : (i : ℕ) → i < o.count → set (row i) i (get_or o.items i noStep) ≡ row (i + 1)
-  pub all : changedTo o.number o.count (row o.count) ≡ changeover p old new list
+  pub next : (i : ℕ) → i < o.count → set (row i) i (get_or o.items i no_step) ≡ row (i + 1)
+  pub all : changed_to o.number o.count (row o.count) ≡ changeover p old new list
 
 pub writes : (p : StoredState) (old new : List ℕ) (list : List Step) (o : Order) → o ≡ order_of p old new (length list) → Writes p old new list o
-unfolding order_of laidOrder changeover
+unfolding order_of laid_order changeover
 writes p old new list o e =
-    let ss : List Step = stepsGiven p old new (length list) in
+    let ss : List Step = steps_given p old new (length list) in
     let fit = given-most p old new (length list) in
     subst (Writes p old new list) (sym e) record {
       row = λ i. sets list 0 (take i ss);
       start = refl;
       long = λ i. length-sets list 0 (take i ss);
       room = λ i l. omega (arith, l, fit.0);
-      next = λ i l. ap (set (sets list 0 (take i ss)) i) (getD-laid noStep maxLoads ss i l fit.1) ∙ sets-next noStep list 0 i i ss (omega arith) l ∙ ap (λ j. sets list 0 (take j ss)) (sym (add-one i));
-      all = ap (λ us. changedTo (refusalOf p old new (length list)) (length ss) (sets list 0 us)) (take_all (length ss) ss (omega arith));
+      next = λ i l. ap (set (sets list 0 (take i ss)) i) (get_or-laid no_step max_loads ss i l fit.1) ∙ sets-next no_step list 0 i i ss (omega arith) l ∙ ap (λ j. sets list 0 (take j ss)) (sym (add-one i));
+      all = ap (λ us. changed_to (refusal_of p old new (length list)) (length ss) (sets list 0 us)) (take_all (length ss) ss (omega arith));
     }

@@ -8,19 +8,19 @@ use native.Mathlib.Omega.{arith}
 use borrow.Author.Tests.{leb-true, le-leb, lt-leb, eqb-true, eq-eqb}
 use lib.Dec.{eqb, leb}
 use lib.ListN.{length, get_or}
-use Rattle.lists.specs.Tests.{pick, everyFrom}
+use Rattle.lists.specs.Tests.{pick, every_from}
 use Rattle.lists.specs.Argmax.{guard}
 use Rattle.lists.proofs.Bools.{and_left, and_right, and-true, or-true, below_or}
 use Rattle.lists.proofs.Tests.{from_at, from_each}
 use Rattle.tables.specs.declared.load.Load.{Load}
-use Rattle.tables.specs.Tables.{Tables, noLoad}
+use Rattle.tables.specs.Tables.{Tables, no_load}
 use Rattle.tables.specs.Limits.{Limits}
 use Rattle.tables.proofs.Lawful.{lawful, inside}
 use Rattle.meaning.specs.Forest.{sum}
 use Rattle.meaning.specs.Sets.{counted, power}
-use Rattle.calls.specs.Rows.{isLoad}
+use Rattle.calls.specs.Rows.{is_load}
 use Rattle.calls.proofs.Work.{clash}
-use Rattle.changeover.specs.Sets.{markBy, isFed, allFed, carries}
+use Rattle.changeover.specs.Sets.{mark_by, is_fed, all_fed, carries}
 use Rattle.changeover.specs.Claims.{Safe}
 use Rattle.changeover.proofs.Phases.{phase}
 
@@ -35,16 +35,16 @@ counted-less true true x h = omega arith
 counted-less true false x h = absurd (clash (sym (h refl)))
 counted-less false b x h = omega arith
 
-power-less : (t : Tables) (on more : ℕ → Bool) → ((k : ℕ) → on k ≡ true → more k ≡ true) → power t (markBy on) ≤ power t (markBy more)
+power-less : (t : Tables) (on more : ℕ → Bool) → ((k : ℕ) → on k ≡ true → more k ≡ true) → power t (mark_by on) ≤ power t (mark_by more)
 power-less t on more h =
-    sum_less (λ k l. counted (markBy on k) l.power) (λ k l. counted (markBy more k) l.power) (λ k l. counted-less (on k) (more k) l.power (h k)) t.loads 1
+    sum_less (λ k l. counted (mark_by on k) l.power) (λ k l. counted (mark_by more k) l.power) (λ k l. counted-less (on k) (more k) l.power (h k)) t.loads 1
 
 module _ (t : Tables) (limits : Limits t) where
   abbrev parent : ℕ → ℕ
-  parent k = (get_or t.loads (k - 1) noLoad).parent
+  parent k = (get_or t.loads (k - 1) no_load).parent
 
   -- the parent of a load other than the root is a load before it
-  parent-before : (k : ℕ) → isLoad t k ≡ true → (k ≡ 1 → ⊥) → (0 < parent k) × (parent k < k)
+  parent-before : (k : ℕ) → is_load t k ≡ true → (k ≡ 1 → ⊥) → (0 < parent k) × (parent k < k)
   parent-before k there d =
       let r = inside 1 (length t.loads) k there in
       let fits = (lawful t limits).load (k - 1) (omega (arith, r)) in
@@ -58,8 +58,8 @@ module _ (t : Tables) (limits : Limits t) where
       go (suc (suc k)) l d = omega arith
 
   -- ---- the test of a set
-  one-fed : (on : ℕ → Bool) (k : ℕ) (l : Load) → isFed on k l ≡ true → on k ≡ true → (l.parent ≡ 0) ⊎ (on l.parent ≡ true)
-  unfolding isFed
+  one-fed : (on : ℕ → Bool) (k : ℕ) (l : Load) → is_fed on k l ≡ true → on k ≡ true → (l.parent ≡ 0) ⊎ (on l.parent ≡ true)
+  unfolding is_fed
   one-fed on k l h e = go (eqb l.parent 0) refl (rw e at h)
     where
       go : (b : Bool) → eqb l.parent 0 ≡ b → b || on l.parent ≡ true → (l.parent ≡ 0) ⊎ (on l.parent ≡ true)
@@ -67,15 +67,15 @@ module _ (t : Tables) (limits : Limits t) where
       go false p h = inr h
 
   is_carried : (on : ℕ → Bool) → carries t on ≡ true → Safe t on
-  unfolding carries allFed
+  unfolding carries all_fed
   is_carried on h =
-      let fed = and_right (leb (power t (markBy on)) t.budget) (everyFrom (isFed on) 1 t.loads) h in
+      let fed = and_right (leb (power t (mark_by on)) t.budget) (every_from (is_fed on) 1 t.loads) h in
       record {
-        power = leb-true (power t (markBy on)) t.budget (and_left (leb (power t (markBy on)) t.budget) (everyFrom (isFed on) 1 t.loads) h);
-        fed = λ k there e. go k there (one-fed on k (get_or t.loads (k - 1) noLoad) (from_at noLoad (isFed on) 1 t.loads fed (k - 1) (omega (arith, inside 1 (length t.loads) k there)) k (omega (arith, inside 1 (length t.loads) k there))) e) (eqb k 1) refl;
+        power = leb-true (power t (mark_by on)) t.budget (and_left (leb (power t (mark_by on)) t.budget) (every_from (is_fed on) 1 t.loads) h);
+        fed = λ k there e. go k there (one-fed on k (get_or t.loads (k - 1) no_load) (from_at no_load (is_fed on) 1 t.loads fed (k - 1) (omega (arith, inside 1 (length t.loads) k there)) k (omega (arith, inside 1 (length t.loads) k there))) e) (eqb k 1) refl;
       }
     where
-      go : (k : ℕ) → isLoad t k ≡ true → (parent k ≡ 0) ⊎ (on (parent k) ≡ true) → (b : Bool) → eqb k 1 ≡ b → (k ≡ 1) ⊎ (on (parent k) ≡ true)
+      go : (k : ℕ) → is_load t k ≡ true → (parent k ≡ 0) ⊎ (on (parent k) ≡ true) → (b : Bool) → eqb k 1 ≡ b → (k ≡ 1) ⊎ (on (parent k) ≡ true)
       go k there (inr h) b e = inr h
       go k there (inl z) true e = inl (eqb-true k 1 e)
       go k there (inl z) false e = absurd (omega (arith, (parent-before k there (ne k e)).0, z))
@@ -83,8 +83,8 @@ module _ (t : Tables) (limits : Limits t) where
           ne : (k : ℕ) → eqb k 1 ≡ false → k ≡ 1 → ⊥
           ne k e is = clash (sym (eq-eqb k 1 is) ∙ e)
 
-  fed-one : (on : ℕ → Bool) (k : ℕ) (l : Load) → (on k ≡ true → (l.parent ≡ 0) ⊎ (on l.parent ≡ true)) → isFed on k l ≡ true
-  unfolding isFed
+  fed-one : (on : ℕ → Bool) (k : ℕ) (l : Load) → (on k ≡ true → (l.parent ≡ 0) ⊎ (on l.parent ≡ true)) → is_fed on k l ≡ true
+  unfolding is_fed
   fed-one on k l h = go (on k) refl
     where
       on_or : (a b : Bool) → b ≡ true → a || b ≡ true
@@ -95,17 +95,17 @@ module _ (t : Tables) (limits : Limits t) where
       go true e = ⊎_elim (λ z. rw (eq-eqb l.parent 0 z) refl) (λ q. on_or (eqb l.parent 0) (on l.parent) q) (h e)
 
   carried-is : (on : ℕ → Bool) → Safe t on → carries t on ≡ true
-  unfolding carries allFed
+  unfolding carries all_fed
   carried-is on c =
-      and-true (leb (power t (markBy on)) t.budget) (everyFrom (isFed on) 1 t.loads) (le-leb (power t (markBy on)) t.budget c.power)
-      (from_each noLoad (isFed on) 1 t.loads (λ i l m is. fed-one on m (get_or t.loads i noLoad) (λ e. go i m is l (c.fed m (there i m is l) e))))
+      and-true (leb (power t (mark_by on)) t.budget) (every_from (is_fed on) 1 t.loads) (le-leb (power t (mark_by on)) t.budget c.power)
+      (from_each no_load (is_fed on) 1 t.loads (λ i l m is. fed-one on m (get_or t.loads i no_load) (λ e. go i m is l (c.fed m (there i m is l) e))))
     where
-      there : (i m : ℕ) → m ≡ i + 1 → i < length t.loads → isLoad t m ≡ true
+      there : (i m : ℕ) → m ≡ i + 1 → i < length t.loads → is_load t m ≡ true
       there i m is l = and-true (leb 1 m) (leb m (length t.loads)) (le-leb 1 m (omega (arith, is))) (le-leb m (length t.loads) (omega (arith, is, l)))
 
-      go : (i m : ℕ) → m ≡ i + 1 → i < length t.loads → (m ≡ 1) ⊎ (on (parent m) ≡ true) → ((get_or t.loads i noLoad).parent ≡ 0) ⊎ (on (get_or t.loads i noLoad).parent ≡ true)
+      go : (i m : ℕ) → m ≡ i + 1 → i < length t.loads → (m ≡ 1) ⊎ (on (parent m) ≡ true) → ((get_or t.loads i no_load).parent ≡ 0) ⊎ (on (get_or t.loads i no_load).parent ≡ true)
       go i m is l (inl one) = let z : i ≡ 0 = omega (arith, is, one) in inl (omega (arith, ((lawful t limits).load i l).parent, z))
-      go i m is l (inr h) = let e : m - 1 ≡ i = omega (arith, is) in inr (subst (λ j. on (get_or t.loads j noLoad).parent ≡ true) e h)
+      go i m is l (inr h) = let e : m - 1 ≡ i = omega (arith, is) in inr (subst (λ j. on (get_or t.loads j no_load).parent ≡ true) e h)
 
   pub carried-exactly : (on : ℕ → Bool) → (carries t on ≡ true) ↔ Safe t on
   carried-exactly on = (is_carried on, carried-is on)
@@ -126,10 +126,10 @@ module _ (t : Tables) (limits : Limits t) where
             go false h = shared j h
 
         -- the parent is on in a set that has the load on
-        above : (on : ℕ → Bool) → Safe t on → (j : ℕ) → isLoad t j ≡ true → (j ≡ 1 → ⊥) → on j ≡ true → on (parent j) ≡ true
+        above : (on : ℕ → Bool) → Safe t on → (j : ℕ) → is_load t j ≡ true → (j ≡ 1 → ⊥) → on j ≡ true → on (parent j) ≡ true
         above on x j there d e = ⊎_elim (λ one. absurd (d one)) (λ h. h) (x.fed j there e)
 
-        fed : (j : ℕ) → isLoad t j ≡ true → (b : Bool) → eqb j 1 ≡ b → phase old new low k j ≡ true → (j ≡ 1) ⊎ (phase old new low k (parent j) ≡ true)
+        fed : (j : ℕ) → is_load t j ≡ true → (b : Bool) → eqb j 1 ≡ b → phase old new low k j ≡ true → (j ≡ 1) ⊎ (phase old new low k (parent j) ≡ true)
         fed j there true one e = inl (eqb-true j 1 one)
         fed j there false other e = inr (go (below_or k (parent j)))
           where

@@ -1,11 +1,11 @@
 // The steps from one set of loads to another, by value, in their order.
 ghost use Rattle.std.specs.Prelude.{◌≡◌, ◌≤◌, ◌<◌, true, [], get_or};
 ghost use Rattle.lists.specs.Tests.{pick};
-ghost use Rattle.marks.specs.Sets.{hasLoad};
-ghost use Rattle.tables.specs.Limits.{maxLoads};
+ghost use Rattle.marks.specs.Sets.{has_load};
+ghost use Rattle.tables.specs.Limits.{max_loads};
 ghost use Rattle.planner.specs.Planner.{held};
-ghost use Rattle.changeover.specs.Steps.{noStep, offSteps, steps};
-ghost use Rattle.changeover.specs.Order.{laidOrder, oneMore, switched};
+ghost use Rattle.changeover.specs.Steps.{no_step, off_steps, steps};
+ghost use Rattle.changeover.specs.Order.{laid_order, one_more, switched};
 ghost use Rattle.changeover.specs.Changeover.{order_of};
 
 use crate::sets::{carries, read_set};
@@ -46,7 +46,7 @@ impl Step {
 impl Order {
     // This number, and no steps.
     fn stepless(number: u8) -> Order
-        ensures { result ≡ laidOrder number [] }
+        ensures { result ≡ laid_order number [] }
     {
         Order {
             number: number as u32,
@@ -57,8 +57,8 @@ impl Order {
 
     // With one step more for a load that changes, as it was for another.
     fn with(self, changes: bool, load: usize, mark: u8) -> Order
-        requires { (changes ≡ true → self.count < maxLoads) × (load ≤ maxLoads) }
-        ensures { result ≡ pick changes (oneMore self load mark) self }
+        requires { (changes ≡ true → self.count < max_loads) × (load ≤ max_loads) }
+        ensures { result ≡ pick changes (one_more self load mark) self }
     {
         if !changes {
             return self;
@@ -85,7 +85,7 @@ impl Order {
 
     // The step at a place. Past the last place there is none.
     pub fn step(self, i: usize) -> Step
-        ensures { result ≡ get_or self.items i noStep }
+        ensures { result ≡ get_or self.items i no_step }
     {
         if MAX_LOADS <= i {
             return Step::NONE;
@@ -96,8 +96,8 @@ impl Order {
 
 // The steps of the loads that go off, the highest number first.
 fn off_steps(old: LoadSet, new: LoadSet, loads: usize) -> Order
-    requires { loads ≤ maxLoads }
-    ensures { result ≡ laidOrder 0 (offSteps (hasLoad old) (hasLoad new) loads) }
+    requires { loads ≤ max_loads }
+    ensures { result ≡ laid_order 0 (off_steps (has_load old) (has_load new) loads) }
 {
     let mut order = Order::stepless(0);
     let mut k = loads;
@@ -110,8 +110,8 @@ fn off_steps(old: LoadSet, new: LoadSet, loads: usize) -> Order
 
 // All steps: behind those, the steps of the loads that go on, the lowest number first.
 fn steps(old: LoadSet, new: LoadSet, loads: usize) -> Order
-    requires { loads ≤ maxLoads }
-    ensures { result ≡ laidOrder 0 (steps (hasLoad old) (hasLoad new) loads) }
+    requires { loads ≤ max_loads }
+    ensures { result ≡ laid_order 0 (steps (has_load old) (has_load new) loads) }
 {
     let mut order = off_steps(old, new, loads);
     for i in 0..loads {

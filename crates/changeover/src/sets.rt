@@ -1,9 +1,9 @@
 // A set of loads that is handed in as bytes, and whether the supply carries it.
 ghost use Rattle.std.specs.Prelude.{◌≡◌, ◌≤◌};
-ghost use Rattle.marks.specs.Sets.{hasLoad};
-ghost use Rattle.tables.specs.Limits.{maxLoads};
-ghost use Rattle.tables.specs.Stored.{loadsOf, tables_of, Holds};
-ghost use Rattle.changeover.specs.Sets.{isFed, allFed, carries, readAs};
+ghost use Rattle.marks.specs.Sets.{has_load};
+ghost use Rattle.tables.specs.Limits.{max_loads};
+ghost use Rattle.tables.specs.Stored.{loads_of, tables_of, Holds};
+ghost use Rattle.changeover.specs.Sets.{is_fed, all_fed, carries, read_as};
 
 use engine::figures::figures_of;
 use lines::Command;
@@ -20,7 +20,7 @@ pub(crate) struct Written {
 }
 
 pub(crate) fn read_set(s: &[u8], loads: usize) -> Written
-    ensures { result ≡ readAs loads s.now }
+    ensures { result ≡ read_as loads s.now }
 {
     let command = read_bits(s, 0);
     match command {
@@ -37,7 +37,7 @@ pub(crate) fn read_set(s: &[u8], loads: usize) -> Written
 
 // Is a load off, or the root, or its parent on?
 fn is_fed(set: LoadSet, number: usize, load: Load) -> bool
-    ensures { result ≡ isFed (hasLoad set) number load }
+    ensures { result ≡ is_fed (has_load set) number load }
 {
     let parent = load.parent as usize;
     !set.has(number) | (parent == 0) | set.has(parent)
@@ -45,8 +45,8 @@ fn is_fed(set: LoadSet, number: usize, load: Load) -> bool
 
 // Does no load of the set hang below one that is off?
 fn all_fed(loads: LoadList, set: LoadSet) -> bool
-    requires { loads.count ≤ maxLoads }
-    ensures { result ≡ allFed (hasLoad set) (loadsOf loads) }
+    requires { loads.count ≤ max_loads }
+    ensures { result ≡ all_fed (has_load set) (loads_of loads) }
 {
     let n = loads.count;
     let mut fed = true;
@@ -59,8 +59,8 @@ fn all_fed(loads: LoadList, set: LoadSet) -> bool
 
 // Is the power of the set within the budget, and no load of it below one that is off?
 pub(crate) fn carries(tables: StoredTables, set: LoadSet) -> bool
-    requires { Holds maxLoads tables }
-    ensures { result ≡ carries (tables_of tables) (hasLoad set) }
+    requires { Holds max_loads tables }
+    ensures { result ≡ carries (tables_of tables) (has_load set) }
 {
     let figures = figures_of(tables.loads, set);
     (figures.power <= tables.budget as u32) & all_fed(tables.loads, set)

@@ -1,7 +1,7 @@
 // The steps written to a lent list. Its elements are structs, so the proof goes through the code by hand, and there is as little code here as can be.
 ghost use Rattle.std.specs.Prelude.{◌≡◌};
 ghost use Rattle.planner.specs.Planner.{held};
-ghost use Rattle.changeover.specs.Changeover.{changedTo, changeover};
+ghost use Rattle.changeover.specs.Changeover.{changed_to, changeover};
 
 use crate::order::{Step, Switched, order_of};
 use planner::Planner;
@@ -9,7 +9,7 @@ use planner::Planner;
 // Switches over from an old set to a new one, each written as for `check`: the steps go to the list, and the number, 0 if accepted, and their count come
 // back. A refusal has no steps and writes nothing.
 pub fn switch_over(planner: Planner, old: &[u8], new: &[u8], list: &mut [Step]) -> Switched
-    ensures { changedTo result.number result.count list.new ≡ changeover (held planner) old.now new.now list.old }
+    ensures { changed_to result.number result.count list.new ≡ changeover (held planner) old.now new.now list.old }
 {
     let order = order_of(planner, old, new, list.len());
     let mut i: usize = 0;

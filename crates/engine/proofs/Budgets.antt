@@ -8,72 +8,72 @@ use native.Mathlib.Omega.{arith}
 use borrow.Author.Tests.{ne_eqb}
 use lib.Dec.{eqb, ltb}
 use lib.ListN.{length}
-use Rattle.lists.specs.Tests.{pick, firstFrom}
+use Rattle.lists.specs.Tests.{pick, first_from}
 use Rattle.lists.proofs.Tests.{first-is, first-agree}
-use Rattle.tables.specs.Limits.{maxLoads, Limits}
-use Rattle.tables.specs.Changes.{setBudget}
+use Rattle.tables.specs.Limits.{max_loads, Limits}
+use Rattle.tables.specs.Changes.{set_budget}
 use Rattle.tables.specs.declared.tables.StoredTables.{StoredTables}
 use Rattle.tables.specs.Stored.{tables_of}
 use Rattle.meaning.specs.Sets.{worth}
 use Rattle.meaning.specs.Cell.{floor}
-use Rattle.meaning.specs.Best.{bestPlan}
-use Rattle.meaning.specs.Choice.{planEntries}
-use Rattle.meaning.specs.Need.{noneFits, poorer, leastBudget}
+use Rattle.meaning.specs.Best.{best_plan}
+use Rattle.meaning.specs.Choice.{plan_entries}
+use Rattle.meaning.specs.Need.{none_fits, poorer, least_budget}
 use Rattle.meaning.proofs.Claims.{claims}
 use Rattle.meaning.proofs.Need.{least-cell}
 use Rattle.runs.specs.declared.outcome.StoredOutcome.{StoredOutcome}
-use Rattle.runs.specs.Outcome.{found, storedOutcome}
+use Rattle.runs.specs.Outcome.{found, stored_outcome}
 use Rattle.cells.specs.declared.problem.Problem.{Problem}
 use Rattle.cells.specs.declared.problem.Shape.{Shape}
-use Rattle.cells.specs.Problem.{planProblem}
+use Rattle.cells.specs.Problem.{plan_problem}
 use Rattle.engine.specs.declared.need.Need.TheVariants.{NoneFits, Poorer, Least}
-use Rattle.engine.specs.Search.{rootBest}
-use Rattle.engine.specs.Pass.{bestAt, Complete}
-use Rattle.engine.specs.Need.{need_of, needBy}
+use Rattle.engine.specs.Search.{root_best}
+use Rattle.engine.specs.Pass.{best_at, Complete}
+use Rattle.engine.specs.Need.{need_of, need_by}
 use Rattle.engine.proofs.Reading.{root-cell, whole, budget-is}
 use Rattle.engine.proofs.Answers.{lines-set}
 
 -- the first of the numbers below n is at most n
-pub at_most : (q : ℕ → Bool) (n r : ℕ) → r ≡ firstFrom q 0 n → r ≤ n
+pub at_most : (q : ℕ → Bool) (n r : ℕ) → r ≡ first_from q 0 n → r ≤ n
 at_most q n r e = omega (arith, (first-is q 0 n).high)
 
 -- ---- the root's cells
 module _ (p : Problem) (sh : Shape) (o w : List ℕ) (all : Complete p sh o w) where
-  root-held : (c : ℕ) → c ≤ sh.budget → (rootBest sh w c).value ≡ bestAt p c
+  root-held : (c : ℕ) → c ≤ sh.budget → (root_best sh w c).value ≡ best_at p c
   root-held c l =
-      ap (λ (y : Shape). (rootBest y w c).value) all.outlined.shape
+      ap (λ (y : Shape). (root_best y w c).value) all.outlined.shape
       ∙ root-cell p o w (whole p sh o w all) c (omega (arith, budget-is p sh o w all))
 
   -- of a plan's problem
-  module _ (t : StoredTables) (e : p ≡ planProblem t) where
+  module _ (t : StoredTables) (e : p ≡ plan_problem t) where
     -- the bridge: the best of the root's cells at allowance b is the plan's of the tables with budget b
-    pub root-plan : (b : ℕ) → b ≤ sh.budget → (rootBest sh w b).value ≡ bestPlan (setBudget (tables_of t) b)
-    unfolding tables_of bestPlan
-    root-plan b l = root-held b l ∙ ap (λ (p : Problem). bestAt p b) e
+    pub root-plan : (b : ℕ) → b ≤ sh.budget → (root_best sh w b).value ≡ best_plan (set_budget (tables_of t) b)
+    unfolding tables_of best_plan
+    root-plan b l = root-held b l ∙ ap (λ (p : Problem). best_at p b) e
 
     own-budget : sh.budget ≡ (tables_of t).budget
     unfolding tables_of
     own-budget = budget-is p sh o w all ∙ ap (λ (p : Problem). p.tables.budget) e
 
     -- so the first allowance above the floor of a worth is the least budget
-    pub least-is : Limits (tables_of t) → (v u r : ℕ) → u ≡ floor v → r ≡ firstFrom (λ b. ltb u (rootBest sh w b).value) 0 sh.budget → r ≡ leastBudget (tables_of t) v
+    pub least-is : Limits (tables_of t) → (v u r : ℕ) → u ≡ floor v → r ≡ first_from (λ b. ltb u (root_best sh w b).value) 0 sh.budget → r ≡ least_budget (tables_of t) v
     least-is h v u r eu er =
-        er ∙ ap (λ y. firstFrom (λ b. ltb y (rootBest sh w b).value) 0 sh.budget) eu
-        ∙ first-agree _ (λ b. ltb (floor v) (bestPlan (setBudget (tables_of t) b))) 0 sh.budget (λ b l. ap (ltb (floor v)) (root-plan b (omega arith)))
-        ∙ ap (firstFrom _ 0) own-budget ∙ sym (least-cell (tables_of t) h v)
+        er ∙ ap (λ y. first_from (λ b. ltb y (root_best sh w b).value) 0 sh.budget) eu
+        ∙ first-agree _ (λ b. ltb (floor v) (best_plan (set_budget (tables_of t) b))) 0 sh.budget (λ b l. ap (ltb (floor v)) (root-plan b (omega arith)))
+        ∙ ap (first_from _ 0) own-budget ∙ sym (least-cell (tables_of t) h v)
 
 -- ---- the plan's own worth, and what is said
-module _ (t : StoredTables) (h : Limits (tables_of t)) (few : length (tables_of t).loads ≤ maxLoads) (v : ℕ) where
-  pub need-is : (o : StoredOutcome) → o ≡ storedOutcome maxLoads (found (bestPlan (tables_of t)) (planEntries (tables_of t)))
-      → (b : ℕ) → b ≡ leastBudget (tables_of t) v → needBy o t.loads v b ≡ need_of (tables_of t) v
-  unfolding needBy need_of noneFits poorer tables_of
-  need-is o eo b eb = ap₂ (λ (x : StoredOutcome) (n : ℕ). needBy x t.loads v n) eo eb ∙ go (bestPlan (tables_of t)) refl
+module _ (t : StoredTables) (h : Limits (tables_of t)) (few : length (tables_of t).loads ≤ max_loads) (v : ℕ) where
+  pub need-is : (o : StoredOutcome) → o ≡ stored_outcome max_loads (found (best_plan (tables_of t)) (plan_entries (tables_of t)))
+      → (b : ℕ) → b ≡ least_budget (tables_of t) v → need_by o t.loads v b ≡ need_of (tables_of t) v
+  unfolding need_by need_of none_fits poorer tables_of
+  need-is o eo b eb = ap₂ (λ (x : StoredOutcome) (n : ℕ). need_by x t.loads v n) eo eb ∙ go (best_plan (tables_of t)) refl
     where
-      go : (x : ℕ) → bestPlan (tables_of t) ≡ x
-          → needBy (storedOutcome maxLoads (found x (planEntries (tables_of t)))) t.loads v (leastBudget (tables_of t) v)
-          ≡ pick (eqb x 0) NoneFits (pick (poorer (tables_of t) v) Poorer (Least (leastBudget (tables_of t) v)))
+      go : (x : ℕ) → best_plan (tables_of t) ≡ x
+          → need_by (stored_outcome max_loads (found x (plan_entries (tables_of t)))) t.loads v (least_budget (tables_of t) v)
+          ≡ pick (eqb x 0) NoneFits (pick (poorer (tables_of t) v) Poorer (Least (least_budget (tables_of t) v)))
       go zero e = refl
       go (suc x) e =
           let l = ((claims (tables_of t) h).planned (omega arith)).loads in
           rw (ne_eqb (suc x) 0 (λ z. absurd (omega arith)))
-          (ap (λ (σ : ℕ → ℕ). pick (ltb (worth (tables_of t) σ) v) Poorer (Least (leastBudget (tables_of t) v))) (lines-set (tables_of t) (planEntries (tables_of t)) l few))
+          (ap (λ (σ : ℕ → ℕ). pick (ltb (worth (tables_of t) σ) v) Poorer (Least (least_budget (tables_of t) v))) (lines-set (tables_of t) (plan_entries (tables_of t)) l few))

@@ -12,102 +12,102 @@ use Rattle.lists.proofs.Bools.{and_left, and_right}
 use Rattle.tables.specs.declared.entry.Entry.{Entry}
 use Rattle.tables.specs.declared.rule.TransitionList.{TransitionList}
 use Rattle.tables.specs.declared.tables.StoredTables.{StoredTables}
-use Rattle.tables.specs.Limits.{maxLoads, Limits}
-use Rattle.tables.specs.Stored.{rulesOf, bookOf, tables_of}
-use Rattle.meaning.specs.Best.{bestPlan}
-use Rattle.meaning.specs.Choice.{planEntries}
-use Rattle.meaning.specs.Cells.{cells_of, place_in, cellIn, Holding}
+use Rattle.tables.specs.Limits.{max_loads, Limits}
+use Rattle.tables.specs.Stored.{rules_of, book_of, tables_of}
+use Rattle.meaning.specs.Best.{best_plan}
+use Rattle.meaning.specs.Choice.{plan_entries}
+use Rattle.meaning.specs.Cells.{cells_of, place_in, cell_in, Holding}
 use Rattle.cells.specs.declared.problem.Problem.{Problem}
 use Rattle.cells.specs.declared.problem.Shape.{Shape}
-use Rattle.cells.specs.Problem.{planProblem, shape_of, RulesIn, Lawful}
+use Rattle.cells.specs.Problem.{plan_problem, shape_of, RulesIn, Lawful}
 use Rattle.cells.specs.Outline.{Outlines}
-use Rattle.cells.specs.Work.{place_of, cellsNeeded, Ready, cell_of, FilledTo, Filled}
+use Rattle.cells.specs.Work.{place_of, cells_needed, Ready, cell_of, FilledTo, Filled}
 use Rattle.cells.proofs.Filling.{filled-front, filled-rest}
 use Rattle.cells.proofs.Stretches.{loads-long}
 use Rattle.cells.proofs.Tables.{rules-length}
 use Rattle.runs.specs.declared.outcome.StoredOutcome.{StoredOutcome}
-use Rattle.runs.specs.Outcome.{noSet, found, statusOf, storedOutcome, range_of, heldRange, outcomeIn, keepsOutcome}
+use Rattle.runs.specs.Outcome.{no_set, found, status_of, stored_outcome, range_of, held_range, outcome_in, keeps_outcome}
 use Rattle.runs.proofs.Stored.{stored-in, found_in}
 use Rattle.engine.specs.Pass.{Readable, Traced}
 use Rattle.engine.specs.Portion.{in_range, PartFilled, ReadFrom}
 use Rattle.engine.proofs.Planning.{ready, plan-is, plan-cells}
 
-module _ (t : StoredTables) (ok : Lawful (planProblem t)) where
+module _ (t : StoredTables) (ok : Lawful (plan_problem t)) where
   -- ---- the cells of the problem of a plan are those of its tables
-  place_is : (k x : ℕ) → place_of (shape_of (planProblem t)) k x ≡ place_in (tables_of t) k x
-  unfolding place_of place_in tables_of bookOf
-  place_is k x = ap (λ n. ((n - k) * (t.book.states + t.book.stages) + x) * (t.budget + 1)) (sym (loads-long (planProblem t) ok))
+  place_is : (k x : ℕ) → place_of (shape_of (plan_problem t)) k x ≡ place_in (tables_of t) k x
+  unfolding place_of place_in tables_of book_of
+  place_is k x = ap (λ n. ((n - k) * (t.book.states + t.book.stages) + x) * (t.budget + 1)) (sym (loads-long (plan_problem t) ok))
 
-  cell-is : (k x a : ℕ) → cell_of (planProblem t) k x a ≡ cellIn (tables_of t) k x a
-  unfolding cellIn tables_of bookOf
+  cell-is : (k x a : ℕ) → cell_of (plan_problem t) k x a ≡ cell_in (tables_of t) k x a
+  unfolding cell_in tables_of book_of
   cell-is k x a = refl
 
-  pub holding : (w : List ℕ) (i : ℕ) → FilledTo (planProblem t) w i → Holding (tables_of t) w i
-  unfolding tables_of bookOf
+  pub holding : (w : List ℕ) (i : ℕ) → FilledTo (plan_problem t) w i → Holding (tables_of t) w i
+  unfolding tables_of book_of
   holding w i h = record {
     at = λ k x a low high lx la b.
         ap (λ j. get_or w (j + a) 0) (sym (place_is k x))
-        ∙ h.at k x a low (omega (arith, loads-long (planProblem t) ok)) lx la (omega (arith, place_is k x)) ∙ cell-is k x a;
+        ∙ h.at k x a low (omega (arith, loads-long (plan_problem t) ok)) lx la (omega (arith, place_is k x)) ∙ cell-is k x a;
   }
 
-  pub filled-to : (w : List ℕ) (i : ℕ) → Holding (tables_of t) w i → FilledTo (planProblem t) w i
-  unfolding tables_of bookOf
+  pub filled-to : (w : List ℕ) (i : ℕ) → Holding (tables_of t) w i → FilledTo (plan_problem t) w i
+  unfolding tables_of book_of
   filled-to w i h = record {
     at = λ k x a low high lx la b.
         ap (λ j. get_or w (j + a) 0) (place_is k x)
-        ∙ h.at k x a low (omega (arith, loads-long (planProblem t) ok)) lx la (omega (arith, place_is k x)) ∙ sym (cell-is k x a);
+        ∙ h.at k x a low (omega (arith, loads-long (plan_problem t) ok)) lx la (omega (arith, place_is k x)) ∙ sym (cell-is k x a);
   }
 
   -- ---- what is in range for the tables
-  few : t.loads.count ≤ maxLoads
+  few : t.loads.count ≤ max_loads
   few = ok.sane.loads
 
-  held-rules : (l : TransitionList) {low high g : ℕ} → RulesIn l low high g → l.count ≡ length (rulesOf l)
+  held-rules : (l : TransitionList) {low high g : ℕ} → RulesIn l low high g → l.count ≡ length (rules_of l)
   held-rules l k = sym (rules-length l (omega (arith, k.few, k.full)))
 
-  range-held : heldRange t ≡ range_of (tables_of t)
-  unfolding tables_of bookOf
+  range-held : held_range t ≡ range_of (tables_of t)
+  unfolding tables_of book_of
   range-held = λ i. record {
-    loads = sym (loads-long (planProblem t) ok) i;
+    loads = sym (loads-long (plan_problem t) ok) i;
     states = t.book.states;
     load_rules = held-rules t.book.load_rules ok.rules i;
     row_rules = held-rules t.book.row_rules ok.rows i;
   }
 
-  in-range-same : (r : StoredOutcome) → keepsOutcome (heldRange t) r ≡ true → 0 < r.status → in_range t r ≡ r
+  in-range-same : (r : StoredOutcome) → keeps_outcome (held_range t) r ≡ true → 0 < r.status → in_range t r ≡ r
   unfolding in_range
   in-range-same r k s = rw (ne_eqb r.status 0 (λ e. absurd (omega arith)), k)
 
-  pub in-range-kept : (r : StoredOutcome) → (keepsOutcome (heldRange t) (in_range t r) ≡ true) × (0 < (in_range t r).status)
-  unfolding in_range outcomeIn
-  in-range-kept r = go (not (eqb r.status 0) && keepsOutcome (heldRange t) r) refl
+  pub in-range-kept : (r : StoredOutcome) → (keeps_outcome (held_range t) (in_range t r) ≡ true) × (0 < (in_range t r).status)
+  unfolding in_range outcome_in
+  in-range-kept r = go (not (eqb r.status 0) && keeps_outcome (held_range t) r) refl
     where
-      go : (b : Bool) → not (eqb r.status 0) && keepsOutcome (heldRange t) r ≡ b
-          → (keepsOutcome (heldRange t) (pick b r (storedOutcome maxLoads noSet)) ≡ true) × (0 < (pick b r (storedOutcome maxLoads noSet)).status)
+      go : (b : Bool) → not (eqb r.status 0) && keeps_outcome (held_range t) r ≡ b
+          → (keeps_outcome (held_range t) (pick b r (stored_outcome max_loads no_set)) ≡ true) × (0 < (pick b r (stored_outcome max_loads no_set)).status)
       go true e =
           let s = eqb-false r.status 0 (not-true _ (and_left (not (eqb r.status 0)) _ e)) in
           (and_right (not (eqb r.status 0)) _ e, omega (arith, s))
-      go false e = (stored-in maxLoads (omega arith) (heldRange t) few noSet refl, omega arith)
+      go false e = (stored-in max_loads (omega arith) (held_range t) few no_set refl, omega arith)
 
   -- ---- the plan's own outcome is in range
-  some-status : (v : ℕ) (es : List Entry) → 0 < statusOf (found v es)
+  some-status : (v : ℕ) (es : List Entry) → 0 < status_of (found v es)
   some-status zero es = omega arith
   some-status (suc v) es = omega arith
 
   module _ (h : Limits (tables_of t)) where
     abbrev outcome : StoredOutcome
-    outcome = storedOutcome maxLoads (found (bestPlan (tables_of t)) (planEntries (tables_of t)))
+    outcome = stored_outcome max_loads (found (best_plan (tables_of t)) (plan_entries (tables_of t)))
 
-    plan-kept : keepsOutcome (heldRange t) outcome ≡ true
+    plan-kept : keeps_outcome (held_range t) outcome ≡ true
     plan-kept =
-        let m : (heldRange t).loads ≤ maxLoads = few in
-        rw range-held (stored-in maxLoads (omega arith) (range_of (tables_of t)) (omega (arith, ap (λ r. r.loads) range-held)) _ (found_in (tables_of t) h))
+        let m : (held_range t).loads ≤ max_loads = few in
+        rw range-held (stored-in max_loads (omega arith) (range_of (tables_of t)) (omega (arith, ap (λ r. r.loads) range-held)) _ (found_in (tables_of t) h))
 
     pub plan-same : in_range t outcome ≡ outcome
-    plan-same = in-range-same outcome plan-kept (some-status (bestPlan (tables_of t)) _)
+    plan-same = in-range-same outcome plan-kept (some-status (best_plan (tables_of t)) _)
 
-module _ (t : StoredTables) (p : Problem) (ok : Lawful p) (e : p ≡ planProblem t) where
-  own : Lawful (planProblem t)
+module _ (t : StoredTables) (p : Problem) (ok : Lawful p) (e : p ≡ plan_problem t) where
+  own : Lawful (plan_problem t)
   own = subst Lawful e ok
 
   -- some cells were filled
@@ -120,8 +120,8 @@ module _ (t : StoredTables) (p : Problem) (ok : Lawful p) (e : p ≡ planProblem
 
   -- the outline was written, and the work has the cells of the tables
   module _ (sh : Shape) (o w : List ℕ) (d : Outlines p sh o) (some : 0 < t.loads.count) (room : cells_of (tables_of t) ≤ length w) where
-    pub cells_are : cellsNeeded sh ≡ cells_of (tables_of t)
-    cells_are = ap cellsNeeded d.shape ∙ plan-cells t p ok e
+    pub cells_are : cells_needed sh ≡ cells_of (tables_of t)
+    cells_are = ap cells_needed d.shape ∙ plan-cells t p ok e
 
     some-own : 0 < p.tables.loads.count
     some-own = rw e some
@@ -140,7 +140,7 @@ module _ (t : StoredTables) (p : Problem) (ok : Lawful p) (e : p ≡ planProblem
       some = rw er (in-range-kept t own s).1;
     }
       where
-        plan-read : Holding (tables_of t) w (cells_of (tables_of t)) → s ≡ storedOutcome maxLoads (found (bestPlan (tables_of t)) (planEntries (tables_of t)))
+        plan-read : Holding (tables_of t) w (cells_of (tables_of t)) → s ≡ stored_outcome max_loads (found (best_plan (tables_of t)) (plan_entries (tables_of t)))
         plan-read g =
-            let all : FilledTo p w (cellsNeeded sh) = subst (λ (p : Problem). FilledTo p w (cellsNeeded sh)) (sym e) (filled-to t own w _ (rw cells_are g)) in
+            let all : FilledTo p w (cells_needed sh) = subst (λ (p : Problem). FilledTo p w (cells_needed sh)) (sym e) (filled-to t own w _ (rw cells_are g)) in
             read p (record { outlined = d; ready = ready-here; holds = all; some = some-own }) ∙ plan-is t p ok e

@@ -11,13 +11,13 @@ use lib.ListN.{length, get_or, drop, drop_of_length-le}
 use lib.Seq.{drop-cons}
 use Rattle.lists.specs.Tests.{pick}
 use Rattle.lists.specs.Argmax.{guard}
-use Rattle.marks.specs.Bits.{sizeTo}
+use Rattle.marks.specs.Bits.{size_to}
 use Rattle.marks.specs.declared.LoadSet.{LoadSet}
 use Rattle.tables.specs.declared.load.Load.{Load}
-use Rattle.tables.specs.Tables.{Tables, noLoad}
+use Rattle.tables.specs.Tables.{Tables, no_load}
 use Rattle.meaning.specs.Forest.{sum}
-use Rattle.meaning.specs.Sets.{numberOn}
-use Rattle.marks.specs.Sets.{setWidth, hasLoad, size_of, markIn}
+use Rattle.meaning.specs.Sets.{number_on}
+use Rattle.marks.specs.Sets.{set_width, has_load, size_of, mark_in}
 use Rattle.marks.proofs.Sets.{size-loads}
 
 -- ---- a loop that adds a figure of each load
@@ -29,10 +29,10 @@ module _ (w : ℕ → Load → ℕ) (ls : List Load) where
   pub added_none : Added 0 0
   added_none = zero-add _
 
-  pub added_more : (acc i x : ℕ) → i < length ls → Added acc i → x ≡ w (suc i) (get_or ls i noLoad) → Added (acc + x) (i + 1)
+  pub added_more : (acc i x : ℕ) → i < length ls → Added acc i → x ≡ w (suc i) (get_or ls i no_load) → Added (acc + x) (i + 1)
   unfolding sum
   added_more acc i x h e q =
-      rw add-one (omega (arith, e, ap (λ l. sum w l (suc i)) (drop-cons ls i noLoad h)))
+      rw add-one (omega (arith, e, ap (λ l. sum w l (suc i)) (drop-cons ls i no_load h)))
 
   pub added-all : (acc i : ℕ) → length ls ≤ i → Added acc i → acc ≡ sum w ls 1
   unfolding sum
@@ -44,30 +44,30 @@ one-if true = refl
 one-if false = refl
 
 module _ (p : ℕ → Bool) where
-  size-sum : (ls : List Load) (k : ℕ) → sizeTo p k + sum (λ k l. guard (eqb (guard (p k) 1) 1) 1) ls (suc k) ≡ sizeTo p (k + length ls)
-  unfolding sizeTo sum
-  size-sum [] k = let e : k + 0 ≡ k = omega arith in omega (arith, ap (sizeTo p) e)
+  size-sum : (ls : List Load) (k : ℕ) → size_to p k + sum (λ k l. guard (eqb (guard (p k) 1) 1) 1) ls (suc k) ≡ size_to p (k + length ls)
+  unfolding size_to sum
+  size-sum [] k = let e : k + 0 ≡ k = omega arith in omega (arith, ap (size_to p) e)
   size-sum (l ∷ ls) k =
       let e : k + suc (length ls) ≡ suc k + length ls = omega arith in
-      omega (arith, one-if (p (suc k)), size-sum ls (suc k), ap (sizeTo p) e)
+      omega (arith, one-if (p (suc k)), size-sum ls (suc k), ap (size_to p) e)
 
-  size-past : (n m : ℕ) → ((k : ℕ) → n < k → p k ≡ false) → sizeTo p (n + m) ≡ sizeTo p n
-  unfolding sizeTo
-  size-past n zero h = let e : n + 0 ≡ n = omega arith in ap (sizeTo p) e
+  size-past : (n m : ℕ) → ((k : ℕ) → n < k → p k ≡ false) → size_to p (n + m) ≡ size_to p n
+  unfolding size_to
+  size-past n zero h = let e : n + 0 ≡ n = omega arith in ap (size_to p) e
   size-past n (suc m) h =
       let e : n + suc m ≡ suc (n + m) = omega arith in
-      ap (sizeTo p) e ∙ omega (arith, ap {B = ℕ} (λ b. pick b 1 0) (h (suc (n + m)) (omega arith)), size-past n m h)
+      ap (size_to p) e ∙ omega (arith, ap {B = ℕ} (λ b. pick b 1 0) (h (suc (n + m)) (omega arith)), size-past n m h)
 
-size_none : (p : ℕ → Bool) → sizeTo p 0 ≡ 0
-unfolding sizeTo
+size_none : (p : ℕ → Bool) → size_to p 0 ≡ 0
+unfolding size_to
 size_none p = refl
 
 -- "n by count of ones": the size of a set with no load past the last is the number of loads on
-pub size-on : (t : Tables) (s : LoadSet) → length t.loads ≤ setWidth → ((k : ℕ) → length t.loads < k → hasLoad s k ≡ false)
-    → size_of s ≡ numberOn t (markIn s)
+pub size-on : (t : Tables) (s : LoadSet) → length t.loads ≤ set_width → ((k : ℕ) → length t.loads < k → has_load s k ≡ false)
+    → size_of s ≡ number_on t (mark_in s)
 size-on t s few past =
     let n = length t.loads in
-    let p = hasLoad s in
-    let e : setWidth ≡ n + (setWidth - n) = omega arith in
+    let p = has_load s in
+    let e : set_width ≡ n + (set_width - n) = omega arith in
     let f : 0 + n ≡ n = omega arith in
-    size-loads s ∙ omega (arith, ap (sizeTo p) e, size-past p n (setWidth - n) past, ap (sizeTo p) f, size-sum p t.loads 0, size_none p)
+    size-loads s ∙ omega (arith, ap (size_to p) e, size-past p n (set_width - n) past, ap (size_to p) f, size-sum p t.loads 0, size_none p)

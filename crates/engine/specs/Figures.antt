@@ -7,11 +7,11 @@ use Rattle.meaning.specs.Sets.{counted}
 use Rattle.engine.specs.declared.figures.Figures.{Figures}
 
 -- what a load counts for in a set σ
-abbrev pub powerIn : (ℕ → ℕ) → ℕ → Load → ℕ
-powerIn σ k l = counted (σ k) l.power
+abbrev pub power_in : (ℕ → ℕ) → ℕ → Load → ℕ
+power_in σ k l = counted (σ k) l.power
 
-abbrev pub worthIn : (ℕ → ℕ) → ℕ → Load → ℕ
-worthIn σ k l = counted (σ k) l.worth
+abbrev pub worth_in : (ℕ → ℕ) → ℕ → Load → ℕ
+worth_in σ k l = counted (σ k) l.worth
 
-abbrev pub figuresOf : List Load → (ℕ → ℕ) → Figures
-figuresOf ls σ = record { power = sum (powerIn σ) ls 1; worth = sum (worthIn σ) ls 1 }
+abbrev pub figures_of : List Load → (ℕ → ℕ) → Figures
+figures_of ls σ = record { power = sum (power_in σ) ls 1; worth = sum (worth_in σ) ls 1 }

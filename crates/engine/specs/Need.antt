@@ -3,21 +3,21 @@
 -- Assumes nothing.
 use Rattle.std.specs.Prelude.{ℕ, eqb, ltb}
 use Rattle.lists.specs.Tests.{pick}
-use Rattle.marks.specs.Sets.{markIn}
+use Rattle.marks.specs.Sets.{mark_in}
 use Rattle.tables.specs.Tables.{Tables}
 use Rattle.tables.specs.declared.load.LoadList.{LoadList}
-use Rattle.tables.specs.Stored.{loadsOf}
-use Rattle.meaning.specs.Need.{noneFits, poorer, leastBudget}
+use Rattle.tables.specs.Stored.{loads_of}
+use Rattle.meaning.specs.Need.{none_fits, poorer, least_budget}
 use Rattle.runs.specs.declared.outcome.StoredOutcome.{StoredOutcome}
-use Rattle.runs.specs.Outcome.{noSet, statusOf}
+use Rattle.runs.specs.Outcome.{no_set, status_of}
 use Rattle.engine.specs.declared.need.Need.{Need}
 use Rattle.engine.specs.declared.need.Need.TheVariants.{NoneFits, Poorer, Least}
-use Rattle.engine.specs.Figures.{figuresOf}
+use Rattle.engine.specs.Figures.{figures_of}
 
 -- what `need,v` says of tables: 9, then 15, then the least budget
 unfoldable pub need_of : Tables → (v : ℕ) → Need
-need_of t v = pick (noneFits t) NoneFits (pick (poorer t v) Poorer (Least (leastBudget t v)))
+need_of t v = pick (none_fits t) NoneFits (pick (poorer t v) Poorer (Least (least_budget t v)))
 
 -- by what the plan found, and by the least budget
-unfoldable pub needBy : StoredOutcome → LoadList → (v least : ℕ) → Need
-needBy o ls v b = pick (eqb o.status (statusOf noSet)) NoneFits (pick (ltb (figuresOf (loadsOf ls) (markIn o.run.set)).worth v) Poorer (Least b))
+unfoldable pub need_by : StoredOutcome → LoadList → (v least : ℕ) → Need
+need_by o ls v b = pick (eqb o.status (status_of no_set)) NoneFits (pick (ltb (figures_of (loads_of ls) (mark_in o.run.set)).worth v) Poorer (Least b))

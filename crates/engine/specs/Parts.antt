@@ -6,46 +6,46 @@ use Rattle.lists.specs.Argmax.{guard, Greatest, argmax}
 use Rattle.tables.specs.declared.rule.Transition.{Transition}
 use Rattle.tables.specs.declared.load.Load.{Load}
 use Rattle.tables.specs.Tables.{Book}
-use Rattle.meaning.specs.Runs.{isStart, ruleAt, Assigned}
+use Rattle.meaning.specs.Runs.{is_start, rule_at, Assigned}
 use Rattle.meaning.specs.Forest.{Item}
 use Rattle.meaning.specs.Cell.{draw}
-use Rattle.meaning.specs.Best.{shares, loadRuleFor, rowRuleFor}
-use Rattle.meaning.specs.Cells.{loadAt, firstChild, nextSibling, rowCells, branchCells, rowEntries, branchEntries}
+use Rattle.meaning.specs.Best.{shares, load_rule_for, row_rule_for}
+use Rattle.meaning.specs.Cells.{load_at, first_child, next_sibling, row_cells, branch_cells, row_entries, branch_entries}
 use Rattle.meaning.specs.Choice.{Follows}
 
 module _ (b : Book) (item : ℕ → Load → Item) (ls : List Load) where
   -- the root's state, less 1: "the lowest start state that still reaches the greatest worth"
-  abbrev pub startBest : ℕ → Greatest
-  startBest c = argmax (λ s. guard (isStart b (suc s)) (branchCells b item ls 1 (suc s) c)) b.states
+  abbrev pub start_best : ℕ → Greatest
+  start_best c = argmax (λ s. guard (is_start b (suc s)) (branch_cells b item ls 1 (suc s) c)) b.states
 
   -- a load's rule in state q: "the lowest load rule that still reaches the best for its allowance"
-  abbrev pub loadBest : (k q c : ℕ) → Greatest
-  loadBest k q c = loadRuleFor b (item k (loadAt ls k)) (rowCells b item ls (firstChild ls k)) q c
+  abbrev pub load_best : (k q c : ℕ) → Greatest
+  load_best k q c = load_rule_for b (item k (load_at ls k)) (row_cells b item ls (first_child ls k)) q c
 
-  abbrev pub loadRule : (k q c : ℕ) → Transition
-  loadRule k q c = ruleAt b.loadRules (loadBest k q c).index
+  abbrev pub load_rule : (k q c : ℕ) → Transition
+  load_rule k q c = rule_at b.load_rules (load_best k q c).index
 
   -- "its row gets the allowance less its power if on"
-  abbrev pub belowLeft : (k q c : ℕ) → ℕ
-  belowLeft k q c = c - draw (item k (loadAt ls k)) (loadRule k q c).label
+  abbrev pub below_left : (k q c : ℕ) → ℕ
+  below_left k q c = c - draw (item k (load_at ls k)) (load_rule k q c).label
 
   -- the rule of the row from load k onward at stage g: "the lowest row rule that still reaches the best"
-  abbrev pub rowBest : (k g c : ℕ) → Greatest
-  rowBest k g c = rowRuleFor b (branchCells b item ls k) (rowCells b item ls (nextSibling ls k)) g c
+  abbrev pub row_best : (k g c : ℕ) → Greatest
+  row_best k g c = row_rule_for b (branch_cells b item ls k) (row_cells b item ls (next_sibling ls k)) g c
 
-  abbrev pub rowRule : (k g c : ℕ) → Transition
-  rowRule k g c = ruleAt b.rowRules (rowBest k g c).index
+  abbrev pub row_rule : (k g c : ℕ) → Transition
+  row_rule k g c = rule_at b.row_rules (row_best k g c).index
 
   -- "then the smallest allowance for its own branch that does"
-  abbrev pub shareBest : (k g c : ℕ) → Greatest
-  shareBest k g c = shares (branchCells b item ls k (rowRule k g c).label) (rowCells b item ls (nextSibling ls k) (rowRule k g c).to) c
+  abbrev pub share_best : (k g c : ℕ) → Greatest
+  share_best k g c = shares (branch_cells b item ls k (row_rule k g c).label) (row_cells b item ls (next_sibling ls k) (row_rule k g c).to) c
 
   -- the branch of load k in state q, entered by row rule r with allowance c, is part of the run
   pub record BranchPart (σ : ℕ → ℕ) (ρ : ℕ → Assigned) (k r q c : ℕ) : Type 0 where
-    pub possible : 0 < branchCells b item ls k q c
-    pub follows : Follows σ ρ (branchEntries b item ls k r q c)
+    pub possible : 0 < branch_cells b item ls k q c
+    pub follows : Follows σ ρ (branch_entries b item ls k r q c)
 
   -- so is the row from load k onward, entered at stage g with allowance c
   pub record RowPart (σ : ℕ → ℕ) (ρ : ℕ → Assigned) (k g c : ℕ) : Type 0 where
-    pub possible : 0 < rowCells b item ls k g c
-    pub follows : Follows σ ρ (rowEntries b item ls k g c)
+    pub possible : 0 < row_cells b item ls k g c
+    pub follows : Follows σ ρ (row_entries b item ls k g c)

@@ -4,71 +4,71 @@
 use Rattle.std.specs.Prelude.{ℕ, zero, suc, ◌+◌, ◌-◌, ◌*◌, ◌≤◌, ◌<◌, ◌≡◌, List, ◌⊎◌, length, get_or, set}
 use Rattle.lists.specs.Tests.{pick}
 use Rattle.tables.specs.declared.load.Load.{Load}
-use Rattle.tables.specs.Limits.{maxLoads, between}
+use Rattle.tables.specs.Limits.{max_loads, between}
 use Rattle.meaning.specs.Forest.{tree}
-use Rattle.meaning.specs.Best.{bestTree}
+use Rattle.meaning.specs.Best.{best_tree}
 use Rattle.tables.specs.declared.entry.Entry.{Entry}
-use Rattle.meaning.specs.Choice.{chooseTree, inOrder, marksOf, assignedBy}
+use Rattle.meaning.specs.Choice.{choose_tree, in_order, marks_of, assigned_by}
 use Rattle.meaning.specs.Cell.{draw}
-use Rattle.meaning.specs.Cells.{loadAt, firstChild, nextSibling}
+use Rattle.meaning.specs.Cells.{load_at, first_child, next_sibling}
 use Rattle.cells.specs.declared.problem.Problem.{Problem}
 use Rattle.cells.specs.declared.problem.Shape.{Shape}
-use Rattle.cells.specs.Problem.{bookFor, loadsFor, itemsFor}
+use Rattle.cells.specs.Problem.{book_for, loads_for, items_for}
 use Rattle.cells.specs.Outline.{Outlines}
-use Rattle.cells.specs.Work.{cellsNeeded, Ready, FilledTo}
+use Rattle.cells.specs.Work.{cells_needed, Ready, FilledTo}
 use Rattle.runs.specs.declared.outcome.StoredOutcome.{StoredOutcome}
-use Rattle.runs.specs.Outcome.{found, storedOutcome}
+use Rattle.runs.specs.Outcome.{found, stored_outcome}
 use Rattle.engine.specs.declared.pass.Rows.{Rows}
 use Rattle.engine.specs.declared.pass.Pass.{Pass}
 use Rattle.engine.specs.declared.choice.Choice.{Choice}
-use Rattle.runs.specs.Runs.{run_of, withEntry}
-use Rattle.engine.specs.Parts.{loadBest, loadRule, belowLeft, rowBest, rowRule, shareBest, BranchPart, RowPart}
+use Rattle.runs.specs.Runs.{run_of, with_entry}
+use Rattle.engine.specs.Parts.{load_best, load_rule, below_left, row_best, row_rule, share_best, BranchPart, RowPart}
 
 -- the best cell of a problem at an allowance, that at its budget, and its entries
-abbrev pub bestAt : Problem → (c : ℕ) → ℕ
-bestAt p c = bestTree (bookFor p) (tree (itemsFor p) (loadsFor p)) c
+abbrev pub best_at : Problem → (c : ℕ) → ℕ
+best_at p c = best_tree (book_for p) (tree (items_for p) (loads_for p)) c
 
-abbrev pub bestFor : Problem → ℕ
-bestFor p = bestAt p p.tables.budget
+abbrev pub best_for : Problem → ℕ
+best_for p = best_at p p.tables.budget
 
-abbrev pub entriesFor : Problem → List Entry
-entriesFor p = chooseTree (bookFor p) (tree (itemsFor p) (loadsFor p)) p.tables.budget
+abbrev pub entries_for : Problem → List Entry
+entries_for p = choose_tree (book_for p) (tree (items_for p) (loads_for p)) p.tables.budget
 
 -- the cells of a check: every load with 8 states and 8 stages, one allowance
-abbrev pub checkCells : ℕ
-checkCells = maxLoads * 16
+abbrev pub check_cells : ℕ
+check_cells = max_loads * 16
 
 -- what a search answers
-abbrev pub answerTo : Problem → StoredOutcome
-answerTo p = storedOutcome maxLoads (found (bestFor p) (inOrder (entriesFor p) 1 p.tables.loads.count))
+abbrev pub answer_to : Problem → StoredOutcome
+answer_to p = stored_outcome max_loads (found (best_for p) (in_order (entries_for p) 1 p.tables.loads.count))
 
 -- a problem with its outline, all of whose cells the work holds
 pub record Complete (p : Problem) (sh : Shape) (o w : List ℕ) : Type 0 where
   pub outlined : Outlines p sh o
   pub ready : Ready sh w
-  pub holds : FilledTo p w (cellsNeeded sh)
+  pub holds : FilledTo p w (cells_needed sh)
   pub some : 0 < p.tables.loads.count
 
 -- what is chosen for load k in state q with allowance c
-unfoldable pub loadChoice : Problem → (k q c : ℕ) → Choice
-loadChoice p k q c = record {
-  rule = suc (loadBest (bookFor p) (itemsFor p) (loadsFor p) k q c).index;
-  label = (loadRule (bookFor p) (itemsFor p) (loadsFor p) k q c).label;
-  share = draw (itemsFor p k (loadAt (loadsFor p) k)) (loadRule (bookFor p) (itemsFor p) (loadsFor p) k q c).label;
-  rest = firstChild (loadsFor p) k;
-  stage = (loadRule (bookFor p) (itemsFor p) (loadsFor p) k q c).to;
-  left = belowLeft (bookFor p) (itemsFor p) (loadsFor p) k q c;
+unfoldable pub load_choice : Problem → (k q c : ℕ) → Choice
+load_choice p k q c = record {
+  rule = suc (load_best (book_for p) (items_for p) (loads_for p) k q c).index;
+  label = (load_rule (book_for p) (items_for p) (loads_for p) k q c).label;
+  share = draw (items_for p k (load_at (loads_for p) k)) (load_rule (book_for p) (items_for p) (loads_for p) k q c).label;
+  rest = first_child (loads_for p) k;
+  stage = (load_rule (book_for p) (items_for p) (loads_for p) k q c).to;
+  left = below_left (book_for p) (items_for p) (loads_for p) k q c;
 }
 
 -- what is chosen where the row from load k onward is entered at stage g with allowance c
-unfoldable pub rowChoice : Problem → (k g c : ℕ) → Choice
-rowChoice p k g c = record {
-  rule = suc (rowBest (bookFor p) (itemsFor p) (loadsFor p) k g c).index;
-  label = (rowRule (bookFor p) (itemsFor p) (loadsFor p) k g c).label;
-  share = (shareBest (bookFor p) (itemsFor p) (loadsFor p) k g c).index;
-  rest = nextSibling (loadsFor p) k;
-  stage = (rowRule (bookFor p) (itemsFor p) (loadsFor p) k g c).to;
-  left = c - (shareBest (bookFor p) (itemsFor p) (loadsFor p) k g c).index;
+unfoldable pub row_choice : Problem → (k g c : ℕ) → Choice
+row_choice p k g c = record {
+  rule = suc (row_best (book_for p) (items_for p) (loads_for p) k g c).index;
+  label = (row_rule (book_for p) (items_for p) (loads_for p) k g c).label;
+  share = (share_best (book_for p) (items_for p) (loads_for p) k g c).index;
+  rest = next_sibling (loads_for p) k;
+  stage = (row_rule (book_for p) (items_for p) (loads_for p) k g c).to;
+  left = c - (share_best (book_for p) (items_for p) (loads_for p) k g c).index;
 }
 
 -- the row from load k onward is entered; load 0 stands for no load
@@ -77,40 +77,40 @@ entered r zero g c = r
 entered r (suc j) g c = record { stages = set r.stages j g; left = set r.left j c }
 
 -- load k is passed, and the row below it is entered
-unfoldable pub passedLoad : Pass → (k rowRule q : ℕ) → Choice → Pass
-passedLoad s k r q t = record {
-  run = withEntry s.run (record { number = k; mark = t.label; state = q; rule = t.rule; row = r });
+unfoldable pub passed_load : Pass → (k row_rule q : ℕ) → Choice → Pass
+passed_load s k r q t = record {
+  run = with_entry s.run (record { number = k; mark = t.label; state = q; rule = t.rule; row = r });
   rows = entered s.rows t.rest t.stage t.left;
 }
 
 -- a branch of load k and a row from load k onward that are part of the chosen run, with an allowance and a stage in range
 pub record BranchEntered (p : Problem) (k r q c : ℕ) : Type 0 where
-  pub part : BranchPart (bookFor p) (itemsFor p) (loadsFor p) (marksOf (entriesFor p)) (assignedBy (entriesFor p)) k r q c
+  pub part : BranchPart (book_for p) (items_for p) (loads_for p) (marks_of (entries_for p)) (assigned_by (entries_for p)) k r q c
   pub fits : c ≤ p.tables.budget
 
 pub record RowEntered (p : Problem) (k g c : ℕ) : Type 0 where
-  pub part : RowPart (bookFor p) (itemsFor p) (loadsFor p) (marksOf (entriesFor p)) (assignedBy (entriesFor p)) k g c
+  pub part : RowPart (book_for p) (items_for p) (loads_for p) (marks_of (entries_for p)) (assigned_by (entries_for p)) k g c
   pub low : 0 < g
   pub high : g ≤ p.tables.book.stages
   pub fits : c ≤ p.tables.budget
 
 -- the row from load k onward is entered when load j is passed (the root has no later row)
 abbrev pub Opens : List Load → (j k : ℕ) → Type 0
-Opens ls j k = (firstChild ls j ≡ k) ⊎ ((1 < j) × (nextSibling ls j ≡ k))
+Opens ls j k = (first_child ls j ≡ k) ⊎ ((1 < j) × (next_sibling ls j ≡ k))
 
 -- the row from load i + 1 onward is entered as the rows say
 abbrev pub Known : Problem → Rows → ℕ → Type 0
 Known p r i = RowEntered p (suc i) (get_or r.stages i 0) (get_or r.left i 0)
 
 pub record Full (r : Rows) : Type 0 where
-  pub stages : length r.stages ≡ maxLoads
-  pub left : length r.left ≡ maxLoads
+  pub stages : length r.stages ≡ max_loads
+  pub left : length r.left ≡ max_loads
 
 -- the first n loads were passed: the run has them, and the rows that they lead to are known
 pub record Passed (p : Problem) (n : ℕ) (s : Pass) : Type 0 where
-  pub run : s.run ≡ run_of maxLoads (inOrder (entriesFor p) 1 n)
+  pub run : s.run ≡ run_of max_loads (in_order (entries_for p) 1 n)
   pub full : Full s.rows
-  pub led : (i j : ℕ) → n ≤ i → i < p.tables.loads.count → 0 < j → j ≤ n → Opens (loadsFor p) j (suc i) → Known p s.rows i
+  pub led : (i j : ℕ) → n ≤ i → i < p.tables.loads.count → 0 < j → j ≤ n → Opens (loads_for p) j (suc i) → Known p s.rows i
 
 -- ---- of the outline alone
 -- it is the outline of some problem with a load or more, and the work has its cells, whatever these hold
@@ -130,4 +130,4 @@ PassedOn sh o w n s r = (p : Problem) → Complete p sh o w → Passed p n s →
 
 -- and r is the answer to it
 abbrev pub Traced : Shape → (o w : List ℕ) → StoredOutcome → Type 0
-Traced sh o w r = (p : Problem) → Complete p sh o w → r ≡ answerTo p
+Traced sh o w r = (p : Problem) → Complete p sh o w → r ≡ answer_to p

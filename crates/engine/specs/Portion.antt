@@ -4,18 +4,18 @@
 use Rattle.std.specs.Prelude.{ℕ, ◌<◌, ◌≡◌, true, not, ◌&&◌, List, eqb, take, drop}
 use Rattle.lists.specs.Tests.{pick}
 use Rattle.tables.specs.declared.tables.StoredTables.{StoredTables}
-use Rattle.tables.specs.Limits.{maxLoads}
+use Rattle.tables.specs.Limits.{max_loads}
 use Rattle.tables.specs.Tables.{Tables}
 use Rattle.tables.specs.Stored.{tables_of}
-use Rattle.meaning.specs.Best.{bestPlan}
-use Rattle.meaning.specs.Choice.{planEntries}
+use Rattle.meaning.specs.Best.{best_plan}
+use Rattle.meaning.specs.Choice.{plan_entries}
 use Rattle.meaning.specs.Cells.{cells_of, Holding}
 use Rattle.runs.specs.declared.outcome.StoredOutcome.{StoredOutcome}
-use Rattle.runs.specs.Outcome.{noSet, found, storedOutcome, heldRange, keepsOutcome}
+use Rattle.runs.specs.Outcome.{no_set, found, stored_outcome, held_range, keeps_outcome}
 
 -- what was read, where it is an outcome in range for the tables; else that no allowed set fits
 unfoldable pub in_range : StoredTables → StoredOutcome → StoredOutcome
-in_range t r = pick (not (eqb r.status 0) && keepsOutcome (heldRange t) r) r (storedOutcome maxLoads noSet)
+in_range t r = pick (not (eqb r.status 0) && keeps_outcome (held_range t) r) r (stored_outcome max_loads no_set)
 
 -- v is the work w with the cells from .. to of the tables' plan filled
 pub record PartFilled (t : Tables) (w v : List ℕ) (from to : ℕ) : Type 0 where
@@ -25,6 +25,6 @@ pub record PartFilled (t : Tables) (w v : List ℕ) (from to : ℕ) : Type 0 whe
 
 -- r was read from the work w: the plan's outcome, if all cells hold what they are to hold; and in any case one in range for the tables, and not nothing
 pub record ReadFrom (t : StoredTables) (w : List ℕ) (r : StoredOutcome) : Type 0 where
-  pub right : Holding (tables_of t) w (cells_of (tables_of t)) → r ≡ storedOutcome maxLoads (found (bestPlan (tables_of t)) (planEntries (tables_of t)))
-  pub kept : keepsOutcome (heldRange t) r ≡ true
+  pub right : Holding (tables_of t) w (cells_of (tables_of t)) → r ≡ stored_outcome max_loads (found (best_plan (tables_of t)) (plan_entries (tables_of t)))
+  pub kept : keeps_outcome (held_range t) r ≡ true
   pub some : 0 < r.status

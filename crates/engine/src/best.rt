@@ -1,9 +1,9 @@
 // The filled cells as they are read, and the search for the start state: the greatest value, and the lowest number that has it.
 ghost use Rattle.std.specs.Prelude.{◌≡◌, suc, ◌≤◌, ◌<◌};
 ghost use Rattle.lists.specs.Argmax.{guard, improve};
-ghost use Rattle.marks.specs.Bits.{hasMark};
-ghost use Rattle.cells.specs.Work.{cellLimit, Ready, heldBranch, heldRow};
-ghost use Rattle.engine.specs.Search.{greatestOf, rootBest};
+ghost use Rattle.marks.specs.Bits.{has_mark};
+ghost use Rattle.cells.specs.Work.{cell_limit, Ready, held_branch, held_row};
+ghost use Rattle.engine.specs.Search.{greatest_of, root_best};
 
 use cells::cell;
 use cells::problem::Shape;
@@ -21,7 +21,7 @@ impl Best {
 
     // One more value, at number i: taken only if it is greater.
     fn improved(self, i: usize, x: u32) -> Best
-        ensures { greatestOf result ≡ improve (greatestOf self) i x }
+        ensures { greatest_of result ≡ improve (greatest_of self) i x }
     {
         if self.value < x {
             return Best { value: x, index: i };
@@ -34,7 +34,7 @@ impl Best {
 pub(crate) fn row_at(sh: Shape, work: &[u32], k: usize, g: usize, c: usize) -> u32
     requires ready { Ready sh work.now }
     requires k_le_loads { (k ≤ sh.loads) × (0 < g) × (g ≤ sh.stages) × (c ≤ sh.budget) }
-    ensures { (result ≡ heldRow sh work.now k g c) × (result ≤ cellLimit) }
+    ensures { (result ≡ held_row sh work.now k g c) × (result ≤ cell_limit) }
 {
     if k == 0 {
         let ends = sh.ends;
@@ -51,7 +51,7 @@ pub(crate) fn row_at(sh: Shape, work: &[u32], k: usize, g: usize, c: usize) -> u
 pub(crate) fn branch_at(sh: Shape, work: &[u32], k: usize, q: usize, c: usize) -> u32
     requires ready { Ready sh work.now }
     requires k_nonzero { (0 < k) × (k ≤ sh.loads) × (0 < q) × (q ≤ sh.states) × (c ≤ sh.budget) }
-    ensures { (result ≡ heldBranch sh work.now k q c) × (result ≤ cellLimit) }
+    ensures { (result ≡ held_branch sh work.now k q c) × (result ≤ cell_limit) }
 {
     let at = place(sh, k, q - 1);
     cell::held(work[at + c])
@@ -61,7 +61,7 @@ pub(crate) fn branch_at(sh: Shape, work: &[u32], k: usize, q: usize, c: usize) -
 fn start_at(sh: Shape, work: &[u32], s: usize, c: usize) -> u32
     requires ready { Ready sh work.now }
     requires loads_nonzero { (0 < sh.loads) × (s < sh.states) × (c ≤ sh.budget) }
-    ensures { result ≡ guard (hasMark sh.starts.0 (suc s)) (heldBranch sh work.now 1 (suc s) c) }
+    ensures { result ≡ guard (has_mark sh.starts.0 (suc s)) (held_branch sh work.now 1 (suc s) c) }
 {
     let starts = sh.starts;
     if starts.has(s + 1) {
@@ -74,7 +74,7 @@ fn start_at(sh: Shape, work: &[u32], s: usize, c: usize) -> u32
 pub(crate) fn best_start(sh: Shape, work: &[u32], c: usize) -> Best
     requires ready { Ready sh work.now }
     requires loads_nonzero { (0 < sh.loads) × (c ≤ sh.budget) }
-    ensures { greatestOf result ≡ rootBest sh work.now c }
+    ensures { greatest_of result ≡ root_best sh work.now c }
 {
     let n = sh.states;
     let mut best = Best::NONE;

@@ -1,9 +1,9 @@
 // What is chosen for one load, read from the filled cells: the lowest rule that still reaches the best, and the smallest allowance that does.
 ghost use Rattle.std.specs.Prelude.{◌≡◌, ◌+◌, ◌≤◌, ◌<◌};
-ghost use Rattle.cells.specs.Outline.{jointIn, rulesIn, bestIn, JointFits, RuleFits, RulesFit, OutlineFits};
-ghost use Rattle.cells.specs.Work.{place_of, Ready, cellsFrom};
-ghost use Rattle.cells.specs.Stretch.{leading, reachOf, reached};
-ghost use Rattle.engine.specs.Search.{splitAt, share_of, choiceIn, FirstAt, Reaches};
+ghost use Rattle.cells.specs.Outline.{joint_in, rules_in, best_in, JointFits, RuleFits, RulesFit, OutlineFits};
+ghost use Rattle.cells.specs.Work.{place_of, Ready, cells_from};
+ghost use Rattle.cells.specs.Stretch.{leading, reach_of, reached};
+ghost use Rattle.engine.specs.Search.{split_at, share_of, choice_in, FirstAt, Reaches};
 
 use crate::best::{branch_at, row_at};
 use cells::cell;
@@ -39,7 +39,7 @@ impl Choice {
 fn first_share(sh: Shape, t: Joint, lead: Lead, work: &[u32], c: usize, goal: u32) -> usize
     requires ready { Ready sh work.now × JointFits sh t }
     requires label_nonzero { (0 < lead.label) × (lead.label ≤ sh.states) × (0 < lead.stage) × (lead.stage ≤ sh.stages) × (c ≤ sh.budget) }
-    ensures { FirstAt (splitAt sh work.now t c (leading lead)) goal (c + 1) result }
+    ensures { FirstAt (split_at sh work.now t c (leading lead)) goal (c + 1) result }
 {
     let mut a: usize = 0;
     while a <= c {
@@ -58,7 +58,7 @@ fn first_share(sh: Shape, t: Joint, lead: Lead, work: &[u32], c: usize, goal: u3
 fn share_for(sh: Shape, t: Joint, lead: Lead, work: &[u32], c: usize, goal: u32) -> usize
     requires ready { Ready sh work.now × JointFits sh t × RuleFits sh t.branch (leading lead) }
     requires c_le_budget { c ≤ sh.budget }
-    ensures { 0 < goal → reachOf sh work.now t c (leading lead) ≤ goal → Reaches (reachOf sh work.now t c (leading lead)) (share_of sh work.now t c (leading lead)) goal c result }
+    ensures { 0 < goal → reach_of sh work.now t c (leading lead) ≤ goal → Reaches (reach_of sh work.now t c (leading lead)) (share_of sh work.now t c (leading lead)) goal c result }
 {
     if t.branch {
         return first_share(sh, t, lead, work, c, goal);
@@ -82,7 +82,7 @@ fn share_for(sh: Shape, t: Joint, lead: Lead, work: &[u32], c: usize, goal: u32)
 fn chosen(sh: Shape, o: &[u16], t: Joint, r: Rules, work: &[u32], c: usize, goal: u32) -> Choice
     requires ready { Ready sh work.now × JointFits sh t × RulesFit sh o.now t.branch r }
     requires c_le_budget { c ≤ sh.budget }
-    ensures right { goal ≡ (bestIn o.now r (reachOf sh work.now t c)).value → 0 < goal → result ≡ choiceIn sh o.now work.now t r c }
+    ensures right { goal ≡ (best_in o.now r (reach_of sh work.now t c)).value → 0 < goal → result ≡ choice_in sh o.now work.now t r c }
     ensures bounds { (result.rest ≤ sh.loads) × (result.left ≤ c) }
 {
     let mut j = next_rule(o, r, 0);
@@ -108,7 +108,7 @@ fn chosen(sh: Shape, o: &[u16], t: Joint, r: Rules, work: &[u32], c: usize, goal
 pub(crate) fn choose(sh: Shape, o: &[u16], work: &[u32], k: usize, x: usize, c: usize) -> Choice
     requires ready { Ready sh work.now × OutlineFits sh o.now }
     requires k_nonzero { (0 < k) × (k ≤ sh.loads) × (x < sh.states + sh.stages) × (c ≤ sh.budget) }
-    ensures right { cellsFrom work.now (place_of sh k x) c ≡ reached sh o.now work.now k x c → 0 < reached sh o.now work.now k x c → result ≡ choiceIn sh o.now work.now (jointIn sh o.now k x) (rulesIn sh o.now x) c }
+    ensures right { cells_from work.now (place_of sh k x) c ≡ reached sh o.now work.now k x c → 0 < reached sh o.now work.now k x c → result ≡ choice_in sh o.now work.now (joint_in sh o.now k x) (rules_in sh o.now x) c }
     ensures bounds { (result.rest ≤ sh.loads) × (result.left ≤ c) }
 {
     let t = joint_at(sh, o, k, x);

@@ -1,11 +1,11 @@
 // The figures of a set of loads. How many loads are on is `LoadSet::count`.
 ghost use Rattle.std.specs.Prelude.{◌≡◌, ◌≤◌};
 ghost use Rattle.lists.specs.Argmax.{guard};
-ghost use Rattle.tables.specs.Limits.{maxLoads};
-ghost use Rattle.tables.specs.Stored.{loadsOf};
+ghost use Rattle.tables.specs.Limits.{max_loads};
+ghost use Rattle.tables.specs.Stored.{loads_of};
 ghost use Rattle.meaning.specs.Sets.{counted};
-ghost use Rattle.marks.specs.Sets.{markIn};
-ghost use Rattle.engine.specs.Figures.{figuresOf};
+ghost use Rattle.marks.specs.Sets.{mark_in};
+ghost use Rattle.engine.specs.Figures.{figures_of};
 
 use marks::LoadSet;
 use tables::load::LoadList;
@@ -26,8 +26,8 @@ fn counted_if(on: bool, figure: u16) -> u32
 
 // The sums of the figures of the loads that are in the set.
 pub fn figures_of(loads: LoadList, set: LoadSet) -> Figures
-    requires { loads.count ≤ maxLoads }
-    ensures { result ≡ figuresOf (loadsOf loads) (markIn set) }
+    requires { loads.count ≤ max_loads }
+    ensures { result ≡ figures_of (loads_of loads) (mark_in set) }
 {
     let n = loads.count;
     let mut power: u32 = 0;

@@ -1,12 +1,12 @@
 // How little supply would do: the least budget for a worth, read from the filled cells of a plan.
 ghost use Rattle.std.specs.Prelude.{◌≡◌, true, ◌++◌, ltb, length, drop, replicate, ◌*◌, ◌≤◌, ◌<◌};
-ghost use Rattle.lists.specs.Tests.{firstFrom};
-ghost use Rattle.tables.specs.Limits.{maxLoads, maxWorth};
-ghost use Rattle.tables.specs.Stored.{tables_of, keepsLimits};
+ghost use Rattle.lists.specs.Tests.{first_from};
+ghost use Rattle.tables.specs.Limits.{max_loads, max_worth};
+ghost use Rattle.tables.specs.Stored.{tables_of, keeps_limits};
 ghost use Rattle.meaning.specs.Cells.{cells_of};
 ghost use Rattle.cells.specs.Work.{Ready};
-ghost use Rattle.engine.specs.Search.{rootBest};
-ghost use Rattle.engine.specs.Need.{need_of, needBy};
+ghost use Rattle.engine.specs.Search.{root_best};
+ghost use Rattle.engine.specs.Need.{need_of, need_by};
 
 use crate::best::best_start;
 use crate::figures::figures_of;
@@ -32,7 +32,7 @@ pub enum Need {
 fn first_above(sh: Shape, work: &[u32], floor: u32) -> usize
     requires ready { Ready sh work.now }
     requires loads_nonzero { 0 < sh.loads }
-    ensures { result ≡ firstFrom (λ c. ltb floor (rootBest sh work.now c).value) 0 sh.budget }
+    ensures { result ≡ first_from (λ c. ltb floor (root_best sh work.now c).value) 0 sh.budget }
 {
     let mut c: usize = 0;
     while c < sh.budget {
@@ -47,8 +47,8 @@ fn first_above(sh: Shape, work: &[u32], floor: u32) -> usize
 
 // What `need` says, by what the plan found, and by the least budget for the worth.
 fn said(found: StoredOutcome, loads: LoadList, worth: u32, least: u32) -> Need
-    requires { loads.count ≤ maxLoads }
-    ensures { result ≡ needBy found loads worth least }
+    requires { loads.count ≤ max_loads }
+    ensures { result ≡ need_by found loads worth least }
 {
     if found.status == NO_SET {
         return Need::NoneFits;
@@ -64,7 +64,7 @@ fn said(found: StoredOutcome, loads: LoadList, worth: u32, least: u32) -> Need
 // How little supply would do for a worth, worked out in the lent cells, which are 0 afterwards. One filling serves: the root's cells hold the best for
 // every allowance.
 pub fn least_budget(t: StoredTables, worth: u32, work: &mut [u32]) -> Need
-    requires t_value { (keepsLimits t ≡ true) × (worth ≤ maxLoads * maxWorth) }
+    requires t_value { (keeps_limits t ≡ true) × (worth ≤ max_loads * max_worth) }
     requires count_nonzero { (0 < t.loads.count) × (cells_of (tables_of t) ≤ length work.old) }
     ensures value { result ≡ need_of (tables_of t) worth }
     ensures work_after { work.new ≡ replicate (cells_of (tables_of t)) 0 ++ drop (cells_of (tables_of t)) work.old }

@@ -1,8 +1,8 @@
 // The pass over the loads in number order that reads the run back from the filled cells.
 ghost use Rattle.std.specs.Prelude.{◌≡◌, ◌≤◌, ◌<◌};
-ghost use Rattle.tables.specs.Limits.{maxLoads};
-ghost use Rattle.meaning.specs.Cell.{powerLimit};
-ghost use Rattle.engine.specs.Pass.{entered, passedLoad, within, Readable, PassedOn, Traced};
+ghost use Rattle.tables.specs.Limits.{max_loads};
+ghost use Rattle.meaning.specs.Cell.{power_limit};
+ghost use Rattle.engine.specs.Pass.{entered, passed_load, within, Readable, PassedOn, Traced};
 
 use crate::best::best_start;
 use crate::choice::{Choice, choose};
@@ -28,7 +28,7 @@ impl Rows {
 
     // The row from load k onward is entered at this stage with this allowance; 0 stands for no load.
     fn with(self, k: usize, stage: u8, left: usize) -> Rows
-        requires { (k ≤ maxLoads) × (left < powerLimit) }
+        requires { (k ≤ max_loads) × (left < power_limit) }
         ensures { result ≡ entered self k stage left }
     {
         if k == 0 {
@@ -56,8 +56,8 @@ impl Pass {
 
     // Load k is passed: what was chosen for it goes into the run, and the row below it is entered.
     fn with(self, k: usize, row: u8, state: u8, c: Choice) -> Pass
-        requires { (0 < k) × (k ≤ maxLoads) × (c.rest ≤ maxLoads) × (c.left < powerLimit) }
-        ensures { result ≡ passedLoad self k row state c }
+        requires { (0 < k) × (k ≤ max_loads) × (c.rest ≤ max_loads) × (c.left < power_limit) }
+        ensures { result ≡ passed_load self k row state c }
     {
         let run = self.run.with(Entry {
             number: k as u8,

@@ -1,16 +1,16 @@
 // The whole plan, and the check of a set.
 ghost use Rattle.std.specs.Prelude.{◌≡◌, true, ◌++◌, ◌≤◌, ◌<◌, length, drop, replicate};
-ghost use Rattle.tables.specs.Limits.{maxLoads};
-ghost use Rattle.tables.specs.Stored.{tables_of, keepsLimits};
-ghost use Rattle.meaning.specs.Best.{bestPlan, bestCheck};
-ghost use Rattle.meaning.specs.Choice.{planEntries, checkEntries};
-ghost use Rattle.marks.specs.Sets.{markIn};
-ghost use Rattle.runs.specs.Outcome.{found, storedOutcome};
+ghost use Rattle.tables.specs.Limits.{max_loads};
+ghost use Rattle.tables.specs.Stored.{tables_of, keeps_limits};
+ghost use Rattle.meaning.specs.Best.{best_plan, best_check};
+ghost use Rattle.meaning.specs.Choice.{plan_entries, check_entries};
+ghost use Rattle.marks.specs.Sets.{mark_in};
+ghost use Rattle.runs.specs.Outcome.{found, stored_outcome};
 ghost use Rattle.meaning.specs.Cells.{cells_of};
 ghost use Rattle.cells.specs.Problem.{shape_of, Lawful};
-ghost use Rattle.cells.specs.Outline.{outlineSize, Outlines};
-ghost use Rattle.cells.specs.Work.{cellsNeeded};
-ghost use Rattle.engine.specs.Pass.{answerTo, checkCells, Complete, Readable, Traced};
+ghost use Rattle.cells.specs.Outline.{outline_size, Outlines};
+ghost use Rattle.cells.specs.Work.{cells_needed};
+ghost use Rattle.engine.specs.Pass.{answer_to, check_cells, Complete, Readable, Traced};
 
 use crate::pass::trace;
 use cells::fill::fill;
@@ -27,7 +27,7 @@ const CHECK_CELLS: usize = MAX_LOADS * 16;
 
 // The outline of a problem is written. The answer is its shape.
 pub(crate) fn outlined(p: Problem, outline: &mut [u16]) -> Shape
-    requires { Lawful p × (outline.old ≡ replicate outlineSize 0) }
+    requires { Lawful p × (outline.old ≡ replicate outline_size 0) }
     ensures { Outlines p result outline.new }
 {
     put_outline(outline, p);
@@ -36,11 +36,11 @@ pub(crate) fn outlined(p: Problem, outline: &mut [u16]) -> Shape
 
 // The cells of a problem are filled, over the outline that is written for it. Its shape is that of both.
 pub(crate) fn fill_cells(p: Problem, outline: &mut [u16], work: &mut [u32]) -> Shape
-    requires lawful { Lawful p × (outline.old ≡ replicate outlineSize 0) }
-    requires count_nonzero { (0 < p.tables.loads.count) × (cellsNeeded (shape_of p) ≤ length work.old) }
+    requires lawful { Lawful p × (outline.old ≡ replicate outline_size 0) }
+    requires count_nonzero { (0 < p.tables.loads.count) × (cells_needed (shape_of p) ≤ length work.old) }
     ensures shape { result ≡ shape_of p }
     ensures filled { Complete p result outline.new work.new }
-    ensures rest { drop (cellsNeeded (shape_of p)) work.new ≡ drop (cellsNeeded (shape_of p)) work.old }
+    ensures rest { drop (cells_needed (shape_of p)) work.new ≡ drop (cells_needed (shape_of p)) work.old }
 {
     let sh = outlined(p, &mut *outline);
     let n = cells_needed(sh);
@@ -52,7 +52,7 @@ pub(crate) fn fill_cells(p: Problem, outline: &mut [u16], work: &mut [u32]) -> S
 pub(crate) fn read_back(sh: Shape, o: &[u16], work: &mut [u32]) -> StoredOutcome
     requires { Readable sh o.now work.old }
     ensures read { Traced sh o.now work.old result }
-    ensures cleared { work.new ≡ replicate (cellsNeeded sh) 0 ++ drop (cellsNeeded sh) work.old }
+    ensures cleared { work.new ≡ replicate (cells_needed sh) 0 ++ drop (cells_needed sh) work.old }
 {
     let found = trace(sh, o, &work[..]);
     let n = cells_needed(sh);
@@ -63,9 +63,9 @@ pub(crate) fn read_back(sh: Shape, o: &[u16], work: &mut [u32]) -> StoredOutcome
 // A problem is searched: its cells are filled, the run is read back from them, and they are cleared.
 fn search(p: Problem, work: &mut [u32]) -> StoredOutcome
     requires lawful { Lawful p }
-    requires count_nonzero { (0 < p.tables.loads.count) × (cellsNeeded (shape_of p) ≤ length work.old) }
-    ensures answer { result ≡ answerTo p }
-    ensures cleared { work.new ≡ replicate (cellsNeeded (shape_of p)) 0 ++ drop (cellsNeeded (shape_of p)) work.old }
+    requires count_nonzero { (0 < p.tables.loads.count) × (cells_needed (shape_of p) ≤ length work.old) }
+    ensures answer { result ≡ answer_to p }
+    ensures cleared { work.new ≡ replicate (cells_needed (shape_of p)) 0 ++ drop (cells_needed (shape_of p)) work.old }
 {
     let mut outline = [0u16; OUTLINE];
     let sh = fill_cells(p, &mut outline[..], &mut *work);
@@ -74,9 +74,9 @@ fn search(p: Problem, work: &mut [u32]) -> StoredOutcome
 
 // The plan of the tables, worked out in the lent cells, which are 0 afterwards.
 pub fn plan(t: StoredTables, work: &mut [u32]) -> StoredOutcome
-    requires t_value { keepsLimits t ≡ true }
+    requires t_value { keeps_limits t ≡ true }
     requires count_nonzero { (0 < t.loads.count) × (cells_of (tables_of t) ≤ length work.old) }
-    ensures value { result ≡ storedOutcome maxLoads (found (bestPlan (tables_of t)) (planEntries (tables_of t))) }
+    ensures value { result ≡ stored_outcome max_loads (found (best_plan (tables_of t)) (plan_entries (tables_of t))) }
     ensures work_after { work.new ≡ replicate (cells_of (tables_of t)) 0 ++ drop (cells_of (tables_of t)) work.old }
 {
     let p = plan_problem(t);
@@ -86,9 +86,9 @@ pub fn plan(t: StoredTables, work: &mut [u32]) -> StoredOutcome
 // A problem is searched in cells of its own, over the outline that is written for it. The case in which it would call itself does not arise: a function
 // that may call itself keeps a frame to itself, so that these cells are on the stack of a check alone.
 fn search_alone(p: Problem, outline: &mut [u16]) -> StoredOutcome
-    requires lawful { Lawful p × (outline.old ≡ replicate outlineSize 0) }
-    requires count_nonzero { (0 < p.tables.loads.count) × (cellsNeeded (shape_of p) ≤ checkCells) }
-    ensures { result ≡ answerTo p }
+    requires lawful { Lawful p × (outline.old ≡ replicate outline_size 0) }
+    requires count_nonzero { (0 < p.tables.loads.count) × (cells_needed (shape_of p) ≤ check_cells) }
+    ensures { result ≡ answer_to p }
 {
     if CHECK_CELLS < cells_needed(shape_of(p)) {
         return search_alone(p, outline);
@@ -100,9 +100,9 @@ fn search_alone(p: Problem, outline: &mut [u16]) -> StoredOutcome
 
 // The run of a checked set, worked out in cells of its own.
 pub fn check(t: StoredTables, set: LoadSet) -> StoredOutcome
-    requires t_value { keepsLimits t ≡ true }
+    requires t_value { keeps_limits t ≡ true }
     requires count_nonzero { 0 < t.loads.count }
-    ensures { result ≡ storedOutcome maxLoads (found (bestCheck (tables_of t) (markIn set)) (checkEntries (tables_of t) (markIn set))) }
+    ensures { result ≡ stored_outcome max_loads (found (best_check (tables_of t) (mark_in set)) (check_entries (tables_of t) (mark_in set))) }
 {
     let p = check_problem(t, set);
     let mut outline = [0u16; OUTLINE];

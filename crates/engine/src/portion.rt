@@ -1,6 +1,6 @@
 // A plan by portions: some of its cells filled, and its outcome read from all of them.
 ghost use Rattle.std.specs.Prelude.{◌≡◌, true, ◌++◌, ◌≤◌, ◌<◌, length, drop, replicate};
-ghost use Rattle.tables.specs.Stored.{tables_of, keepsLimits};
+ghost use Rattle.tables.specs.Stored.{tables_of, keeps_limits};
 ghost use Rattle.meaning.specs.Cells.{cells_of};
 ghost use Rattle.engine.specs.Portion.{PartFilled, ReadFrom, in_range};
 
@@ -14,7 +14,7 @@ use tables::tables::StoredTables;
 
 // The cells from .. to of the tables' plan are filled in the lent work.
 pub fn fill_part(t: StoredTables, work: &mut [u32], from: usize, to: usize)
-    requires t_value { keepsLimits t ≡ true }
+    requires t_value { keeps_limits t ≡ true }
     requires count_nonzero { (0 < t.loads.count) × (cells_of (tables_of t) ≤ length work.old) × (from ≤ to) × (to ≤ cells_of (tables_of t)) }
     ensures { PartFilled (tables_of t) work.old work.new from to }
 {
@@ -39,7 +39,7 @@ fn in_range(t: StoredTables, found: StoredOutcome) -> StoredOutcome
 
 // The outcome of the tables' plan is read from its cells, which are 0 afterwards.
 pub fn read_all(t: StoredTables, work: &mut [u32]) -> StoredOutcome
-    requires t_value { keepsLimits t ≡ true }
+    requires t_value { keeps_limits t ≡ true }
     requires count_nonzero { (0 < t.loads.count) × (cells_of (tables_of t) ≤ length work.old) }
     ensures read { ReadFrom t work.old result }
     ensures cleared { work.new ≡ replicate (cells_of (tables_of t)) 0 ++ drop (cells_of (tables_of t)) work.old }

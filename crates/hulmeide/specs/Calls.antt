@@ -11,5 +11,5 @@ use Rattle.hulmeide.specs.declared.Reply.{Reply}
 abbrev pub done_of : Planner → Reply → (output work : List ℕ) → Done
 done_of p r o w = record { state = held p; reply = record { number = r.number; count = r.count; output = o; work = w } }
 
-abbrev pub portionDone : Planner → Portion → (output work : List ℕ) → PortionDone
-portionDone p r o w = record { state = held p; filled = r.filled; reply = record { number = r.number; count = r.count; output = o; work = w } }
+abbrev pub portion_done : Planner → Portion → (output work : List ℕ) → PortionDone
+portion_done p r o w = record { state = held p; filled = r.filled; reply = record { number = r.number; count = r.count; output = o; work = w } }

@@ -6,12 +6,12 @@ use Rattle.judge.specs.declared.Verdict.TheVariants.{LimitBroken, NoLoads, NotTh
 use Rattle.judge.specs.Verdict.{number_of}
 
 -- above every number of a refusal
-abbrev pub notARun : ℕ
-notARun = 255
+abbrev pub not_aRun : ℕ
+not_aRun = 255
 
-abbrev pub verdictNumber : Verdict → ℕ
-verdictNumber LimitBroken = number_of LimitBroken
-verdictNumber NoLoads = number_of NoLoads
-verdictNumber NotThree = number_of NotThree
-verdictNumber Yes = number_of Yes
-verdictNumber No = notARun
+abbrev pub verdict_number : Verdict → ℕ
+verdict_number LimitBroken = number_of LimitBroken
+verdict_number NoLoads = number_of NoLoads
+verdict_number NotThree = number_of NotThree
+verdict_number Yes = number_of Yes
+verdict_number No = not_aRun

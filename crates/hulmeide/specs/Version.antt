@@ -2,9 +2,9 @@
 -- Assumes nothing.
 use Rattle.std.specs.Prelude.{ℕ, ◌+◌, ◌*◌}
 
-abbrev pub versionOf : (major minor patch : ℕ) → ℕ
-versionOf major minor patch = major * 10000 + minor * 100 + patch
+abbrev pub version_of : (major minor patch : ℕ) → ℕ
+version_of major minor patch = major * 10000 + minor * 100 + patch
 
 -- the minor number goes up with each request that changes what lines and functions there are, what they answer, or the layout
 abbrev pub version : ℕ
-version = versionOf 1 11 0
+version = version_of 1 11 0

@@ -8,13 +8,13 @@ ghost use Rattle.calls.specs.Calls.{called};
 ghost use Rattle.calls.specs.Portions.{Portions};
 ghost use Rattle.planner.specs.Planner.{held, fresh};
 ghost use Rattle.planner.specs.Calls.{call_of};
-ghost use Rattle.planner.specs.Portions.{portionOf};
-ghost use Rattle.planner.specs.Verdict.{judgedBy};
-ghost use Rattle.changeover.specs.Changeover.{changedTo, changeover};
-ghost use Rattle.page.specs.Drawing.{drawnOf, drawing};
+ghost use Rattle.planner.specs.Portions.{portion_of};
+ghost use Rattle.planner.specs.Verdict.{judged_by};
+ghost use Rattle.changeover.specs.Changeover.{changed_to, changeover};
+ghost use Rattle.page.specs.Drawing.{drawn_of, drawing};
 ghost use Rattle.page.specs.Stretch.{place, beginning};
-ghost use Rattle.hulmeide.specs.Calls.{done_of, portionDone};
-ghost use Rattle.hulmeide.specs.Verdict.{verdictNumber};
+ghost use Rattle.hulmeide.specs.Calls.{done_of, portion_done};
+ghost use Rattle.hulmeide.specs.Verdict.{verdict_number};
 ghost use Rattle.hulmeide.specs.Version.{version};
 
 use changeover::order::{Step, Switched};
@@ -77,7 +77,7 @@ struct Filled {
 }
 
 fn fill(planner: Planner, most: usize, out: &mut [u8], place: usize, work: &mut [u32]) -> Filled
-    ensures { Portions (held planner) (portionOf most out.old place work.old) (portionDone result.planner result.portion out.new work.new) }
+    ensures { Portions (held planner) (portion_of most out.old place work.old) (portion_done result.planner result.portion out.new work.new) }
 {
     let portion = planner.portion(most, out, place, work);
     let after = portion.planner;
@@ -93,7 +93,7 @@ fn fill(planner: Planner, most: usize, out: &mut [u8], place: usize, work: &mut 
 
 // The number of the judge's answer.
 fn number_of(verdict: Verdict) -> u32
-    ensures { result ≡ verdictNumber verdict }
+    ensures { result ≡ verdict_number verdict }
 {
     match verdict {
         Verdict::No => NOT_A_RUN,
@@ -102,13 +102,13 @@ fn number_of(verdict: Verdict) -> u32
 }
 
 fn judge_run(planner: Planner, run: &[u32]) -> u32
-    ensures { result ≡ verdictNumber (judgedBy (held planner) run.now) }
+    ensures { result ≡ verdict_number (judged_by (held planner) run.now) }
 {
     number_of(planner.judge(run))
 }
 
 fn draw_page(planner: Planner, load: usize, page: &mut [u8]) -> u32
-    ensures { drawnOf result page.new ≡ drawing (held planner) load page.old }
+    ensures { drawn_of result page.new ≡ drawing (held planner) load page.old }
 {
     draw(planner, load, page) as u32
 }
@@ -138,7 +138,7 @@ pub extern "C" fn hulmeide_fresh(planner: &mut Planner)
 // Are these numbers, three for each load, a run? 0 for yes, 255 for no, or the number of the refusal.
 #[unsafe(no_mangle)]
 pub extern "C" fn hulmeide_judge(planner: &Planner, run: &[u32]) -> u32
-    ensures { result ≡ verdictNumber (judgedBy (held planner.now) run.now) }
+    ensures { result ≡ verdict_number (judged_by (held planner.now) run.now) }
 {
     judge_run(*planner, run)
 }
@@ -168,7 +168,7 @@ pub extern "C" fn hulmeide_portion(
     place: usize,
     work: &mut [u32],
 ) -> Portion
-    ensures { Portions (held planner.old) (portionOf most out.old place work.old) (portionDone planner.new result out.new work.new) }
+    ensures { Portions (held planner.old) (portion_of most out.old place work.old) (portion_done planner.new result out.new work.new) }
 {
     let filled = fill(*planner, most, out, place, work);
     *planner = filled.planner;
@@ -183,7 +183,7 @@ pub extern "C" fn hulmeide_changeover(
     new: &[u8],
     list: &mut [Step],
 ) -> Switched
-    ensures { changedTo result.number result.count list.new ≡ changeover (held planner.now) old.now new.now list.old }
+    ensures { changed_to result.number result.count list.new ≡ changeover (held planner.now) old.now new.now list.old }
 {
     switch_over(*planner, old, new, list)
 }
@@ -191,7 +191,7 @@ pub extern "C" fn hulmeide_changeover(
 // Draws the page of the planner's latest plan, from a load on: 0, or the number of the refusal, which leaves the page as it was.
 #[unsafe(no_mangle)]
 pub extern "C" fn hulmeide_draw(planner: &Planner, load: usize, page: &mut [u8]) -> u32
-    ensures { drawnOf result page.new ≡ drawing (held planner.now) load page.old }
+    ensures { drawn_of result page.new ≡ drawing (held planner.now) load page.old }
 {
     draw_page(*planner, load, page)
 }

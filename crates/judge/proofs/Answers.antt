@@ -11,12 +11,12 @@ use lib.ListN.{length}
 use Rattle.lists.specs.Tests.{pick}
 use Rattle.lists.proofs.Bools.{below_or}
 use Rattle.tables.specs.declared.tables.StoredTables.{StoredTables}
-use Rattle.tables.specs.Stored.{tables_of, keepsLimits}
+use Rattle.tables.specs.Stored.{tables_of, keeps_limits}
 use Rattle.meaning.specs.Forest.{planned, tree}
 use Rattle.meaning.proofs.Judge.{judge-tree-decides}
 use Rattle.judge.specs.declared.Verdict.{Verdict}
 use Rattle.judge.specs.declared.Verdict.TheVariants.{LimitBroken, NoLoads, NotThree, Yes, No}
-use Rattle.judge.specs.Verdict.{proposed, isRun, judged}
+use Rattle.judge.specs.Verdict.{proposed, is_run, judged}
 use Rattle.judge.specs.Claims.{IsRun, Judgeable, CaseOf, AnswersExactly}
 
 test-true : (t : Bool) → T t → t ≡ true
@@ -24,11 +24,11 @@ test-true true h = refl
 test-true false h = absurd h
 
 module _ (s : StoredTables) (ns : List ℕ) where
-  pub limit-broken : keepsLimits s ≡ false → LimitBroken ≡ judged s ns
+  pub limit-broken : keeps_limits s ≡ false → LimitBroken ≡ judged s ns
   unfolding judged
   limit-broken e = rw e
 
-  module _ (kept : keepsLimits s ≡ true) where
+  module _ (kept : keeps_limits s ≡ true) where
     pub no-loads : length (tables_of s).loads ≡ 0 → NoLoads ≡ judged s ns
     unfolding judged
     no-loads e = rw (kept, eq-eqb (length (tables_of s).loads) 0 e)
@@ -38,48 +38,48 @@ module _ (s : StoredTables) (ns : List ℕ) where
       unfolding judged
       not_three e = rw (kept, ne_eqb (length (tables_of s).loads) 0 (omega arith), ne_eqb (length ns) (3 * length (tables_of s).loads) e)
 
-      pub says : length ns ≡ 3 * length (tables_of s).loads → {r : Bool} → r ≡ isRun (tables_of s) ns → pick r Yes No ≡ judged s ns
+      pub says : length ns ≡ 3 * length (tables_of s).loads → {r : Bool} → r ≡ is_run (tables_of s) ns → pick r Yes No ≡ judged s ns
       unfolding judged
       says e h = rw (kept, ne_eqb (length (tables_of s).loads) 0 (omega arith), eq-eqb (length ns) (3 * length (tables_of s).loads) e, h)
 
   -- "says yes or no": by the judge of trees, which says yes exactly to runs
-  runs : isRun (tables_of s) ns ≡ true → IsRun (tables_of s) ns
+  runs : is_run (tables_of s) ns ≡ true → IsRun (tables_of s) ns
   runs e = (judge-tree-decides (tables_of s).book (proposed ns) (tree planned (tables_of s).loads)).holds (subst T (sym e) tt)
 
-  passes : IsRun (tables_of s) ns → isRun (tables_of s) ns ≡ true
-  passes r = test-true (isRun (tables_of s) ns) ((judge-tree-decides (tables_of s).book (proposed ns) (tree planned (tables_of s).loads)).passes r)
+  passes : IsRun (tables_of s) ns → is_run (tables_of s) ns ≡ true
+  passes r = test-true (is_run (tables_of s) ns) ((judge-tree-decides (tables_of s).book (proposed ns) (tree planned (tables_of s).loads)).passes r)
 
   answer : (v : Verdict) → CaseOf s ns v → v ≡ judged s ns
   answer LimitBroken e = limit-broken e
   answer NoLoads (e, n) = no-loads e n
   answer NotThree (e, n, d) = not_three e n d
   answer Yes (j, r) = says j.lawful j.some j.three (sym (passes r))
-  answer No (j, r) = says j.lawful j.some j.three (go (isRun (tables_of s) ns) refl)
+  answer No (j, r) = says j.lawful j.some j.three (go (is_run (tables_of s) ns) refl)
     where
-      go : (b : Bool) → isRun (tables_of s) ns ≡ b → false ≡ isRun (tables_of s) ns
+      go : (b : Bool) → is_run (tables_of s) ns ≡ b → false ≡ is_run (tables_of s) ns
       go true e = absurd (r (runs e))
       go false e = sym e
 
   in-case : CaseOf s ns (judged s ns)
-  in-case = limits (keepsLimits s) refl
+  in-case = limits (keeps_limits s) refl
     where
       given : (v : Verdict) → CaseOf s ns v → CaseOf s ns (judged s ns)
       given v h = subst (CaseOf s ns) (answer v h) h
 
-      said : Judgeable s ns → (b : Bool) → isRun (tables_of s) ns ≡ b → CaseOf s ns (judged s ns)
+      said : Judgeable s ns → (b : Bool) → is_run (tables_of s) ns ≡ b → CaseOf s ns (judged s ns)
       said j true e = given Yes (j, runs e)
       said j false e = given No (j, λ r. let z : ◌≡◌ {A = ℕ} 0 1 = cc (passes r) in omega arith)
 
-      counted : keepsLimits s ≡ true → 0 < length (tables_of s).loads
+      counted : keeps_limits s ≡ true → 0 < length (tables_of s).loads
           → (b : Bool) → eqb (length ns) (3 * length (tables_of s).loads) ≡ b → CaseOf s ns (judged s ns)
-      counted k n true e = said (record { lawful = k; some = n; three = eqb-true _ _ e }) (isRun (tables_of s) ns) refl
+      counted k n true e = said (record { lawful = k; some = n; three = eqb-true _ _ e }) (is_run (tables_of s) ns) refl
       counted k n false e = given NotThree (k, n, eqb-false _ _ e)
 
-      loads : keepsLimits s ≡ true → (0 < length (tables_of s).loads) ⊎ (length (tables_of s).loads ≤ 0) → CaseOf s ns (judged s ns)
+      loads : keeps_limits s ≡ true → (0 < length (tables_of s).loads) ⊎ (length (tables_of s).loads ≤ 0) → CaseOf s ns (judged s ns)
       loads k (inl n) = counted k n (eqb (length ns) (3 * length (tables_of s).loads)) refl
       loads k (inr n) = given NoLoads (k, omega arith)
 
-      limits : (b : Bool) → keepsLimits s ≡ b → CaseOf s ns (judged s ns)
+      limits : (b : Bool) → keeps_limits s ≡ b → CaseOf s ns (judged s ns)
       limits true e = loads e (below_or 0 (length (tables_of s).loads))
       limits false e = given LimitBroken e
 

@@ -14,26 +14,26 @@ use Rattle.lists.proofs.Bools.{and_left, and_right, below_or}
 use Rattle.tables.specs.declared.rule.RuleRange.{RuleRange}
 use Rattle.tables.specs.declared.rule.Transition.{Transition}
 use Rattle.tables.specs.declared.rule.TransitionList.{TransitionList}
-use Rattle.tables.specs.Tables.{noRule}
+use Rattle.tables.specs.Tables.{no_rule}
 use Rattle.tables.specs.Lawful.{RuleFits}
-use Rattle.tables.specs.Stored.{rulesOf}
-use Rattle.meaning.specs.Runs.{ruleAt, rule}
+use Rattle.tables.specs.Stored.{rules_of}
+use Rattle.meaning.specs.Runs.{rule_at, rule}
 use Rattle.meaning.specs.Judge.{begins}
 
 -- ---- in an array
 module _ (l : TransitionList) where
-  pub rule-zero : (n : ℕ) → n ≡ 0 → noRule ≡ rule (rulesOf l) n
+  pub rule-zero : (n : ℕ) → n ≡ 0 → no_rule ≡ rule (rules_of l) n
   rule-zero n e = rw e
 
-  pub rule-over : (n : ℕ) → l.count < n → noRule ≡ rule (rulesOf l) n
+  pub rule-over : (n : ℕ) → l.count < n → no_rule ≡ rule (rules_of l) n
   rule-over zero h = refl
-  rule-over (suc j) h = sym (get_or-eq_default (rulesOf l) noRule {n = j} (omega (arith, length-take l.count l.items)))
+  rule-over (suc j) h = sym (get_or-eq_default (rules_of l) no_rule {n = j} (omega (arith, length-take l.count l.items)))
 
-  pub rule-in : (n : ℕ) → (n ≡ 0 → ⊥) → n ≤ l.count → get_or l.items (n - 1) noRule ≡ rule (rulesOf l) n
+  pub rule-in : (n : ℕ) → (n ≡ 0 → ⊥) → n ≤ l.count → get_or l.items (n - 1) no_rule ≡ rule (rules_of l) n
   rule-in zero p h = absurd (p refl)
   rule-in (suc j) p h =
       let e : suc j - 1 ≡ j = omega arith in
-      rw e (sym (get_or-take l.count l.items j noRule (omega arith)))
+      rw e (sym (get_or-take l.count l.items j no_rule (omega arith)))
 
 -- ---- named
 -- n is the number of a rule
@@ -42,23 +42,23 @@ Named ts zero = ⊥
 Named ts (suc j) = j < length ts
 
 -- a rule with a number other than 0 in it is named
-named_by : (f : Transition → ℕ) → f noRule ≡ 0 → (ts : List Transition) (n : ℕ) → 0 < f (rule ts n) → Named ts n
+named_by : (f : Transition → ℕ) → f no_rule ≡ 0 → (ts : List Transition) (n : ℕ) → 0 < f (rule ts n) → Named ts n
 named_by f e ts zero h = absurd (omega arith)
 named_by f e ts (suc j) h = go (below_or j (length ts))
   where
     go : (j < length ts) ⊎ (length ts ≤ j) → j < length ts
     go (inl l) = l
-    go (inr l) = absurd (omega (arith, ap f (get_or-eq_default ts noRule {n = j} l)))
+    go (inr l) = absurd (omega (arith, ap f (get_or-eq_default ts no_rule {n = j} l)))
 
 begins-named : (ts : List Transition) (n x : ℕ) → Named ts n → (rule ts n).from ≡ x → begins ts n x ≡ true
 begins-named ts zero x h e = absurd h
-begins-named ts (suc j) x h e = rw (lt-ltb j (length ts) h, eq-eqb (ruleAt ts j).from x e)
+begins-named ts (suc j) x h e = rw (lt-ltb j (length ts) h, eq-eqb (rule_at ts j).from x e)
 
 named-begins : (ts : List Transition) (n x : ℕ) → begins ts n x ≡ true → Named ts n × ((rule ts n).from ≡ x)
 named-begins ts zero x h = absurd (let z : ◌≡◌ {A = ℕ} 0 1 = cc in omega arith)
 named-begins ts (suc j) x h = (
-  ltb-true j (length ts) (and_left (ltb j (length ts)) (eqb (ruleAt ts j).from x) h),
-  eqb-true (ruleAt ts j).from x (and_right (ltb j (length ts)) (eqb (ruleAt ts j).from x) h),
+  ltb-true j (length ts) (and_left (ltb j (length ts)) (eqb (rule_at ts j).from x) h),
+  eqb-true (rule_at ts j).from x (and_right (ltb j (length ts)) (eqb (rule_at ts j).from x) h),
 )
 
 -- ---- a load's step, over the rules of a book that keeps its limits
@@ -66,7 +66,7 @@ guard-pass : (t : Bool) (x : ℕ) → 0 < guard t x → (t ≡ true) × (guard t
 guard-pass true x h = (refl, refl)
 guard-pass false x h = absurd (omega arith)
 
-module _ (m : RuleRange) (ts : List Transition) (fit : (j : ℕ) → j < length ts → RuleFits m (ruleAt ts j)) where
+module _ (m : RuleRange) (ts : List Transition) (fit : (j : ℕ) → j < length ts → RuleFits m (rule_at ts j)) where
   -- a rule that is named leads to a stage
   leads : (n : ℕ) → Named ts n → 0 < (rule ts n).to
   leads zero h = absurd h

@@ -3,29 +3,29 @@
 use Rattle.std.specs.Prelude.{ℕ, ◌*◌, ◌≤◌, ◌<◌, ◌≡◌, true, false, List, ◌↔◌, length}
 use Rattle.tables.specs.declared.tables.StoredTables.{StoredTables}
 use Rattle.tables.specs.Tables.{Tables}
-use Rattle.tables.specs.Stored.{tables_of, keepsLimits}
+use Rattle.tables.specs.Stored.{tables_of, keeps_limits}
 use Rattle.meaning.specs.Forest.{planned, tree}
 use Rattle.meaning.specs.Runs.{TreeRun, named}
-use Rattle.meaning.specs.Judge.{ownMarks}
+use Rattle.meaning.specs.Judge.{own_marks}
 use Rattle.judge.specs.declared.Verdict.{Verdict}
 use Rattle.judge.specs.declared.Verdict.TheVariants.{LimitBroken, NoLoads, NotThree, Yes, No}
 use Rattle.judge.specs.Verdict.{proposed, judged}
 
 -- the numbers are a run, of the set of their own marks
 abbrev pub IsRun : Tables → List ℕ → Type 0
-IsRun t ns = TreeRun t.book (ownMarks t.book (proposed ns)) (proposed ns) (tree planned t.loads)
+IsRun t ns = TreeRun t.book (own_marks t.book (proposed ns)) (proposed ns) (tree planned t.loads)
 
 -- tables that keep the limits and have a load, with three numbers for each load
 pub record Judgeable (s : StoredTables) (ns : List ℕ) : Type 0 where
-  pub lawful : keepsLimits s ≡ true
+  pub lawful : keeps_limits s ≡ true
   pub some : 0 < length (tables_of s).loads
   pub three : length ns ≡ 3 * length (tables_of s).loads
 
 -- the case of each answer, by the rows 1, 4 and 5 of "Causes and numbers"; of the lowest number that applies
 abbrev pub CaseOf : StoredTables → List ℕ → Verdict → Type 0
-CaseOf s ns LimitBroken = keepsLimits s ≡ false
-CaseOf s ns NoLoads = (keepsLimits s ≡ true) × (length (tables_of s).loads ≡ 0)
-CaseOf s ns NotThree = (keepsLimits s ≡ true) × (0 < length (tables_of s).loads) × (length ns ≡ 3 * length (tables_of s).loads → ⊥)
+CaseOf s ns LimitBroken = keeps_limits s ≡ false
+CaseOf s ns NoLoads = (keeps_limits s ≡ true) × (length (tables_of s).loads ≡ 0)
+CaseOf s ns NotThree = (keeps_limits s ≡ true) × (0 < length (tables_of s).loads) × (length ns ≡ 3 * length (tables_of s).loads → ⊥)
 CaseOf s ns Yes = Judgeable s ns × IsRun (tables_of s) ns
 CaseOf s ns No = Judgeable s ns × (IsRun (tables_of s) ns → ⊥)
 

@@ -7,23 +7,23 @@ use Rattle.marks.specs.declared.Marks.{Marks}
 use Rattle.tables.specs.declared.rule.Transition.{Transition}
 use Rattle.tables.specs.declared.load.Load.{Load}
 use Rattle.tables.specs.Tables.{Tables}
-use Rattle.tables.specs.Limits.{maxLoads}
+use Rattle.tables.specs.Limits.{max_loads}
 use Rattle.tables.specs.Lawful.{Lawful}
 use Rattle.meaning.specs.Runs.{rule, Assigned}
-use Rattle.meaning.specs.Cells.{loadAt}
+use Rattle.meaning.specs.Cells.{load_at}
 use Rattle.judge.specs.declared.figures.Step.{Step}
 
 -- of a load of this kind with these numbers: the stage of its load rule, if this begins with the load's state and is of its kind; the stage at which
 -- its row rule begins, if this gives the load its state; and the stage at which the row goes on
-unfoldable pub step_of : (loadRules rowRules : List Transition) → (kind : ℕ) → Assigned → Step
+unfoldable pub step_of : (load_rules row_rules : List Transition) → (kind : ℕ) → Assigned → Step
 step_of ls rs k a = record {
-  begin = guard (eqb (rule ls a.loadRule).from a.state && eqb (rule ls a.loadRule).kind k) (rule ls a.loadRule).to;
-  stage = guard (eqb (rule rs a.rowRule).label a.state) (rule rs a.rowRule).from;
-  next = (rule rs a.rowRule).to;
+  begin = guard (eqb (rule ls a.load_rule).from a.state && eqb (rule ls a.load_rule).kind k) (rule ls a.load_rule).to;
+  stage = guard (eqb (rule rs a.row_rule).label a.state) (rule rs a.row_rule).from;
+  next = (rule rs a.row_rule).to;
 }
 
-abbrev pub stepAt : Tables → (ℕ → Assigned) → ℕ → Step
-stepAt t ρ k = step_of t.book.loadRules t.book.rowRules (loadAt t.loads k).kind (ρ k)
+abbrev pub step_at : Tables → (ℕ → Assigned) → ℕ → Step
+step_at t ρ k = step_of t.book.load_rules t.book.row_rules (load_at t.loads k).kind (ρ k)
 
 -- in a list, one number for each of n loads stands from a place on: load k's is k - 1 places on
 abbrev pub NumbersAt : List ℕ → (place n : ℕ) → (ℕ → ℕ) → Type 0
@@ -31,14 +31,14 @@ NumbersAt figures place n number = (j : ℕ) → j < n → get_or figures (place
 
 -- the loads' parents stand last
 abbrev pub ParentsOf : List Load → List ℕ → Type 0
-ParentsOf ls figures = NumbersAt figures (3 * maxLoads) (length ls) (λ k. (loadAt ls k).parent)
+ParentsOf ls figures = NumbersAt figures (3 * max_loads) (length ls) (λ k. (load_at ls k).parent)
 
 -- a list holds the figures of the n loads of tables that keep the limits: the three numbers of their steps, and their parents
 pub record LookedUp (t : Tables) (ρ : ℕ → Assigned) (n : ℕ) (ends : Marks) (figures : List ℕ) : Type 0 where
   pub lawful : Lawful t
   pub count : length t.loads ≡ n
-  pub endStages : t.book.ends ≡ ends
-  pub begin : NumbersAt figures 0 n (λ k. (stepAt t ρ k).begin)
-  pub stage : NumbersAt figures maxLoads n (λ k. (stepAt t ρ k).stage)
-  pub next : NumbersAt figures (2 * maxLoads) n (λ k. (stepAt t ρ k).next)
+  pub end_stages : t.book.ends ≡ ends
+  pub begin : NumbersAt figures 0 n (λ k. (step_at t ρ k).begin)
+  pub stage : NumbersAt figures max_loads n (λ k. (step_at t ρ k).stage)
+  pub next : NumbersAt figures (2 * max_loads) n (λ k. (step_at t ρ k).next)
   pub parent : ParentsOf t.loads figures

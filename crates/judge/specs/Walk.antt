@@ -4,9 +4,9 @@ use Rattle.std.specs.Prelude.{ℕ, zero, suc, ◌-◌, ◌<◌, ◌≡◌, Bool,
 use Rattle.marks.specs.declared.Marks.{Marks}
 use Rattle.tables.specs.Tables.{Tables}
 use Rattle.meaning.specs.Forest.{planned, row_at}
-use Rattle.meaning.specs.Cells.{loadAt, firstChild}
+use Rattle.meaning.specs.Cells.{load_at, first_child}
 use Rattle.meaning.specs.Runs.{Assigned}
-use Rattle.meaning.specs.Judge.{judge, judgeBranch}
+use Rattle.meaning.specs.Judge.{judge, judge_branch}
 use Rattle.judge.specs.Figures.{LookedUp}
 
 -- "the number of loads not yet reached": those from load k onward
@@ -15,17 +15,17 @@ left n zero = 0
 left n (suc j) = n - j
 
 module _ (t : Tables) (ρ : ℕ → Assigned) where
-  unfoldable pub rowRuns : ℕ → ℕ → Bool
-  rowRuns k g = judge t.book ρ (row_at planned t.loads k) g
+  unfoldable pub row_runs : ℕ → ℕ → Bool
+  row_runs k g = judge t.book ρ (row_at planned t.loads k) g
 
-  unfoldable pub branchRuns : ℕ → Bool
-  branchRuns k =
-      judgeBranch t.book ρ k (planned k (loadAt t.loads k)) (rowRuns (firstChild t.loads k)) (ρ k).state
+  unfoldable pub branch_runs : ℕ → Bool
+  branch_runs k =
+      judge_branch t.book ρ k (planned k (load_at t.loads k)) (row_runs (first_child t.loads k)) (ρ k).state
 
 -- the code is lent the figures alone: its answer is right for all tables and numbers whose figures they are. A row has a stage, 1 or more
 module _ (n : ℕ) (ends : Marks) (figures : List ℕ) where
   abbrev pub JudgesBranch : ℕ → Bool → Type 0
-  JudgesBranch k r = (t : Tables) (ρ : ℕ → Assigned) → LookedUp t ρ n ends figures → r ≡ branchRuns t ρ k
+  JudgesBranch k r = (t : Tables) (ρ : ℕ → Assigned) → LookedUp t ρ n ends figures → r ≡ branch_runs t ρ k
 
   abbrev pub JudgesRow : ℕ → ℕ → Bool → Type 0
-  JudgesRow k g r = (t : Tables) (ρ : ℕ → Assigned) → LookedUp t ρ n ends figures → 0 < g → r ≡ rowRuns t ρ k g
+  JudgesRow k g r = (t : Tables) (ρ : ℕ → Assigned) → LookedUp t ρ n ends figures → 0 < g → r ≡ row_runs t ρ k g

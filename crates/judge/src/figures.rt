@@ -3,8 +3,8 @@
 // be two calls deep for each load, and book and loads are more than 1,000 bytes.
 ghost use Rattle.std.specs.Prelude.{◌*◌, ◌≤◌, ◌≡◌, true, length};
 ghost use Rattle.lists.specs.Argmax.{guard};
-ghost use Rattle.tables.specs.Limits.{maxRules};
-ghost use Rattle.tables.specs.Stored.{rulesOf, tables_of, keepsLimits};
+ghost use Rattle.tables.specs.Limits.{max_rules};
+ghost use Rattle.tables.specs.Stored.{rules_of, tables_of, keeps_limits};
 ghost use Rattle.meaning.specs.Runs.{rule};
 ghost use Rattle.judge.specs.Verdict.{proposed};
 ghost use Rattle.judge.specs.Figures.{step_of, LookedUp};
@@ -36,8 +36,8 @@ pub const FIGURES: usize = 4 * MAX_LOADS;
 
 // The rule with number n, counted from 1. A number that names nothing gives the rule of zeros.
 fn rule_at(rules: TransitionList, n: u32) -> Transition
-    requires { rules.count ≤ maxRules }
-    ensures { result ≡ rule (rulesOf rules) n }
+    requires { rules.count ≤ max_rules }
+    ensures { result ≡ rule (rules_of rules) n }
 {
     let number = n as usize;
     if number == 0 {
@@ -65,8 +65,8 @@ fn step_of(
     load_rule: u32,
     row_rule: u32,
 ) -> Step
-    requires { (load_rules.count ≤ maxRules) × (row_rules.count ≤ maxRules) }
-    ensures { result ≡ step_of (rulesOf load_rules) (rulesOf row_rules) kind (record { state = state; loadRule = load_rule; rowRule = row_rule }) }
+    requires { (load_rules.count ≤ max_rules) × (row_rules.count ≤ max_rules) }
+    ensures { result ≡ step_of (rules_of load_rules) (rules_of row_rules) kind (record { state = state; load_rule = load_rule; row_rule = row_rule }) }
 {
     let l = rule_at(load_rules, load_rule);
     let r = rule_at(row_rules, row_rule);
@@ -79,7 +79,7 @@ fn step_of(
 
 // The figures of every load, by the numbers that the run gives it.
 pub(crate) fn look_up(t: StoredTables, run: &[u32]) -> [u8; FIGURES]
-    requires { (keepsLimits t ≡ true) × (length run.now ≡ 3 * t.loads.count) }
+    requires { (keeps_limits t ≡ true) × (length run.now ≡ 3 * t.loads.count) }
     ensures { LookedUp (tables_of t) (proposed run.now) t.loads.count t.book.ends result }
 {
     let loads = t.loads;

@@ -1,8 +1,8 @@
 // The judge of proposed runs: three numbers for each load, in load order.
 ghost use Rattle.std.specs.Prelude.{◌*◌, ◌<◌, ◌≡◌, true, length};
-ghost use Rattle.tables.specs.Stored.{bookOf, tables_of, keepsLimits};
+ghost use Rattle.tables.specs.Stored.{book_of, tables_of, keeps_limits};
 ghost use Rattle.meaning.specs.Judge.{starts};
-ghost use Rattle.judge.specs.Verdict.{isRun, number_of, saidBy, judged};
+ghost use Rattle.judge.specs.Verdict.{is_run, number_of, said_by, judged};
 
 use tables::refusal::{NO_LOADS, OUT_OF_RANGE, UNUSABLE};
 use tables::tables::{StoredBook, StoredTables};
@@ -36,7 +36,7 @@ impl Verdict {
 
     // Is it yes?
     pub fn yes(self) -> bool
-        ensures { result ≡ (saidBy self).yes }
+        ensures { result ≡ (said_by self).yes }
     {
         match self {
             Verdict::LimitBroken => false,
@@ -50,7 +50,7 @@ impl Verdict {
 
 // Is q the number of a start state?
 fn is_start(book: StoredBook, q: u32) -> bool
-    ensures { result ≡ starts (bookOf book) q }
+    ensures { result ≡ starts (book_of book) q }
 {
     let state = q as usize;
     (state <= book.states as usize) & book.starts.has(state)
@@ -58,8 +58,8 @@ fn is_start(book: StoredBook, q: u32) -> bool
 
 // Are the numbers a run? The root is in a start state and has row rule 0, and its branch is run by the rules.
 fn tree_runs(t: StoredTables, run: &[u32]) -> bool
-    requires { (keepsLimits t ≡ true) × (0 < t.loads.count) × (length run.now ≡ 3 * t.loads.count) }
-    ensures { result ≡ isRun (tables_of t) run.now }
+    requires { (keeps_limits t ≡ true) × (0 < t.loads.count) × (length run.now ≡ 3 * t.loads.count) }
+    ensures { result ≡ is_run (tables_of t) run.now }
 {
     if !is_start(t.book, run[0]) {
         return false;

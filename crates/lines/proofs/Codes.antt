@@ -11,7 +11,7 @@ use lib.Dec.{eqb}
 use lib.ListN.{length, get_or, take}
 use Rattle.lists.proofs.Bools.{and_left, and_right, same_test, below_or}
 use Rattle.lines.specs.Text.{same}
-use Rattle.lines.specs.Reading.{codeFrom, code}
+use Rattle.lines.specs.Reading.{code_from, code}
 
 -- ---- bytes
 abbrev pub Bytes : List ℕ → Type 0
@@ -44,12 +44,12 @@ scale-longer n zero (suc j) h = le_trans (scale-longer n zero j (omega arith)) (
 scale-longer n (suc k) zero h = absurd (omega arith)
 scale-longer n (suc k) (suc j) h = scale-longer (n * 256) k j (le_of_suc-le-suc h)
 
-low : (n : ℕ) (w : List ℕ) → scale n (length w) ≤ codeFrom n w
+low : (n : ℕ) (w : List ℕ) → scale n (length w) ≤ code_from n w
 unfolding scale
 low n [] = le_refl n
 low n (b ∷ bs) = le_trans (scale-mono (n * 256) (n * 256 + b) (length bs) (omega arith)) (low (n * 256 + b) bs)
 
-high : (n : ℕ) (w : List ℕ) → Bytes w → codeFrom n w < scale (suc n) (length w)
+high : (n : ℕ) (w : List ℕ) → Bytes w → code_from n w < scale (suc n) (length w)
 unfolding scale
 high n [] h = le_refl (suc n)
 high n (b ∷ bs) h = le_trans (high (n * 256 + b) bs h.1) (scale-mono (suc (n * 256 + b)) (suc n * 256) (length bs) (omega (arith, h.0)))
@@ -59,7 +59,7 @@ unfolding scale
 shorter a b p l =
     le_trans (high 1 a p) (le_trans (scale-mono 2 256 (length a) (omega arith)) (le_trans (scale-longer 1 (suc (length a)) (length b) l) (low 1 b)))
 
-same_length : (a b : List ℕ) → length a ≡ length b → Bytes a → Bytes b → (m n : ℕ) → codeFrom m a ≡ codeFrom n b → (m ≡ n) × (a ≡ b)
+same_length : (a b : List ℕ) → length a ≡ length b → Bytes a → Bytes b → (m n : ℕ) → code_from m a ≡ code_from n b → (m ≡ n) × (a ≡ b)
 same_length [] [] l p q m n e = (e, refl)
 same_length [] (y ∷ b) l p q m n e = absurd (omega arith)
 same_length (x ∷ a) [] l p q m n e = absurd (omega arith)

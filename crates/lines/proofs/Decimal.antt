@@ -13,21 +13,21 @@ use lib.Seq.{append_snoc}
 use Rattle.lists.specs.Tests.{every}
 use Rattle.lists.proofs.Bools.{and_left, and_right, below_or}
 use Rattle.lists.proofs.Tests.{every-snoc}
-use Rattle.lines.specs.Text.{nought, decimalTo, decimal}
-use Rattle.lines.specs.Grammar.{mostDigits, isDigit, is_number, valueFrom, value}
+use Rattle.lines.specs.Text.{nought, decimal_to, decimal}
+use Rattle.lines.specs.Grammar.{most_digits, is_digit, is_number, value_from, value}
 
 -- ---- the last digit, and the number without it
 last-digit : (k n : ℕ) (t : Bool) → ltb n 10 ≡ t
-    → decimalTo (suc k) n ≡ elim t as (λ _. List ℕ) [ true ↦ (nought + n) ∷ [] | false ↦ decimalTo k (n / 10) ++ ((nought + n % 10) ∷ []) ]
-unfolding decimalTo
-last-digit k n t e = subst (λ (u : Bool). decimalTo (suc k) n ≡ elim u as (λ _. List ℕ) [ true ↦ (nought + n) ∷ [] | false ↦ decimalTo k (n / 10) ++ ((nought + n % 10) ∷ []) ]) e refl
+    → decimal_to (suc k) n ≡ elim t as (λ _. List ℕ) [ true ↦ (nought + n) ∷ [] | false ↦ decimal_to k (n / 10) ++ ((nought + n % 10) ∷ []) ]
+unfolding decimal_to
+last-digit k n t e = subst (λ (u : Bool). decimal_to (suc k) n ≡ elim u as (λ _. List ℕ) [ true ↦ (nought + n) ∷ [] | false ↦ decimal_to k (n / 10) ++ ((nought + n % 10) ∷ []) ]) e refl
 
-enough : (k j n : ℕ) → n < k → n < j → decimalTo k n ≡ decimalTo j n
+enough : (k j n : ℕ) → n < k → n < j → decimal_to k n ≡ decimal_to j n
 enough zero j n h l = absurd (omega arith)
 enough (suc k) zero n h l = absurd (omega arith)
 enough (suc k) (suc j) n h l = go (ltb n 10) refl (λ a b. enough k j (n / 10) a b)
   where
-    go : (t : Bool) → ltb n 10 ≡ t → (n / 10 < k → n / 10 < j → decimalTo k (n / 10) ≡ decimalTo j (n / 10)) → decimalTo (suc k) n ≡ decimalTo (suc j) n
+    go : (t : Bool) → ltb n 10 ≡ t → (n / 10 < k → n / 10 < j → decimal_to k (n / 10) ≡ decimal_to j (n / 10)) → decimal_to (suc k) n ≡ decimal_to (suc j) n
     go true e ih = last-digit k n true e ∙ sym (last-digit j n true e)
     go false e ih =
         let s = ltb-false n 10 e in
@@ -59,22 +59,22 @@ module _ (P : ℕ → List ℕ → Type 0) (one : (n : ℕ) → n < 10 → P n (
   by_digits n = below (suc n) n (omega arith)
 
 -- ---- the value
-pub value-snoc : (v : ℕ) (f : List ℕ) (b : ℕ) → valueFrom v (f ++ (b ∷ [])) ≡ valueFrom v f * 10 + (b - nought)
-unfolding valueFrom
+pub value-snoc : (v : ℕ) (f : List ℕ) (b : ℕ) → value_from v (f ++ (b ∷ [])) ≡ value_from v f * 10 + (b - nought)
+unfolding value_from
 value-snoc v [] b = refl
 value-snoc v (a ∷ f) b = value-snoc (v * 10 + (a - nought)) f b
 
 pub decimal-value : (n : ℕ) → value (decimal n) ≡ n
-unfolding valueFrom
+unfolding value_from
 decimal-value = by_digits (λ n f. value f ≡ n) (λ n h. omega arith) (λ n h ih. value-snoc 0 (decimal (n / 10)) (nought + n % 10) ∙ rw ih (omega arith))
 
 -- ---- the digits
-pub digit-byte : (d : ℕ) → d < 10 → isDigit (nought + d) ≡ true
+pub digit-byte : (d : ℕ) → d < 10 → is_digit (nought + d) ≡ true
 digit-byte d h = rw (le-leb nought (nought + d) (omega arith), le-leb (nought + d) (nought + 9) (omega arith))
 
-pub decimal-digits : (n : ℕ) → every isDigit (decimal n) ≡ true
+pub decimal-digits : (n : ℕ) → every is_digit (decimal n) ≡ true
 unfolding every
-decimal-digits = by_digits (λ n f. every isDigit f ≡ true) (λ n h. rw (digit-byte n h)) (λ n h ih. every-snoc isDigit (decimal (n / 10)) (nought + n % 10) ih (digit-byte (n % 10) (omega arith)))
+decimal-digits = by_digits (λ n f. every is_digit f ≡ true) (λ n h. rw (digit-byte n h)) (λ n h ih. every-snoc is_digit (decimal (n / 10)) (nought + n % 10) ih (digit-byte (n % 10) (omega arith)))
 
 -- ---- their count
 pub decimal-some : (n : ℕ) → 1 ≤ length (decimal n)
@@ -90,24 +90,24 @@ decimal-length k n p h = by_digits (λ n f. (k : ℕ) → 1 ≤ k → n < 10 ^ k
     step n s ih (suc (suc k)) p h = omega (arith, length-append (decimal (n / 10)) ((nought + n % 10) ∷ []), ih (suc k) (omega arith) (omega (arith, pow-suc 10 (suc k))))
 
 -- a number of few enough digits is in form
-pub decimal-form : (n : ℕ) → n < 10 ^ mostDigits → is_number (decimal n) ≡ true
+pub decimal-form : (n : ℕ) → n < 10 ^ most_digits → is_number (decimal n) ≡ true
 unfolding is_number
-decimal-form n h = rw (le-leb 1 (length (decimal n)) (decimal-some n), le-leb (length (decimal n)) mostDigits (decimal-length mostDigits n (lit≤ tt) h)) (decimal-digits n)
+decimal-form n h = rw (le-leb 1 (length (decimal n)) (decimal-some n), le-leb (length (decimal n)) most_digits (decimal-length most_digits n (lit≤ tt) h)) (decimal-digits n)
 
 -- ---- a digit, and digits behind a number that is not 0
-pub digit-range : (b : ℕ) → isDigit b ≡ true → (nought ≤ b) × (b ≤ nought + 9)
+pub digit-range : (b : ℕ) → is_digit b ≡ true → (nought ≤ b) × (b ≤ nought + 9)
 digit-range b h = (leb-true nought b (and_left (leb nought b) (leb b (nought + 9)) h), leb-true b (nought + 9) (and_right (leb nought b) (leb b (nought + 9)) h))
 
-decimal-next : (v : ℕ) → 0 < v → (b : ℕ) → isDigit b ≡ true → decimal (v * 10 + (b - nought)) ≡ decimal v ++ (b ∷ [])
+decimal-next : (v : ℕ) → 0 < v → (b : ℕ) → is_digit b ≡ true → decimal (v * 10 + (b - nought)) ≡ decimal v ++ (b ∷ [])
 decimal-next v p b h =
     let r = digit-range b h in
     let most : (v * 10 + (b - nought)) / 10 ≡ v = omega (arith, r.0, r.1) in
     let last : nought + (v * 10 + (b - nought)) % 10 ≡ b = omega (arith, r.0, r.1) in
     decimal-more (v * 10 + (b - nought)) (omega arith) ∙ rw (most, last)
 
-pub decimal-on : (v : ℕ) → 0 < v → (f : List ℕ) → every isDigit f ≡ true → decimal (valueFrom v f) ≡ decimal v ++ f
-unfolding valueFrom every
+pub decimal-on : (v : ℕ) → 0 < v → (f : List ℕ) → every is_digit f ≡ true → decimal (value_from v f) ≡ decimal v ++ f
+unfolding value_from every
 decimal-on v p [] h = sym (append-nil (decimal v))
 decimal-on v p (b ∷ f) h =
-    decimal-on (v * 10 + (b - nought)) (omega arith) f (and_right (isDigit b) (every isDigit f) h)
-    ∙ ap (λ (x : List ℕ). x ++ f) (decimal-next v p b (and_left (isDigit b) (every isDigit f) h)) ∙ append_snoc (decimal v) b f
+    decimal-on (v * 10 + (b - nought)) (omega arith) f (and_right (is_digit b) (every is_digit f) h)
+    ∙ ap (λ (x : List ℕ). x ++ f) (decimal-next v p b (and_left (is_digit b) (every is_digit f) h)) ∙ append_snoc (decimal v) b f

@@ -10,7 +10,7 @@ use lib.ListN.{length, get_or, drop, drop_of_length-le}
 use lib.Seq.{drop-cons}
 use Rattle.lists.specs.Tests.{pick}
 use Rattle.lines.specs.Text.{comma}
-use Rattle.lines.specs.Grammar.{onFirst, fields}
+use Rattle.lines.specs.Grammar.{on_first, fields}
 
 -- there is a first field
 pub data Cons : List (List ℕ) → Type 0 where
@@ -21,7 +21,7 @@ unfolding fields
 fields-cons [] = cons [] []
 fields-cons (b ∷ bs) = go (eqb b comma) (fields bs) (fields-cons bs)
   where
-    go : (t : Bool) (fs : List (List ℕ)) → Cons fs → Cons (pick t ([] ∷ fs) (onFirst b fs))
+    go : (t : Bool) (fs : List (List ℕ)) → Cons fs → Cons (pick t ([] ∷ fs) (on_first b fs))
     go true fs c = cons [] fs
     go false fs (cons f gs) = cons (b ∷ f) gs
 
@@ -34,6 +34,6 @@ module _ (s : List ℕ) (i : ℕ) where
   unfolding fields
   fields-comma h e = rw (drop-cons s i 0, eq-eqb _ comma e, add-one i)
 
-  pub fields-byte : i < length s → (get_or s i 0 ≡ comma → ⊥) → fields (drop i s) ≡ onFirst (get_or s i 0) (fields (drop (i + 1) s))
+  pub fields-byte : i < length s → (get_or s i 0 ≡ comma → ⊥) → fields (drop i s) ≡ on_first (get_or s i 0) (fields (drop (i + 1) s))
   unfolding fields
   fields-byte h e = rw (drop-cons s i 0, ne_eqb _ comma e, add-one i)

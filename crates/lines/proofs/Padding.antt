@@ -16,9 +16,9 @@ use Rattle.lines.specs.declared.Command.{Command}
 use Rattle.lines.specs.declared.Command.TheVariants.{Change, Broken}
 use Rattle.lines.specs.declared.Change.TheVariants.{Rule, Load}
 use Rattle.lines.specs.Text.{bytes, nought, same, decimal}
-use Rattle.lines.specs.Length.{mostBytes, tooLong}
-use Rattle.lines.specs.Grammar.{fields, mostDigits, isDigit, is_number, valueFrom, value, Form, numbers, bits, table, findForm, command, parse}
-use Rattle.lines.specs.Padding.{unpadded, SameField, equal, padded, first_word, laterFields, OnlyZeros, KindWritten, SameLine, identical, zeros, kindWritten, kindLeftOut}
+use Rattle.lines.specs.Length.{most_bytes, too_long}
+use Rattle.lines.specs.Grammar.{fields, most_digits, is_digit, is_number, value_from, value, Form, numbers, bits, table, find_form, command, parse}
+use Rattle.lines.specs.Padding.{unpadded, SameField, equal, padded, first_word, later_fields, OnlyZeros, KindWritten, SameLine, identical, zeros, kind_written, kind_left_out}
 use Rattle.lines.proofs.Fields.{Cons, cons, fields-cons}
 use Rattle.lines.proofs.Codes.{not_same}
 use Rattle.lines.proofs.Rows.{check, Kept, kept}
@@ -38,25 +38,25 @@ module _ {A : Type 0} (p : List ℕ → A) (k : (c : ℕ) (bs : List ℕ) → p 
       go false e ih = refl
 
 unpadded-value : (f : List ℕ) → value (unpadded f) ≡ value f
-unfolding valueFrom
+unfolding value_from
 unpadded-value = unpadded-keeps value (λ c bs. refl)
 
 -- is it one digit or more, and nothing else?
-inForm : List ℕ → Bool
-inForm f = leb 1 (length f) && true && every isDigit f
+in_form : List ℕ → Bool
+in_form f = leb 1 (length f) && true && every is_digit f
 
-unpadded-form : (f : List ℕ) → inForm (unpadded f) ≡ inForm f
-unfolding inForm every
-unpadded-form = unpadded-keeps inForm (λ c bs. rw (le-leb 1 (suc (suc (length bs))) (omega arith), le-leb 1 (suc (length bs)) (omega arith)))
+unpadded-form : (f : List ℕ) → in_form (unpadded f) ≡ in_form f
+unfolding in_form every
+unpadded-form = unpadded-keeps in_form (λ c bs. rw (le-leb 1 (suc (suc (length bs))) (omega arith), le-leb 1 (suc (length bs)) (omega arith)))
 
-number-form : (f : List ℕ) → length f ≤ mostDigits → is_number f ≡ inForm (unpadded f)
-unfolding is_number inForm
-number-form f l = rw (le-leb (length f) mostDigits l) (sym (unpadded-form f))
+number-form : (f : List ℕ) → length f ≤ most_digits → is_number f ≡ in_form (unpadded f)
+unfolding is_number in_form
+number-form f l = rw (le-leb (length f) most_digits l) (sym (unpadded-form f))
 
 module _ {f g : List ℕ} where
   same-form : SameField f g → is_number f ≡ is_number g
   same-form (equal e) = ap is_number e
-  same-form (padded l m e) = number-form f l ∙ ap inForm e ∙ sym (number-form g m)
+  same-form (padded l m e) = number-form f l ∙ ap in_form e ∙ sym (number-form g m)
 
   same-value : SameField f g → value f ≡ value g
   same-value (equal e) = ap value e
@@ -79,8 +79,8 @@ value-at (both h hs) (suc i) = value-at hs i
 
 -- ---- a word with numbers
 module _ (w : List ℕ) (o : same check w ≡ false) {fs gs : List (List ℕ)} (h : Pairwise SameField fs gs) where
-  same-found : (xs : List Form) → Kept xs → findForm xs w fs ≡ findForm xs w gs
-  unfolding findForm
+  same-found : (xs : List Form) → Kept xs → find_form xs w fs ≡ find_form xs w gs
+  unfolding find_form
   same-found [] q = refl
   same-found (numbers v n f ∷ xs) q = rw (all-form h, count_same h, same-found xs q.1) (simp (value-at h))
   same-found (bits v f ∷ xs) q = rw (q.0, o) (same-found xs q.1)
@@ -92,11 +92,11 @@ zeros-parse s t z = go (fields s) (fields-cons s) (fields t) (fields-cons t) z.w
   where
     go : (ls : List (List ℕ)) → Cons ls → (ms : List (List ℕ)) → Cons ms → get_or ls 0 [] ≡ get_or ms 0 [] → (get_or ls 0 [] ≡ check → ⊥) → Pairwise SameField (drop 1 ls) (drop 1 ms)
         → command ls ≡ command ms
-    go ls (cons v fs) ms (cons w gs) e o h = same-found v (not_same check v (λ q. o (sym q))) h table kept ∙ ap (λ (x : List ℕ). findForm table x gs) e
+    go ls (cons v fs) ms (cons w gs) e o h = same-found v (not_same check v (λ q. o (sym q))) h table kept ∙ ap (λ (x : List ℕ). find_form table x gs) e
 
 -- ---- and so does a line with a kind 0 written out
-abbrev ifNumbers : (isNumbers : Bool) → Command → Command
-ifNumbers b c = pick b c Broken
+abbrev if_numbers : (is_numbers : Bool) → Command → Command
+if_numbers b c = pick b c Broken
 
 module _ (a b c z : List ℕ) (is : is_number z ≡ true) (zero-kind : value z ≡ 0) where
   abbrev three : Bool
@@ -108,17 +108,17 @@ module _ (a b c z : List ℕ) (is : is_number z ≡ true) (zero-kind : value z �
   same-numbers-all : four ≡ three
   same-numbers-all = ap (λ (x : Bool). is_number a && (is_number b && (is_number c && (x && true)))) is
 
-  rule-written : findForm table (bytes "rule") (a ∷ b ∷ c ∷ []) ≡ findForm table (bytes "rule") (a ∷ b ∷ c ∷ z ∷ [])
-  unfolding findForm same every valueFrom
-  rule-written = ap₂ (λ (x : Bool) (k : ℕ). ifNumbers x (Change (Rule (value a) (value b) (value c) k))) (sym same-numbers-all) (sym zero-kind)
+  rule-written : find_form table (bytes "rule") (a ∷ b ∷ c ∷ []) ≡ find_form table (bytes "rule") (a ∷ b ∷ c ∷ z ∷ [])
+  unfolding find_form same every value_from
+  rule-written = ap₂ (λ (x : Bool) (k : ℕ). if_numbers x (Change (Rule (value a) (value b) (value c) k))) (sym same-numbers-all) (sym zero-kind)
 
-  load-written : findForm table (bytes "load") (a ∷ b ∷ c ∷ []) ≡ findForm table (bytes "load") (a ∷ b ∷ c ∷ z ∷ [])
-  unfolding findForm same every valueFrom
-  load-written = ap₂ (λ (x : Bool) (k : ℕ). ifNumbers x (Change (Load (value a) (value b) (value c) k))) (sym same-numbers-all) (sym zero-kind)
+  load-written : find_form table (bytes "load") (a ∷ b ∷ c ∷ []) ≡ find_form table (bytes "load") (a ∷ b ∷ c ∷ z ∷ [])
+  unfolding find_form same every value_from
+  load-written = ap₂ (λ (x : Bool) (k : ℕ). if_numbers x (Change (Load (value a) (value b) (value c) k))) (sym same-numbers-all) (sym zero-kind)
 
 -- three fields, and one more
 written-found : (w : List ℕ) → (w ≡ bytes "rule") ⊎ (w ≡ bytes "load") → (fs : List (List ℕ)) → length fs ≡ 3 → (z : List ℕ) → is_number z ≡ true → value z ≡ 0
-    → findForm table w fs ≡ findForm table w (fs ++ (z ∷ []))
+    → find_form table w fs ≡ find_form table w (fs ++ (z ∷ []))
 written-found w k [] n z is e = absurd (omega arith)
 written-found w k (a ∷ []) n z is e = absurd (omega arith)
 written-found w k (a ∷ b ∷ []) n z is e = absurd (omega arith)
@@ -126,54 +126,54 @@ written-found w (inl r) (a ∷ b ∷ c ∷ []) n z is e = rw r (rule-written a b
 written-found w (inr l) (a ∷ b ∷ c ∷ []) n z is e = rw l (load-written a b c z is e)
 written-found w k (a ∷ b ∷ c ∷ d ∷ fs) n z is e = absurd (omega arith)
 
-parse-fields : (s : List ℕ) → parse s ≡ findForm table (first_word s) (laterFields s)
+parse-fields : (s : List ℕ) → parse s ≡ find_form table (first_word s) (later_fields s)
 unfolding parse
 parse-fields s = go (fields s) (fields-cons s)
   where
-    go : (ls : List (List ℕ)) → Cons ls → command ls ≡ findForm table (get_or ls 0 []) (drop 1 ls)
+    go : (ls : List (List ℕ)) → Cons ls → command ls ≡ find_form table (get_or ls 0 []) (drop 1 ls)
     go ls (cons v fs) = refl
 
 kind-parse : (s t : List ℕ) → KindWritten s t → parse s ≡ parse t
 kind-parse s t k =
-    parse-fields s ∙ written-found (first_word s) k.kinded (laterFields s) k.three k.kind k.number k.nought
-    ∙ ap₂ (findForm table) k.word (sym k.last) ∙ sym (parse-fields t)
+    parse-fields s ∙ written-found (first_word s) k.kinded (later_fields s) k.three k.kind k.number k.nought
+    ∙ ap₂ (find_form table) k.word (sym k.last) ∙ sym (parse-fields t)
 
-short-both : (s t : List ℕ) → length s ≤ mostBytes → length t ≤ mostBytes → tooLong s ≡ tooLong t
-short-both s t l m = le-ltb mostBytes (length s) l ∙ sym (le-ltb mostBytes (length t) m)
+short-both : (s t : List ℕ) → length s ≤ most_bytes → length t ≤ most_bytes → too_long s ≡ too_long t
+short-both s t l m = le-ltb most_bytes (length s) l ∙ sym (le-ltb most_bytes (length t) m)
 
 module _ {s t : List ℕ} where
   -- and so such lines ask for the same, also by their length
   pub same-command : SameLine s t → parse s ≡ parse t
   same-command (identical e) = ap parse e
   same-command (zeros l m z) = zeros-parse s t z
-  same-command (kindWritten l m k) = kind-parse s t k
-  same-command (kindLeftOut l m k) = sym (kind-parse t s k)
+  same-command (kind_written l m k) = kind-parse s t k
+  same-command (kind_left_out l m k) = sym (kind-parse t s k)
 
-  pub same-long : SameLine s t → tooLong s ≡ tooLong t
-  same-long (identical e) = ap tooLong e
+  pub same-long : SameLine s t → too_long s ≡ too_long t
+  same-long (identical e) = ap too_long e
   same-long (zeros l m z) = short-both s t l m
-  same-long (kindWritten l m k) = short-both s t l m
-  same-long (kindLeftOut l m k) = short-both s t l m
+  same-long (kind_written l m k) = short-both s t l m
+  same-long (kind_left_out l m k) = short-both s t l m
 
 -- ---- and no others do: numbers with the same value differ only in such zeros
-one-digit : (b : ℕ) → isDigit b ≡ true → decimal (0 * 10 + (b - nought)) ≡ b ∷ []
+one-digit : (b : ℕ) → is_digit b ≡ true → decimal (0 * 10 + (b - nought)) ≡ b ∷ []
 one-digit b d =
     let r = digit-range b d in
     let e : nought + (0 * 10 + (b - nought)) ≡ b = omega (arith, r.0) in
     decimal-one (0 * 10 + (b - nought)) (omega (arith, r.1)) ∙ rw e
 
 -- a number without its leading zeros is written as its value is
-unpadded-decimal : (f : List ℕ) → 1 ≤ length f → every isDigit f ≡ true → unpadded f ≡ decimal (value f)
-unfolding unpadded every valueFrom
+unpadded-decimal : (f : List ℕ) → 1 ≤ length f → every is_digit f ≡ true → unpadded f ≡ decimal (value f)
+unfolding unpadded every value_from
 unpadded-decimal [] l h = absurd (omega arith)
-unpadded-decimal (b ∷ []) l h = sym (one-digit b (and_left (isDigit b) true h))
+unpadded-decimal (b ∷ []) l h = sym (one-digit b (and_left (is_digit b) true h))
 unpadded-decimal (b ∷ c ∷ bs) l h = go (eqb b nought) refl (unpadded-decimal (c ∷ bs) (omega arith) rest)
   where
-    first : isDigit b ≡ true
-    first = and_left (isDigit b) (every isDigit (c ∷ bs)) h
+    first : is_digit b ≡ true
+    first = and_left (is_digit b) (every is_digit (c ∷ bs)) h
 
-    rest : every isDigit (c ∷ bs) ≡ true
-    rest = and_right (isDigit b) (every isDigit (c ∷ bs)) h
+    rest : every is_digit (c ∷ bs) ≡ true
+    rest = and_right (is_digit b) (every is_digit (c ∷ bs)) h
 
     go : (t : Bool) → eqb b nought ≡ t → unpadded (c ∷ bs) ≡ decimal (value (c ∷ bs)) → pick t (unpadded (c ∷ bs)) (b ∷ c ∷ bs) ≡ decimal (value (b ∷ c ∷ bs))
     go true e ih = rw (eqb-true b nought e) ih
@@ -190,8 +190,8 @@ number-decimal : (f : List ℕ) → is_number f ≡ true → unpadded f ≡ deci
 unfolding is_number
 number-decimal f h =
     let a : Bool = leb 1 (length f) in
-    let b : Bool = leb (length f) mostDigits in
-    unpadded-decimal f (leb-true 1 (length f) (and_left a b (and_left (a && b) (every isDigit f) h))) (and_right (a && b) (every isDigit f) h)
+    let b : Bool = leb (length f) most_digits in
+    unpadded-decimal f (leb-true 1 (length f) (and_left a b (and_left (a && b) (every is_digit f) h))) (and_right (a && b) (every is_digit f) h)
 
 same_number : (f g : List ℕ) → is_number f ≡ true → is_number g ≡ true → value f ≡ value g → SameField f g
 same_number f g m n e = padded (number-few f m) (number-few g n) (number-decimal f m ∙ ap decimal e ∙ sym (number-decimal g n))
@@ -208,5 +208,5 @@ each_number (f ∷ fs) (g ∷ gs) m n e =
 
 -- so lines with the same word and the same numbers differ only in such zeros: `OnlyZeros` leaves none out
 pub same_numbers : (s t : List ℕ) → first_word s ≡ first_word t → (first_word s ≡ check → ⊥)
-    → every is_number (laterFields s) ≡ true → every is_number (laterFields t) ≡ true → map value (laterFields s) ≡ map value (laterFields t) → OnlyZeros s t
-same_numbers s t w o m n e = record { word = w; numbers = o; each = each_number (laterFields s) (laterFields t) m n e }
+    → every is_number (later_fields s) ≡ true → every is_number (later_fields t) ≡ true → map value (later_fields s) ≡ map value (later_fields t) → OnlyZeros s t
+same_numbers s t w o m n e = record { word = w; numbers = o; each = each_number (later_fields s) (later_fields t) m n e }

@@ -12,11 +12,11 @@ use Rattle.tables.specs.Tables.{Tables}
 use Rattle.tables.specs.Limits.{Limits}
 use Rattle.lines.specs.declared.SaveForm.{SaveForm}
 use Rattle.lines.specs.declared.Change.{Change}
-use Rattle.lines.specs.Text.{comma, lineFeed, decimal}
+use Rattle.lines.specs.Text.{comma, line_feed, decimal}
 use Rattle.lines.specs.Grammar.{line_of}
 use Rattle.lines.specs.Padding.{unpadded}
-use Rattle.lines.specs.Written.{parted, line, written, changeLine}
-use Rattle.lines.specs.Saved.{saved, changesText}
+use Rattle.lines.specs.Written.{parted, line, written, change_line}
+use Rattle.lines.specs.Saved.{saved, changes_text}
 use Rattle.lines.specs.Input.{lines}
 use Rattle.lines.specs.ReadBack.{ReadBack, SaveLines}
 use Rattle.lines.proofs.Decimal.{decimal-digits}
@@ -26,25 +26,25 @@ use Rattle.lines.proofs.Written.{letters-without, line-fields, change-row, writt
 use Rattle.lines.proofs.SaveText.{FewDigits, saved-few, saved-same, line-length, weight-few, digits-short, digits-five, save-fits}
 
 -- ---- no line feed in a line
-line-without : (ns : List ℕ) {w : List ℕ} → Without lineFeed w → Without lineFeed (line w ns)
+line-without : (ns : List ℕ) {w : List ℕ} → Without line_feed w → Without line_feed (line w ns)
 unfolding parted
 line-without [] p = p
-line-without (n ∷ ns) p = without-append p (byte refl (line-without ns (without-digits lineFeed (omega arith) (decimal n) (decimal-digits n))))
+line-without (n ∷ ns) p = without-append p (byte refl (line-without ns (without-digits line_feed (omega arith) (decimal n) (decimal-digits n))))
 
-written-without : (f : SaveForm) (c : Change) → Without lineFeed (written f c)
-written-without f c = line-without (line_of f c).values (letters-without lineFeed (omega arith) (line_of f c).word (change-row f c).letters)
+written-without : (f : SaveForm) (c : Change) → Without line_feed (written f c)
+written-without f c = line-without (line_of f c).values (letters-without line_feed (omega arith) (line_of f c).word (change-row f c).letters)
 
 -- a text, whatever comes after it, is cut into the lines of its changes
-pub lines-before : (f : SaveForm) (cs : List Change) (r : List ℕ) → lines (changesText f cs ++ r) ≡ map (written f) cs ++ lines r
-unfolding changesText
+pub lines-before : (f : SaveForm) (cs : List Change) (r : List ℕ) → lines (changes_text f cs ++ r) ≡ map (written f) cs ++ lines r
+unfolding changes_text
 lines-before f [] r = refl
 lines-before f (c ∷ cs) r =
-    ap lines (append_assoc (changeLine f c) (changesText f cs) r ∙ append_snoc (written f c) lineFeed (changesText f cs ++ r))
-    ∙ lines-first (changesText f cs ++ r) (written-without f c) ∙ ap (λ (ls : List (List ℕ)). written f c ∷ ls) (lines-before f cs r)
+    ap lines (append_assoc (change_line f c) (changes_text f cs) r ∙ append_snoc (written f c) line_feed (changes_text f cs ++ r))
+    ∙ lines-first (changes_text f cs ++ r) (written-without f c) ∙ ap (λ (ls : List (List ℕ)). written f c ∷ ls) (lines-before f cs r)
 
-text-lines : (f : SaveForm) (cs : List Change) → lines (changesText f cs) ≡ map (written f) cs
+text-lines : (f : SaveForm) (cs : List Change) → lines (changes_text f cs) ≡ map (written f) cs
 unfolding lines
-text-lines f cs = ap lines (sym (append-nil (changesText f cs))) ∙ lines-before f cs [] ∙ append-nil (map (written f) cs)
+text-lines f cs = ap lines (sym (append-nil (changes_text f cs))) ∙ lines-before f cs [] ∙ append-nil (map (written f) cs)
 
 -- ---- each line is read back
 all-unpadded : (ns : List ℕ) → Each (λ f. unpadded f ≡ f) (map decimal ns)

@@ -10,22 +10,22 @@ use lib.ListN.{length, take, get_or}
 use lib.Seq.{take-suc}
 use Rattle.lists.specs.Tests.{pick}
 use Rattle.marks.specs.declared.Marks.{Marks}
-use Rattle.marks.specs.Bits.{hasMark}
+use Rattle.marks.specs.Bits.{has_mark}
 use Rattle.tables.specs.declared.rule.Sort.{Sort}
 use Rattle.tables.specs.declared.rule.Sort.TheVariants as sort
 use Rattle.tables.specs.declared.tables.StoredBook.{StoredBook}
 use Rattle.tables.specs.declared.tables.StoredTables.{StoredTables}
-use Rattle.tables.specs.Stored.{rulesOf, loadsOf, bookOf, tables_of}
+use Rattle.tables.specs.Stored.{rules_of, loads_of, book_of, tables_of}
 use Rattle.lines.specs.declared.SaveForm.{SaveForm}
 use Rattle.lines.specs.declared.SaveForm.TheVariants.{Kinds, Plain}
 use Rattle.lines.specs.declared.Change.{Change}
 use Rattle.lines.specs.declared.Change.TheVariants.{Clear, Book, Budget}
-use Rattle.lines.specs.Text.{comma, lineFeed, decimal}
-use Rattle.lines.specs.Grammar.{kindField, numberCount, line_of}
-use Rattle.lines.specs.Reading.{mostNumbers}
-use Rattle.lines.specs.Written.{parted, line, changeLine}
+use Rattle.lines.specs.Text.{comma, line_feed, decimal}
+use Rattle.lines.specs.Grammar.{kind_field, number_count, line_of}
+use Rattle.lines.specs.Reading.{most_numbers}
+use Rattle.lines.specs.Written.{parted, line, change_line}
 use Rattle.lines.specs.Answers.{Wrote}
-use Rattle.lines.specs.Saved.{markChange, markIfSet, markChanges, ruleChange, loadChange, sizeChange, bookChanges, saved, changesText, saveText}
+use Rattle.lines.specs.Saved.{mark_change, mark_if_set, mark_changes, rule_change, load_change, size_change, book_changes, saved, changes_text, save_text}
 
 -- ---- a line with one number more
 parted-snoc : (fs : List (List ℕ)) (w f : List ℕ) → parted w (fs ++ (f ∷ [])) ≡ parted w fs ++ (comma ∷ f)
@@ -43,113 +43,113 @@ pub line-next : (w v : List ℕ) (i : ℕ) → i < length v → line w (take (i 
 line-next w v i h = rw (add-one i, take-suc v i 0 h, map-append) (parted-snoc (map decimal (take i v)) w (decimal (get_or v i 0)))
 
 -- ---- the numbers of the line of a load and of a load rule
-module _ (f : SaveForm) (w : List ℕ) (a b c k : ℕ) {m : ℕ} (e : m ≡ numberCount f) where
-  few : (f : SaveForm) → numberCount f ≤ mostNumbers
+module _ (f : SaveForm) (w : List ℕ) (a b c k : ℕ) {m : ℕ} (e : m ≡ number_count f) where
+  few : (f : SaveForm) → number_count f ≤ most_numbers
   few Kinds = lit≤ tt
   few Plain = lit≤ tt
 
-  first : (f : SaveForm) → take (numberCount f) (a ∷ b ∷ c ∷ k ∷ []) ≡ a ∷ b ∷ c ∷ kindField f k
+  first : (f : SaveForm) → take (number_count f) (a ∷ b ∷ c ∷ k ∷ []) ≡ a ∷ b ∷ c ∷ kind_field f k
   first Kinds = refl
   first Plain = refl
 
   -- so many of all numbers are those of the form
-  taken : take m (a ∷ b ∷ c ∷ k ∷ []) ≡ a ∷ b ∷ c ∷ kindField f k
+  taken : take m (a ∷ b ∷ c ∷ k ∷ []) ≡ a ∷ b ∷ c ∷ kind_field f k
   taken = ap (λ (x : ℕ). take x (a ∷ b ∷ c ∷ k ∷ [])) e ∙ first f
 
-  pub kind-room : (at n : ℕ) → at + length (line w (a ∷ b ∷ c ∷ kindField f k) ++ (lineFeed ∷ [])) ≤ n
-      → (m ≤ mostNumbers) × (at + length (line w (take m (a ∷ b ∷ c ∷ k ∷ [])) ++ (lineFeed ∷ [])) ≤ n)
+  pub kind-room : (at n : ℕ) → at + length (line w (a ∷ b ∷ c ∷ kind_field f k) ++ (line_feed ∷ [])) ≤ n
+      → (m ≤ most_numbers) × (at + length (line w (take m (a ∷ b ∷ c ∷ k ∷ [])) ++ (line_feed ∷ [])) ≤ n)
   kind-room at n h = (
-    subst (λ (x : ℕ). x ≤ mostNumbers) (sym e) (few f),
-    subst (λ (ns : List ℕ). at + length (line w ns ++ (lineFeed ∷ [])) ≤ n) (sym taken) h,
+    subst (λ (x : ℕ). x ≤ most_numbers) (sym e) (few f),
+    subst (λ (ns : List ℕ). at + length (line w ns ++ (line_feed ∷ [])) ≤ n) (sym taken) h,
   )
 
-  pub kind-wrote : {before after : List ℕ} {at next : ℕ} → Wrote before after at next (line w (take m (a ∷ b ∷ c ∷ k ∷ [])) ++ (lineFeed ∷ []))
-      → Wrote before after at next (line w (a ∷ b ∷ c ∷ kindField f k) ++ (lineFeed ∷ []))
-  kind-wrote {before} {after} {at} {next} h = subst (λ (ns : List ℕ). Wrote before after at next (line w ns ++ (lineFeed ∷ []))) taken h
+  pub kind-wrote : {before after : List ℕ} {at next : ℕ} → Wrote before after at next (line w (take m (a ∷ b ∷ c ∷ k ∷ [])) ++ (line_feed ∷ []))
+      → Wrote before after at next (line w (a ∷ b ∷ c ∷ kind_field f k) ++ (line_feed ∷ []))
+  kind-wrote {before} {after} {at} {next} h = subst (λ (ns : List ℕ). Wrote before after at next (line w ns ++ (line_feed ∷ []))) taken h
 
 -- ---- the text of changes
 module _ (f : SaveForm) where
-  pub text-append : (a b : List Change) → changesText f (a ++ b) ≡ changesText f a ++ changesText f b
-  unfolding changesText
+  pub text-append : (a b : List Change) → changes_text f (a ++ b) ≡ changes_text f a ++ changes_text f b
+  unfolding changes_text
   text-append [] b = refl
-  text-append (c ∷ a) b = ap (λ (t : List ℕ). changeLine f c ++ t) (text-append a b) ∙ sym (append_assoc (changeLine f c) (changesText f a) (changesText f b))
+  text-append (c ∷ a) b = ap (λ (t : List ℕ). change_line f c ++ t) (text-append a b) ∙ sym (append_assoc (change_line f c) (changes_text f a) (changes_text f b))
 
-  pub text-one : (c : Change) → changesText f (c ∷ []) ≡ changeLine f c
-  unfolding changesText
-  text-one c = append-nil (changeLine f c)
+  pub text-one : (c : Change) → changes_text f (c ∷ []) ≡ change_line f c
+  unfolding changes_text
+  text-one c = append-nil (change_line f c)
 
   -- a line that is there only in a case
-  pub text-if : (b : Bool) (c : Change) → b ≡ true → changesText f (pick b (c ∷ []) []) ≡ changeLine f c
+  pub text-if : (b : Bool) (c : Change) → b ≡ true → changes_text f (pick b (c ∷ []) []) ≡ change_line f c
   text-if b c e = rw e (text-one c)
 
-  pub text-if-not : (b : Bool) (c : Change) → b ≡ false → changesText f (pick b (c ∷ []) []) ≡ []
-  unfolding changesText
+  pub text-if-not : (b : Bool) (c : Change) → b ≡ false → changes_text f (pick b (c ∷ []) []) ≡ []
+  unfolding changes_text
   text-if-not b c e = rw e
 
-  pub size_none : (s g : ℕ) → s ≡ 0 → changesText f (sizeChange s g) ≡ []
-  unfolding sizeChange changesText
+  pub size_none : (s g : ℕ) → s ≡ 0 → changes_text f (size_change s g) ≡ []
+  unfolding size_change changes_text
   size_none s g e = rw (eq-eqb s 0 e)
 
-  pub size-some : (s g : ℕ) → (s ≡ 0 → ⊥) → changesText f (sizeChange s g) ≡ changeLine f (Book s g)
-  unfolding sizeChange
+  pub size-some : (s g : ℕ) → (s ≡ 0 → ⊥) → changes_text f (size_change s g) ≡ change_line f (Book s g)
+  unfolding size_change
   size-some s g d = rw (ne_eqb s 0 d) (text-one (Book s g))
 
   -- one more of a list
   pub each_next : {A : Type 0} (h : A → Change) (d : A) (xs : List A) (i : ℕ) → i < length xs
-      → changesText f (map h (take (i + 1) xs)) ≡ changesText f (map h (take i xs)) ++ changeLine f (h (get_or xs i d))
+      → changes_text f (map h (take (i + 1) xs)) ≡ changes_text f (map h (take i xs)) ++ change_line f (h (get_or xs i d))
   each_next h d xs i l =
       rw (add-one i, take-suc xs i d l, map-append)
-      (text-append (map h (take i xs)) (h (get_or xs i d) ∷ []) ∙ ap (λ (t : List ℕ). changesText f (map h (take i xs)) ++ t) (text-one (h (get_or xs i d))))
+      (text-append (map h (take i xs)) (h (get_or xs i d) ∷ []) ∙ ap (λ (t : List ℕ). changes_text f (map h (take i xs)) ++ t) (text-one (h (get_or xs i d))))
 
   -- one number more that may be marked
-  pub mark-next : (k : Sort) (m : Marks) (i : ℕ) → changesText f (markChanges k m (i + 1)) ≡ changesText f (markChanges k m i) ++ changesText f (markIfSet k m (i + 1))
-  unfolding markChanges
-  mark-next k m i = rw (add-one i) (text-append (markChanges k m i) (markIfSet k m (suc i)))
+  pub mark-next : (k : Sort) (m : Marks) (i : ℕ) → changes_text f (mark_changes k m (i + 1)) ≡ changes_text f (mark_changes k m i) ++ changes_text f (mark_if_set k m (i + 1))
+  unfolding mark_changes
+  mark-next k m i = rw (add-one i) (text-append (mark_changes k m i) (mark_if_set k m (suc i)))
 
   -- ---- the lines of a size and of marks are the same in every form
-  size-line : (s g : ℕ) → changeLine f (Book s g) ≡ changeLine Kinds (Book s g)
+  size-line : (s g : ℕ) → change_line f (Book s g) ≡ change_line Kinds (Book s g)
   unfolding line_of
   size-line s g = refl
 
-  mark-line : (k : Sort) (q : ℕ) → changeLine f (markChange k q) ≡ changeLine Kinds (markChange k q)
+  mark-line : (k : Sort) (q : ℕ) → change_line f (mark_change k q) ≡ change_line Kinds (mark_change k q)
   unfolding line_of
   mark-line sort.Load q = refl
   mark-line sort.Row q = refl
 
-  one_same : (b : Bool) (c : Change) → changeLine f c ≡ changeLine Kinds c → changesText f (pick b (c ∷ []) []) ≡ changesText Kinds (pick b (c ∷ []) [])
-  unfolding changesText
+  one_same : (b : Bool) (c : Change) → change_line f c ≡ change_line Kinds c → changes_text f (pick b (c ∷ []) []) ≡ changes_text Kinds (pick b (c ∷ []) [])
+  unfolding changes_text
   one_same true c e = ap (λ (l : List ℕ). l ++ []) e
   one_same false c e = refl
 
-  none-same : (b : Bool) (c : Change) → changeLine f c ≡ changeLine Kinds c → changesText f (pick b [] (c ∷ [])) ≡ changesText Kinds (pick b [] (c ∷ []))
-  unfolding changesText
+  none-same : (b : Bool) (c : Change) → change_line f c ≡ change_line Kinds c → changes_text f (pick b [] (c ∷ [])) ≡ changes_text Kinds (pick b [] (c ∷ []))
+  unfolding changes_text
   none-same true c e = refl
   none-same false c e = ap (λ (l : List ℕ). l ++ []) e
 
-  size_same : (s g : ℕ) → changesText f (sizeChange s g) ≡ changesText Kinds (sizeChange s g)
-  unfolding sizeChange
+  size_same : (s g : ℕ) → changes_text f (size_change s g) ≡ changes_text Kinds (size_change s g)
+  unfolding size_change
   size_same s g = none-same (eqb s 0) (Book s g) (size-line s g)
 
-marks-same : (f : SaveForm) (k : Sort) (m : Marks) (n : ℕ) → changesText f (markChanges k m n) ≡ changesText Kinds (markChanges k m n)
-unfolding markChanges changesText
+marks-same : (f : SaveForm) (k : Sort) (m : Marks) (n : ℕ) → changes_text f (mark_changes k m n) ≡ changes_text Kinds (mark_changes k m n)
+unfolding mark_changes changes_text
 marks-same f k m zero = refl
 marks-same f k m (suc n) =
-    text-append f (markChanges k m n) (markIfSet k m (suc n))
-    ∙ ap₂ ◌++◌ (marks-same f k m n) (one_same f (hasMark m.0 (suc n)) (markChange k (suc n)) (mark-line f k (suc n)))
-    ∙ sym (text-append Kinds (markChanges k m n) (markIfSet k m (suc n)))
+    text-append f (mark_changes k m n) (mark_if_set k m (suc n))
+    ∙ ap₂ ◌++◌ (marks-same f k m n) (one_same f (has_mark m.0 (suc n)) (mark_change k (suc n)) (mark-line f k (suc n)))
+    ∙ sym (text-append Kinds (mark_changes k m n) (mark_if_set k m (suc n)))
 
 -- ---- the parts of a save
-pub book-text : (f : SaveForm) (b : StoredBook) → changesText f (bookChanges (bookOf b))
-    ≡ changesText Kinds (sizeChange b.states b.stages)
-    ++ changesText Kinds (markChanges sort.Load b.starts b.states)
-    ++ changesText Kinds (markChanges sort.Row b.ends b.stages)
-    ++ changesText f (map (ruleChange sort.Load) (rulesOf b.load_rules))
-    ++ changesText f (map (ruleChange sort.Row) (rulesOf b.row_rules))
-unfolding bookChanges bookOf
+pub book-text : (f : SaveForm) (b : StoredBook) → changes_text f (book_changes (book_of b))
+    ≡ changes_text Kinds (size_change b.states b.stages)
+    ++ changes_text Kinds (mark_changes sort.Load b.starts b.states)
+    ++ changes_text Kinds (mark_changes sort.Row b.ends b.stages)
+    ++ changes_text f (map (rule_change sort.Load) (rules_of b.load_rules))
+    ++ changes_text f (map (rule_change sort.Row) (rules_of b.row_rules))
+unfolding book_changes book_of
 book-text f b =
     simp (text-append f) (rw (size_same f b.states b.stages, marks-same f sort.Load b.starts b.states, marks-same f sort.Row b.ends b.stages))
 
-pub save-text : (f : SaveForm) (s : StoredTables) → saveText f (tables_of s)
-    ≡ changeLine f Clear ++ changesText f (bookChanges (bookOf s.book)) ++ changesText f (map loadChange (loadsOf s.loads)) ++ changeLine f (Budget s.budget)
+pub save-text : (f : SaveForm) (s : StoredTables) → save_text f (tables_of s)
+    ≡ change_line f Clear ++ changes_text f (book_changes (book_of s.book)) ++ changes_text f (map load_change (loads_of s.loads)) ++ change_line f (Budget s.budget)
 unfolding saved tables_of
 save-text f s = simp (text-append f, text-one f)

@@ -8,8 +8,8 @@ use borrow.Author.Tests.{ne_eqb}
 use lib.Dec.{eqb}
 use Rattle.lists.specs.Tests.{every}
 use Rattle.lists.proofs.Bools.{and_left, and_right}
-use Rattle.lines.specs.Text.{comma, lineFeed, nought}
-use Rattle.lines.specs.Grammar.{fields, isDigit}
+use Rattle.lines.specs.Text.{comma, line_feed, nought}
+use Rattle.lines.specs.Grammar.{fields, is_digit}
 use Rattle.lines.specs.Input.{lines}
 use Rattle.lines.proofs.Decimal.{digit-range}
 
@@ -22,12 +22,12 @@ without-append none q = q
 without-append (byte e p) q = byte e (without-append p q)
 
 -- digits are neither commas nor line feeds
-pub without-digits : (x : ℕ) → x < nought → (f : List ℕ) → every isDigit f ≡ true → Without x f
+pub without-digits : (x : ℕ) → x < nought → (f : List ℕ) → every is_digit f ≡ true → Without x f
 unfolding every
 without-digits x l [] h = none
 without-digits x l (b ∷ bs) h =
-    byte (ne_eqb b x (λ e. absurd (omega (arith, (digit-range b (and_left (isDigit b) (every isDigit bs) h)).0))))
-    (without-digits x l bs (and_right (isDigit b) (every isDigit bs) h))
+    byte (ne_eqb b x (λ e. absurd (omega (arith, (digit-range b (and_left (is_digit b) (every is_digit bs) h)).0))))
+    (without-digits x l bs (and_right (is_digit b) (every is_digit bs) h))
 
 -- ---- fields
 pub fields-last : {f : List ℕ} → Without comma f → fields f ≡ f ∷ []
@@ -41,12 +41,12 @@ fields-first s none = refl
 fields-first s (byte e p) = rw (e, fields-first s p)
 
 -- ---- lines
-pub lines-last : {b : ℕ} {l : List ℕ} → Without lineFeed (b ∷ l) → lines (b ∷ l) ≡ (b ∷ l) ∷ []
+pub lines-last : {b : ℕ} {l : List ℕ} → Without line_feed (b ∷ l) → lines (b ∷ l) ≡ (b ∷ l) ∷ []
 unfolding lines
 lines-last (byte e none) = rw e
 lines-last (byte e (byte d p)) = rw (e, lines-last (byte d p))
 
-pub lines-first : {l : List ℕ} (s : List ℕ) → Without lineFeed l → lines (l ++ (lineFeed ∷ s)) ≡ l ∷ lines s
+pub lines-first : {l : List ℕ} (s : List ℕ) → Without line_feed l → lines (l ++ (line_feed ∷ s)) ≡ l ∷ lines s
 unfolding lines
 lines-first s none = refl
 lines-first s (byte e p) = rw (e, lines-first s p)

@@ -11,30 +11,30 @@ use Rattle.lists.specs.Tests.{pick, some, every, distinct}
 use Rattle.lists.specs.Each as each
 use Rattle.lists.proofs.Bools.{and_left, and_right, or_left, or_right}
 use Rattle.marks.specs.declared.LoadSet.{LoadSet}
-use Rattle.marks.specs.Sets.{hasLoad}
+use Rattle.marks.specs.Sets.{has_load}
 use Rattle.lines.specs.declared.SaveForm.{SaveForm}
 use Rattle.lines.specs.declared.Change as change
 use Rattle.lines.specs.declared.Command.{Command}
 use Rattle.lines.specs.declared.Command.TheVariants.{Change, Check, Broken}
 use Rattle.lines.specs.Text.{comma, nought, same, decimal}
-use Rattle.lines.specs.Grammar.{fields, is_number, value, isBit, isBits, loadsOf, Form, numbers, bits, table, findForm, parse, meant, told, line_of}
-use Rattle.lines.specs.Written.{parted, line, Short, written, bitsIn, writtenCheck}
+use Rattle.lines.specs.Grammar.{fields, is_number, value, is_bit, is_bits, loads_of, Form, numbers, bits, table, find_form, parse, meant, told, line_of}
+use Rattle.lines.specs.Written.{parted, line, Short, written, bits_in, written_check}
 use Rattle.lines.proofs.Codes.{same-is, same_refl}
 use Rattle.lines.proofs.Decimal.{decimal-digits, decimal-form, decimal-value}
 use Rattle.lines.proofs.Without.{Without, none, byte, without-digits, fields-first, fields-last}
-use Rattle.lines.proofs.Rows.{check, isLetter, Row, Kept, kept}
+use Rattle.lines.proofs.Rows.{check, is_letter, Row, Kept, kept}
 use Rattle.lines.proofs.Commands.{find-meant}
 
 -- ---- a word and numbers
 -- neither a comma nor a line feed
-pub letters-without : (x : ℕ) → x ≤ comma → (w : List ℕ) → every isLetter w ≡ true → Without x w
+pub letters-without : (x : ℕ) → x ≤ comma → (w : List ℕ) → every is_letter w ≡ true → Without x w
 unfolding every
 letters-without x l [] h = none
 letters-without x l (b ∷ w) h =
-    byte (ne_eqb b x (λ e. absurd (omega (arith, ltb-true comma b (and_left (ltb comma b) (ltb b 256) (and_left (isLetter b) (every isLetter w) h))))))
-    (letters-without x l w (and_right (isLetter b) (every isLetter w) h))
+    byte (ne_eqb b x (λ e. absurd (omega (arith, ltb-true comma b (and_left (ltb comma b) (ltb b 256) (and_left (is_letter b) (every is_letter w) h))))))
+    (letters-without x l w (and_right (is_letter b) (every is_letter w) h))
 
-word : (w : List ℕ) → every isLetter w ≡ true → Without comma w
+word : (w : List ℕ) → every is_letter w ≡ true → Without comma w
 word w h = letters-without comma (omega arith) w h
 
 pub line-fields : (ns : List ℕ) {w : List ℕ} → Without comma w → fields (line w ns) ≡ w ∷ map decimal ns
@@ -54,7 +54,7 @@ all-values [] = refl
 all-values (n ∷ ns) = rw (decimal-value n, all-values ns)
 
 -- the line of a word and numbers is read as what the table has for them
-pub line-meant : (w ns : List ℕ) → every isLetter w ≡ true → same check w ≡ false → Short ns → parse (line w ns) ≡ meant table w ns
+pub line-meant : (w ns : List ℕ) → every is_letter w ≡ true → same check w ≡ false → Short ns → parse (line w ns) ≡ meant table w ns
 unfolding parse
 line-meant w ns l o s = rw (line-fields ns (word w l)) (find-meant w o (map decimal ns) (all-numbers s) table kept ∙ rw (all-values ns))
 
@@ -125,31 +125,31 @@ bit-plain : (t : Bool) → eqb (nought + pick t 1 0) comma ≡ false
 bit-plain true = refl
 bit-plain false = refl
 
-bits-plain : (s : LoadSet) (n k : ℕ) → Without comma (bitsIn s k n)
-unfolding bitsIn
+bits-plain : (s : LoadSet) (n k : ℕ) → Without comma (bits_in s k n)
+unfolding bits_in
 bits-plain s zero k = none
-bits-plain s (suc n) k = byte (bit-plain (hasLoad s k)) (bits-plain s n (suc k))
+bits-plain s (suc n) k = byte (bit-plain (has_load s k)) (bits-plain s n (suc k))
 
-is-bit : (t : Bool) → isBit (nought + pick t 1 0) ≡ true
+is-bit : (t : Bool) → is_bit (nought + pick t 1 0) ≡ true
 is-bit true = refl
 is-bit false = refl
 
-bits_each : (s : LoadSet) (n k : ℕ) → every isBit (bitsIn s k n) ≡ true
-unfolding bitsIn every
+bits_each : (s : LoadSet) (n k : ℕ) → every is_bit (bits_in s k n) ≡ true
+unfolding bits_in every
 bits_each s zero k = refl
-bits_each s (suc n) k = rw (is-bit (hasLoad s k)) (bits_each s n (suc k))
+bits_each s (suc n) k = rw (is-bit (has_load s k)) (bits_each s n (suc k))
 
-bits-count : (s : LoadSet) (n k : ℕ) → length (bitsIn s k n) ≡ n
-unfolding bitsIn
+bits-count : (s : LoadSet) (n k : ℕ) → length (bits_in s k n) ≡ n
+unfolding bits_in
 bits-count s zero k = refl
 bits-count s (suc n) k = ap suc (bits-count s n (suc k))
 
-bits-form : (s : LoadSet) (n : ℕ) → 0 < n → isBits (bitsIn s 1 n) ≡ true
-unfolding isBits
-bits-form s n h = rw (bits_each s n 1, le-leb 1 (length (bitsIn s 1 n)) (omega (arith, bits-count s n 1)))
+bits-form : (s : LoadSet) (n : ℕ) → 0 < n → is_bits (bits_in s 1 n) ≡ true
+unfolding is_bits
+bits-form s n h = rw (bits_each s n 1, le-leb 1 (length (bits_in s 1 n)) (omega (arith, bits-count s n 1)))
 
 -- the line of a check is read as that check
-pub check-parses : (s : LoadSet) (n : ℕ) → 0 < n → s ≡ loadsOf (bitsIn s 1 n) → parse (writtenCheck s n) ≡ Check s n
-unfolding parse parted findForm same every
+pub check-parses : (s : LoadSet) (n : ℕ) → 0 < n → s ≡ loads_of (bits_in s 1 n) → parse (written_check s n) ≡ Check s n
+unfolding parse parted find_form same every
 check-parses s n h e =
-    rw (fields-first (bitsIn s 1 n) (word check refl), fields-last (bits-plain s n 1)) (rw (bits-form s n h, ← e, bits-count s n 1))
+    rw (fields-first (bits_in s 1 n) (word check refl), fields-last (bits-plain s n 1)) (rw (bits-form s n h, ← e, bits-count s n 1))

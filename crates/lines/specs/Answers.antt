@@ -3,12 +3,12 @@ use Rattle.std.specs.Prelude.{ℕ, zero, suc, ◌+◌, ◌≤◌, ◌<◌, ◌�
 use Rattle.std.proofs.lemmas.List.Edits.{sets}
 use Rattle.lists.specs.Each.{Each}
 use Rattle.tables.specs.declared.entry.Entry.{Entry}
-use Rattle.tables.specs.Limits.{maxStates, maxRules}
+use Rattle.tables.specs.Limits.{max_states, max_rules}
 use Rattle.lines.specs.declared.answer.Answer.{Answer}
 use Rattle.lines.specs.declared.answer.Answer.TheVariants.{Accepted, Planned, Allowed, Saved, Needed, Refused}
 use Rattle.lines.specs.declared.Change.{Change}
-use Rattle.lines.specs.Text.{bytes, comma, lineFeed, field}
-use Rattle.lines.specs.Saved.{changesText}
+use Rattle.lines.specs.Text.{bytes, comma, line_feed, field}
+use Rattle.lines.specs.Saved.{changes_text}
 
 -- "An accepted change prints `ok`."
 abbrev pub ok : List ℕ
@@ -20,23 +20,23 @@ yes = bytes "yes\n"
 
 -- "A refusal prints `no,N`."
 unfoldable pub refused : ℕ → List ℕ
-refused n = bytes "no," ++ field n lineFeed
+refused n = bytes "no," ++ field n line_feed
 
 -- "A plan prints `plan,worth,power,n`"
-unfoldable pub planLine : (worth power n : ℕ) → List ℕ
-planLine v w n = bytes "plan," ++ field v comma ++ field w comma ++ field n lineFeed
+unfoldable pub plan_line : (worth power n : ℕ) → List ℕ
+plan_line v w n = bytes "plan," ++ field v comma ++ field w comma ++ field n line_feed
 
 -- "`need,v` prints `need,b`" of request Nine of paper 02
-unfoldable pub needLine : (budget : ℕ) → List ℕ
-needLine b = bytes "need," ++ field b lineFeed
+unfoldable pub need_line : (budget : ℕ) → List ℕ
+need_line b = bytes "need," ++ field b line_feed
 
 -- "and then for each load `number,mark,state,load rule,row rule`"
-unfoldable pub entryLine : Entry → List ℕ
-entryLine e = field e.number comma ++ field e.mark comma ++ field e.state comma ++ field e.rule comma ++ field e.row lineFeed
+unfoldable pub entry_line : Entry → List ℕ
+entry_line e = field e.number comma ++ field e.mark comma ++ field e.state comma ++ field e.rule comma ++ field e.row line_feed
 
-unfoldable pub entryLines : List Entry → List ℕ
-entryLines [] = []
-entryLines (e ∷ es) = entryLine e ++ entryLines es
+unfoldable pub entry_lines : List Entry → List ℕ
+entry_lines [] = []
+entry_lines (e ∷ es) = entry_line e ++ entry_lines es
 
 -- ---- an answer: for each of its cases the paper's number and text. "A call on a line returns its number, 0 if accepted"
 abbrev pub number_of : Answer → ℕ
@@ -50,10 +50,10 @@ number_of (Refused n) = n
 -- its text: with the lines of the run beside it, or of the changes that a save writes
 abbrev pub text_of : Answer → List Entry → List Change → List ℕ
 text_of Accepted es cs = ok
-text_of (Planned v w n) es cs = planLine v w n ++ entryLines es
-text_of Allowed es cs = yes ++ entryLines es
-text_of (Saved f) es cs = changesText f cs
-text_of (Needed b) es cs = needLine b
+text_of (Planned v w n) es cs = plan_line v w n ++ entry_lines es
+text_of Allowed es cs = yes ++ entry_lines es
+text_of (Saved f) es cs = changes_text f cs
+text_of (Needed b) es cs = need_line b
 text_of (Refused n) es cs = refused n
 
 -- the answer of a change with this number
@@ -62,20 +62,20 @@ answer_of zero = Accepted
 answer_of (suc n) = Refused (suc n)
 
 -- "1,024 bytes must be free from there."
-abbrev pub freeBytes : ℕ
-freeBytes = 1024
+abbrev pub free_bytes : ℕ
+free_bytes = 1024
 
 -- "`plan`, `last` and `check` need 2,048 free bytes" of request Ten of paper 02
-abbrev pub runBytes : ℕ
-runBytes = 2048
+abbrev pub run_bytes : ℕ
+run_bytes = 2048
 
 -- the figures of a line are in the ranges of "Loads and book": 8 states, 32 rules of each sort, and loads of at most three digits
 pub record Ranged (e : Entry) : Type 0 where
   pub number : e.number < 1000
   pub mark : e.mark ≤ 1
-  pub state : e.state ≤ maxStates
-  pub rule : e.rule ≤ maxRules
-  pub row : e.row ≤ maxRules
+  pub state : e.state ≤ max_states
+  pub rule : e.rule ≤ max_rules
+  pub row : e.row ≤ max_rules
 
 abbrev pub AllRanged : List Entry → Type 0
 AllRanged es = Each Ranged es

@@ -2,8 +2,8 @@
 -- request Ten of paper 02. Assumes nothing.
 use Rattle.std.specs.Prelude.{ℕ, Bool, List, ltb, length}
 
-abbrev pub mostBytes : ℕ
-mostBytes = 144
+abbrev pub most_bytes : ℕ
+most_bytes = 144
 
-abbrev pub tooLong : List ℕ → Bool
-tooLong s = ltb mostBytes (length s)
+abbrev pub too_long : List ℕ → Bool
+too_long s = ltb most_bytes (length s)

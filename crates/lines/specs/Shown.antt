@@ -10,16 +10,16 @@ abbrev pub number_at : List ℕ → ℕ → ℕ
 number_at l i = value (get_or (fields l) i [])
 
 -- a load line without its line feed
-unfoldable pub entryIn : List ℕ → Entry
-entryIn l = record { number = number_at l 0; mark = number_at l 1; state = number_at l 2; rule = number_at l 3; row = number_at l 4 }
+unfoldable pub entry_in : List ℕ → Entry
+entry_in l = record { number = number_at l 0; mark = number_at l 1; state = number_at l 2; rule = number_at l 3; row = number_at l 4 }
 
 -- the entries of a plan or of an allowed check: a line each, after the first line
-unfoldable pub entriesIn : List ℕ → List Entry
-entriesIn text = map entryIn (drop 1 (lines text))
+unfoldable pub entries_in : List ℕ → List Entry
+entries_in text = map entry_in (drop 1 (lines text))
 
 -- "The set shown is the loads printed with mark 1."
-abbrev pub onIn : List Entry → ℕ → Bool
-onIn es k = some (λ e. eqb e.number k && eqb e.mark 1) es
+abbrev pub on_in : List Entry → ℕ → Bool
+on_in es k = some (λ e. eqb e.number k && eqb e.mark 1) es
 
 abbrev pub shown : List ℕ → ℕ → Bool
-shown text k = onIn (entriesIn text) k
+shown text k = on_in (entries_in text) k

@@ -13,8 +13,8 @@ bytes (c ▸ s) = code c ∷ bytes s
 abbrev pub comma : ℕ
 comma = 44
 
-abbrev pub lineFeed : ℕ
-lineFeed = 10
+abbrev pub line_feed : ℕ
+line_feed = 10
 
 -- the byte of the digit 0; those of 1 to 9 follow it
 abbrev pub nought : ℕ
@@ -37,14 +37,14 @@ unfoldable pub before : ℕ → List ℕ → ℕ
 before x s = first_at (λ b. eqb b x) s
 
 -- a number in decimal, at most k digits of it
-unfoldable pub decimalTo : ℕ → ℕ → List ℕ
-decimalTo zero n = []
-decimalTo (suc k) n = elim (ltb n 10) [ true ↦ (nought + n) ∷ [] | false ↦ decimalTo k (n / 10) ++ ((nought + n % 10) ∷ []) ]
+unfoldable pub decimal_to : ℕ → ℕ → List ℕ
+decimal_to zero n = []
+decimal_to (suc k) n = elim (ltb n 10) [ true ↦ (nought + n) ∷ [] | false ↦ decimal_to k (n / 10) ++ ((nought + n % 10) ∷ []) ]
 
 -- a number in decimal: it has at most as many digits as one more than it
 unfoldable pub decimal : ℕ → List ℕ
-unfolding decimalTo
-decimal n = decimalTo (suc n) n
+unfolding decimal_to
+decimal n = decimal_to (suc n) n
 
 -- a number and the byte after it
 unfoldable pub field : ℕ → ℕ → List ℕ

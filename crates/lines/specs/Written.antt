@@ -3,11 +3,11 @@ use Rattle.std.specs.Prelude.{ℕ, zero, suc, ◌+◌, ◌<◌, ◌^◌, List, [
 use Rattle.lists.specs.Tests.{pick}
 use Rattle.lists.specs.Each.{Each}
 use Rattle.marks.specs.declared.LoadSet.{LoadSet}
-use Rattle.marks.specs.Sets.{hasLoad}
+use Rattle.marks.specs.Sets.{has_load}
 use Rattle.lines.specs.declared.SaveForm.{SaveForm}
 use Rattle.lines.specs.declared.Change.{Change}
-use Rattle.lines.specs.Text.{bytes, comma, lineFeed, nought, decimal}
-use Rattle.lines.specs.Grammar.{mostDigits, line_of}
+use Rattle.lines.specs.Text.{bytes, comma, line_feed, nought, decimal}
+use Rattle.lines.specs.Grammar.{most_digits, line_of}
 
 -- a word and fields, parted by commas
 unfoldable pub parted : List ℕ → List (List ℕ) → List ℕ
@@ -20,21 +20,21 @@ line w ns = parted w (map decimal ns)
 
 -- numbers of few enough digits
 abbrev pub Short : List ℕ → Type 0
-Short ns = Each (λ n. n < 10 ^ mostDigits) ns
+Short ns = Each (λ n. n < 10 ^ most_digits) ns
 
 -- the line of a change, in a form
 abbrev pub written : SaveForm → Change → List ℕ
 written f c = line (line_of f c).word (line_of f c).values
 
 -- and with its line feed, as it stands in a text
-abbrev pub changeLine : SaveForm → Change → List ℕ
-changeLine f c = written f c ++ (lineFeed ∷ [])
+abbrev pub change_line : SaveForm → Change → List ℕ
+change_line f c = written f c ++ (line_feed ∷ [])
 
 -- one 0 or 1 for each of n loads from number k on
-unfoldable pub bitsIn : LoadSet → (k n : ℕ) → List ℕ
-bitsIn s k zero = []
-bitsIn s k (suc n) = (nought + pick (hasLoad s k) 1 0) ∷ bitsIn s (suc k) n
+unfoldable pub bits_in : LoadSet → (k n : ℕ) → List ℕ
+bits_in s k zero = []
+bits_in s k (suc n) = (nought + pick (has_load s k) 1 0) ∷ bits_in s (suc k) n
 
 -- the line of a check of n bits
-abbrev pub writtenCheck : LoadSet → (n : ℕ) → List ℕ
-writtenCheck s n = parted (bytes "check") (bitsIn s 1 n ∷ [])
+abbrev pub written_check : LoadSet → (n : ℕ) → List ℕ
+written_check s n = parted (bytes "check") (bits_in s 1 n ∷ [])

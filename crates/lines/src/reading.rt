@@ -1,7 +1,7 @@
 // Reading a line, left to right: its word, then its numbers or its bits. Reading stops at the first byte that breaks the form.
 ghost use Rattle.std.specs.Prelude.{◌≤◌, ◌≡◌, drop};
-ghost use Rattle.lines.specs.Grammar.{table, parse, lineCommand};
-ghost use Rattle.lines.specs.Reading.{word_of, mayFollow, mostNumbers, noNumbers, someNumbers, fieldsAfter, numbersIn, bits_of, rows, mostAfter, place_of, commandAt, withNumbers};
+ghost use Rattle.lines.specs.Grammar.{table, parse, line_command};
+ghost use Rattle.lines.specs.Reading.{word_of, may_follow, most_numbers, no_numbers, some_numbers, fields_after, numbers_in, bits_of, rows, most_after, place_of, command_at, with_numbers};
 
 use crate::{COMMA, Change, Command, MOST_BYTES, MOST_NUMBERS, NOUGHT, SaveForm};
 use marks::LoadSet;
@@ -76,7 +76,7 @@ fn read_word(s: &[u8]) -> Word
 
 // How many numbers the table has at most after a word; 0 where it has no such word before numbers.
 fn numbers_of(code: u64) -> usize
-    ensures { result ≡ mostAfter code (rows table) }
+    ensures { result ≡ most_after code (rows table) }
 {
     let rows = ROWS;
     let mut most: usize = 0;
@@ -110,13 +110,13 @@ fn row_of(code: u64, count: usize) -> usize
 
 // May b be the next digit of a number with this many digits so far?
 fn may_follow(digits: u32, b: u8) -> bool
-    ensures { result ≡ mayFollow digits b }
+    ensures { result ≡ may_follow digits b }
 {
     (NOUGHT <= b) & (b <= NOUGHT + 9) & (digits < MOST_DIGITS)
 }
 
 fn no_numbers() -> Numbers
-    ensures { result ≡ noNumbers }
+    ensures { result ≡ no_numbers }
 {
     Numbers {
         ok: false,
@@ -126,7 +126,7 @@ fn no_numbers() -> Numbers
 }
 
 fn some_numbers(count: usize, values: [u32; MOST_NUMBERS]) -> Numbers
-    ensures { result ≡ someNumbers count values }
+    ensures { result ≡ some_numbers count values }
 {
     Numbers {
         ok: true,
@@ -138,8 +138,8 @@ fn some_numbers(count: usize, values: [u32; MOST_NUMBERS]) -> Numbers
 // The numbers after a word that ends at a place, where there are at most so many. Each has a comma before it. "It .. stops at the first byte
 // that breaks its form": the paper names nested loops over fields and digits for this, left by a label at the first bad byte.
 fn read_numbers(s: &[u8], end: usize, most: usize) -> Numbers
-    requires { most ≤ mostNumbers }
-    ensures { result ≡ numbersIn most (fieldsAfter end s.now) }
+    requires { most ≤ most_numbers }
+    ensures { result ≡ numbers_in most (fields_after end s.now) }
 {
     let mut values = [0u32; MOST_NUMBERS];
     let mut count: usize = 0;
@@ -207,7 +207,7 @@ pub fn read_bits(s: &[u8], start: usize) -> Command
 
 // The command of the row at a place, with its numbers. Past all rows there is none.
 fn command_of(row: usize, v: [u32; MOST_NUMBERS]) -> Command
-    ensures { result ≡ commandAt table row v }
+    ensures { result ≡ command_at table row v }
 {
     let a = v[0];
     let b = v[1];
@@ -238,7 +238,7 @@ fn command_of(row: usize, v: [u32; MOST_NUMBERS]) -> Command
 
 // The command of a word with the numbers after it.
 fn with_numbers(code: u64, n: Numbers) -> Command
-    ensures { result ≡ withNumbers code n }
+    ensures { result ≡ with_numbers code n }
 {
     if !n.ok {
         return Command::Broken;
@@ -264,7 +264,7 @@ fn read_form(line: &[u8]) -> Command
 
 // What a line asks for. Its length is judged before its form.
 pub fn read(line: &[u8]) -> Command
-    ensures { result ≡ lineCommand line.now }
+    ensures { result ≡ line_command line.now }
 {
     if MOST_BYTES < line.len() {
         return Command::TooLong;

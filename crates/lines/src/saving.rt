@@ -1,14 +1,14 @@
 // A save: the lines that rebuild the tables, in the free part of the lent output. Each function writes from a place on and returns the place
 // after what it wrote; all other bytes keep their values.
 ghost use Rattle.std.specs.Prelude.{◌≡◌, map, ◌+◌, ◌≤◌, length};
-ghost use Rattle.tables.specs.Limits.{maxRules, maxLoads};
+ghost use Rattle.tables.specs.Limits.{max_rules, max_loads};
 ghost use Rattle.tables.specs.declared.rule.Sort.{Sort};
-ghost use Rattle.tables.specs.Stored.{heldRules, rulesOf, loadsOf, bookOf, tables_of, Holds};
+ghost use Rattle.tables.specs.Stored.{held_rules, rules_of, loads_of, book_of, tables_of, Holds};
 ghost use Rattle.lines.specs.declared.SaveForm.TheVariants.{Kinds};
-ghost use Rattle.lines.specs.Written.{changeLine};
+ghost use Rattle.lines.specs.Written.{change_line};
 ghost use Rattle.lines.specs.Answers.{Wrote};
-ghost use Rattle.lines.specs.Grammar.{numberCount};
-ghost use Rattle.lines.specs.Saved.{markChange, markIfSet, markChanges, ruleChange, loadChange, sizeChange, bookChanges, changesText, saveText};
+ghost use Rattle.lines.specs.Grammar.{number_count};
+ghost use Rattle.lines.specs.Saved.{mark_change, mark_if_set, mark_changes, rule_change, load_change, size_change, book_changes, changes_text, save_text};
 
 use crate::SaveForm;
 use crate::writing::write_line;
@@ -19,8 +19,8 @@ use tables::tables::{StoredBook, StoredTables};
 
 // The line that marks a state, or a stage.
 fn write_mark(out: &mut [u8], at: usize, sort: Sort, number: u32) -> usize
-    requires { at + length (changeLine Kinds (markChange sort number)) ≤ length out.old }
-    ensures { Wrote out.old out.new at result (changeLine Kinds (markChange sort number)) }
+    requires { at + length (change_line Kinds (mark_change sort number)) ≤ length out.old }
+    ensures { Wrote out.old out.new at result (change_line Kinds (mark_change sort number)) }
 {
     match sort {
         Sort::Load => write_line(out, at, b"start", [number, 0, 0, 0], 1),
@@ -30,7 +30,7 @@ fn write_mark(out: &mut [u8], at: usize, sort: Sort, number: u32) -> usize
 
 // How many numbers the line of a load rule and that of a load have.
 fn number_count(form: SaveForm) -> usize
-    ensures { result ≡ numberCount form }
+    ensures { result ≡ number_count form }
 {
     match form {
         SaveForm::Kinds => 4,
@@ -40,8 +40,8 @@ fn number_count(form: SaveForm) -> usize
 
 // The line that adds a rule of this sort.
 fn write_rule(out: &mut [u8], at: usize, form: SaveForm, sort: Sort, t: Transition) -> usize
-    requires { at + length (changeLine form (ruleChange sort t)) ≤ length out.old }
-    ensures { Wrote out.old out.new at result (changeLine form (ruleChange sort t)) }
+    requires { at + length (change_line form (rule_change sort t)) ≤ length out.old }
+    ensures { Wrote out.old out.new at result (change_line form (rule_change sort t)) }
 {
     let v = [t.from as u32, t.label as u32, t.to as u32, t.kind as u32];
     match sort {
@@ -52,8 +52,8 @@ fn write_rule(out: &mut [u8], at: usize, form: SaveForm, sort: Sort, t: Transiti
 
 // The line that adds a load.
 fn write_load(out: &mut [u8], at: usize, form: SaveForm, l: Load) -> usize
-    requires { at + length (changeLine form (loadChange l)) ≤ length out.old }
-    ensures { Wrote out.old out.new at result (changeLine form (loadChange l)) }
+    requires { at + length (change_line form (load_change l)) ≤ length out.old }
+    ensures { Wrote out.old out.new at result (change_line form (load_change l)) }
 {
     let v = [
         l.parent as u32,
@@ -66,8 +66,8 @@ fn write_load(out: &mut [u8], at: usize, form: SaveForm, l: Load) -> usize
 
 // The line of a book, if there are states.
 fn write_size(out: &mut [u8], at: usize, states: u8, stages: u8) -> usize
-    requires { at + length (changesText Kinds (sizeChange states stages)) ≤ length out.old }
-    ensures { Wrote out.old out.new at result (changesText Kinds (sizeChange states stages)) }
+    requires { at + length (changes_text Kinds (size_change states stages)) ≤ length out.old }
+    ensures { Wrote out.old out.new at result (changes_text Kinds (size_change states stages)) }
 {
     if states == 0 {
         return at;
@@ -78,8 +78,8 @@ fn write_size(out: &mut [u8], at: usize, states: u8, stages: u8) -> usize
 
 // The line of a mark, if it is set.
 fn write_if_set(out: &mut [u8], at: usize, sort: Sort, marks: Marks, number: u8) -> usize
-    requires { at + length (changesText Kinds (markIfSet sort marks number)) ≤ length out.old }
-    ensures { Wrote out.old out.new at result (changesText Kinds (markIfSet sort marks number)) }
+    requires { at + length (changes_text Kinds (mark_if_set sort marks number)) ≤ length out.old }
+    ensures { Wrote out.old out.new at result (changes_text Kinds (mark_if_set sort marks number)) }
 {
     if !marks.has(number as usize) {
         return at;
@@ -89,8 +89,8 @@ fn write_if_set(out: &mut [u8], at: usize, sort: Sort, marks: Marks, number: u8)
 
 // The lines of the start states, or of the end stages, ascending.
 fn write_marks(out: &mut [u8], at: usize, sort: Sort, marks: Marks, size: u8) -> usize
-    requires { at + length (changesText Kinds (markChanges sort marks size)) ≤ length out.old }
-    ensures { Wrote out.old out.new at result (changesText Kinds (markChanges sort marks size)) }
+    requires { at + length (changes_text Kinds (mark_changes sort marks size)) ≤ length out.old }
+    ensures { Wrote out.old out.new at result (changes_text Kinds (mark_changes sort marks size)) }
 {
     let mut next = at;
     for i in 0..size {
@@ -107,8 +107,8 @@ fn write_rules(
     sort: Sort,
     rules: TransitionList,
 ) -> usize
-    requires { (rules.count ≤ maxRules) × (at + length (changesText form (map (ruleChange sort) (rulesOf rules))) ≤ length out.old) }
-    ensures { Wrote out.old out.new at result (changesText form (map (ruleChange sort) (rulesOf rules))) }
+    requires { (rules.count ≤ max_rules) × (at + length (changes_text form (map (rule_change sort) (rules_of rules))) ≤ length out.old) }
+    ensures { Wrote out.old out.new at result (changes_text form (map (rule_change sort) (rules_of rules))) }
 {
     let mut next = at;
     for i in 0..rules.count {
@@ -120,8 +120,8 @@ fn write_rules(
 
 // The lines of the loads, in order.
 fn write_loads(out: &mut [u8], at: usize, form: SaveForm, loads: LoadList) -> usize
-    requires { (loads.count ≤ maxLoads) × (at + length (changesText form (map loadChange (loadsOf loads))) ≤ length out.old) }
-    ensures { Wrote out.old out.new at result (changesText form (map loadChange (loadsOf loads))) }
+    requires { (loads.count ≤ max_loads) × (at + length (changes_text form (map load_change (loads_of loads))) ≤ length out.old) }
+    ensures { Wrote out.old out.new at result (changes_text form (map load_change (loads_of loads))) }
 {
     let mut next = at;
     for i in 0..loads.count {
@@ -133,8 +133,8 @@ fn write_loads(out: &mut [u8], at: usize, form: SaveForm, loads: LoadList) -> us
 
 // The lines of a book: its size, its marks and its rules.
 fn write_book(out: &mut [u8], at: usize, form: SaveForm, book: StoredBook) -> usize
-    requires { ((k : Sort) → (heldRules book k).count ≤ maxRules) × (at + length (changesText form (bookChanges (bookOf book))) ≤ length out.old) }
-    ensures { Wrote out.old out.new at result (changesText form (bookChanges (bookOf book))) }
+    requires { ((k : Sort) → (held_rules book k).count ≤ max_rules) × (at + length (changes_text form (book_changes (book_of book))) ≤ length out.old) }
+    ensures { Wrote out.old out.new at result (changes_text form (book_changes (book_of book))) }
 {
     let a = write_size(&mut *out, at, book.states, book.stages);
     let b = write_marks(&mut *out, a, Sort::Load, book.starts, book.states);
@@ -145,8 +145,8 @@ fn write_book(out: &mut [u8], at: usize, form: SaveForm, book: StoredBook) -> us
 
 // The save of tables in a form: from the start of the free part on, the lines that rebuild them.
 pub fn write_save(out: &mut [u8], form: SaveForm, tables: StoredTables) -> usize
-    requires { Holds maxLoads tables × (length (saveText form (tables_of tables)) ≤ length out.old) }
-    ensures { Wrote out.old out.new 0 result (saveText form (tables_of tables)) }
+    requires { Holds max_loads tables × (length (save_text form (tables_of tables)) ≤ length out.old) }
+    ensures { Wrote out.old out.new 0 result (save_text form (tables_of tables)) }
 {
     let a = write_line(&mut *out, 0, b"clear", [0, 0, 0, 0], 0);
     let b = write_book(&mut *out, a, form, tables.book);

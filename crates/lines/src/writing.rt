@@ -1,10 +1,10 @@
 // Writing answers into the free part of the lent output, which the caller lends on; a byte and a text serve other crates too. Each function
 // writes from a place on and returns the place after what it wrote; all other bytes keep their values.
 ghost use Rattle.std.specs.Prelude.{[], ◌∷◌, ◌++◌, ◌+◌, ◌≤◌, length, take};
-ghost use Rattle.lines.specs.Text.{comma, lineFeed, decimal, field};
-ghost use Rattle.lines.specs.Reading.{mostNumbers};
+ghost use Rattle.lines.specs.Text.{comma, line_feed, decimal, field};
+ghost use Rattle.lines.specs.Reading.{most_numbers};
 ghost use Rattle.lines.specs.Written.{line};
-ghost use Rattle.lines.specs.Answers.{Wrote, ok, yes, refused, planLine, needLine, entryLine};
+ghost use Rattle.lines.specs.Answers.{Wrote, ok, yes, refused, plan_line, need_line, entry_line};
 
 use crate::{COMMA, LINE_FEED, MOST_NUMBERS, NOUGHT};
 use tables::entry::Entry;
@@ -79,8 +79,8 @@ pub fn write_no(out: &mut [u8], at: usize, number: u32) -> usize
 
 // The first line of a plan: worth, power and the number of loads on.
 pub fn write_plan(out: &mut [u8], at: usize, worth: u32, power: u32, n: u32) -> usize
-    requires { at + length (planLine worth power n) ≤ length out.old }
-    ensures { Wrote out.old out.new at result (planLine worth power n) }
+    requires { at + length (plan_line worth power n) ≤ length out.old }
+    ensures { Wrote out.old out.new at result (plan_line worth power n) }
 {
     let a = put_text(&mut *out, at, b"plan,");
     let b = put_field(&mut *out, a, worth, COMMA);
@@ -90,8 +90,8 @@ pub fn write_plan(out: &mut [u8], at: usize, worth: u32, power: u32, n: u32) -> 
 
 // The answer to a need: the least budget.
 pub fn write_need(out: &mut [u8], at: usize, budget: u32) -> usize
-    requires { at + length (needLine budget) ≤ length out.old }
-    ensures { Wrote out.old out.new at result (needLine budget) }
+    requires { at + length (need_line budget) ≤ length out.old }
+    ensures { Wrote out.old out.new at result (need_line budget) }
 {
     let next = put_text(&mut *out, at, b"need,");
     put_field(&mut *out, next, budget, LINE_FEED)
@@ -99,8 +99,8 @@ pub fn write_need(out: &mut [u8], at: usize, budget: u32) -> usize
 
 // The line of one load.
 pub fn write_entry(out: &mut [u8], at: usize, e: Entry) -> usize
-    requires { at + length (entryLine e) ≤ length out.old }
-    ensures { Wrote out.old out.new at result (entryLine e) }
+    requires { at + length (entry_line e) ≤ length out.old }
+    ensures { Wrote out.old out.new at result (entry_line e) }
 {
     let a = put_field(&mut *out, at, e.number as u32, COMMA);
     let b = put_field(&mut *out, a, e.mark as u32, COMMA);
@@ -120,7 +120,7 @@ fn put_number(out: &mut [u8], at: usize, n: u32) -> usize
 
 // The first of some numbers, with a comma before each.
 fn put_numbers(out: &mut [u8], at: usize, v: [u32; MOST_NUMBERS], count: usize) -> usize
-    requires { (count ≤ mostNumbers) × (at + length (line [] (take count v)) ≤ length out.old) }
+    requires { (count ≤ most_numbers) × (at + length (line [] (take count v)) ≤ length out.old) }
     ensures { Wrote out.old out.new at result (line [] (take count v)) }
 {
     let mut next = at;
@@ -138,8 +138,8 @@ pub(crate) fn write_line(
     v: [u32; MOST_NUMBERS],
     count: usize,
 ) -> usize
-    requires { (count ≤ mostNumbers) × (at + length (line word.now (take count v) ++ (lineFeed ∷ [])) ≤ length out.old) }
-    ensures { Wrote out.old out.new at result (line word.now (take count v) ++ (lineFeed ∷ [])) }
+    requires { (count ≤ most_numbers) × (at + length (line word.now (take count v) ++ (line_feed ∷ [])) ≤ length out.old) }
+    ensures { Wrote out.old out.new at result (line word.now (take count v) ++ (line_feed ∷ [])) }
 {
     let a = put_text(&mut *out, at, word);
     let b = put_numbers(&mut *out, a, v, count);

@@ -82,19 +82,19 @@ module _ {A : Type 0} where
       ap (λ (l : List A). y ∷ l) (laid-set d n xs i x (le_of_suc-le-suc h) (le_of_suc-le-suc l))
 
   -- reading one reads its place
-  pub getD-laid : (d : A) (n : ℕ) (xs : List A) (i : ℕ) → i < length xs → length xs ≤ n → get_or (laid d n xs) i d ≡ get_or xs i d
+  pub get_or-laid : (d : A) (n : ℕ) (xs : List A) (i : ℕ) → i < length xs → length xs ≤ n → get_or (laid d n xs) i d ≡ get_or xs i d
   unfolding laid
-  getD-laid d n [] i h l = absurd (not-suc-le-zero h)
-  getD-laid d zero (y ∷ xs) i h l = absurd (not-suc-le-zero l)
-  getD-laid d (suc n) (y ∷ xs) zero h l = refl
-  getD-laid d (suc n) (y ∷ xs) (suc i) h l = getD-laid d n xs i (le_of_suc-le-suc h) (le_of_suc-le-suc l)
+  get_or-laid d n [] i h l = absurd (not-suc-le-zero h)
+  get_or-laid d zero (y ∷ xs) i h l = absurd (not-suc-le-zero l)
+  get_or-laid d (suc n) (y ∷ xs) zero h l = refl
+  get_or-laid d (suc n) (y ∷ xs) (suc i) h l = get_or-laid d n xs i (le_of_suc-le-suc h) (le_of_suc-le-suc l)
 
   -- d at the end changes no reading
-  pub getD-end : (d : A) (xs : List A) (i : ℕ) → get_or (xs ++ (d ∷ [])) i d ≡ get_or xs i d
-  getD-end d [] zero = refl
-  getD-end d [] (suc i) = refl
-  getD-end d (x ∷ xs) zero = refl
-  getD-end d (x ∷ xs) (suc i) = getD-end d xs i
+  pub get_or-end : (d : A) (xs : List A) (i : ℕ) → get_or (xs ++ (d ∷ [])) i d ≡ get_or xs i d
+  get_or-end d [] zero = refl
+  get_or-end d [] (suc i) = refl
+  get_or-end d (x ∷ xs) zero = refl
+  get_or-end d (x ∷ xs) (suc i) = get_or-end d xs i
 
   -- one taken out: those behind it come one place down, and the last place holds d. Each is taken to another, d to itself, and those before it are kept
   laid_end : (d : A) (n : ℕ) (xs : List A) → length xs ≤ n → laid d n xs ++ (d ∷ []) ≡ laid d (suc n) xs

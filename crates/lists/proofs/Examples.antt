@@ -6,7 +6,7 @@ use mathlib.Core.List.{[], ◌∷◌}
 use lib.Dec.{eqb}
 use Rattle.lists.specs.Tests.{some, every, distinct}
 use Rattle.lists.specs.Arrays.{laid}
-use Rattle.lists.specs.Places.{restFree, limited}
+use Rattle.lists.specs.Places.{rest_free, limited}
 use Rattle.lists.specs.Argmax.{argmax}
 
 -- of equals the first counts
@@ -24,7 +24,7 @@ unfolding laid
 laid_out = refl
 
 -- an element at an unused place is seen, also at the last
-rubbish-seen : restFree (λ x. eqb x 0) 4 2 (7 ∷ 8 ∷ 0 ∷ 9 ∷ []) ≡ false
+rubbish-seen : rest_free (λ x. eqb x 0) 4 2 (7 ∷ 8 ∷ 0 ∷ 9 ∷ []) ≡ false
 unfolding every
 rubbish-seen = refl
 

@@ -10,9 +10,9 @@ use borrow.Author.Tests.{leb-true, le-leb, lt-ltb, le-ltb, not-true}
 use lib.Dec.{leb}
 use lib.ListN.{length, get_or, take, drop, length-take}
 use lib.Seq.{get_or-take}
-use Rattle.lists.specs.Tests.{some, every, everyFrom, distinct, all_below}
+use Rattle.lists.specs.Tests.{some, every, every_from, distinct, all_below}
 use Rattle.lists.specs.Arrays.{laid, rest}
-use Rattle.lists.specs.Places.{place, places, restFree, alone, limited}
+use Rattle.lists.specs.Places.{place, places, rest_free, alone, limited}
 use Rattle.lists.proofs.Bools.{and_left, and_right, and-true, or-false, same_test, below_or}
 use Rattle.lists.proofs.Tests.{every-at, every_drop, drop-every, every-snoc, distinct-at, distinct_from, distinct_snoc, from_each, from_at, below_at, below_all}
 use Rattle.lists.proofs.Arrays.{laid-take, length-snoc}
@@ -71,29 +71,29 @@ module _ (k : ℕ) (used free : ℕ → Bool) where
 
 module _ {A : Type 0} (d : A) (z : A → Bool) (n k : ℕ) (xs : List A) (e : length xs ≡ n) where
   -- the test of all places is that of the places in use, and of the others
-  pub places-are : (used : ℕ → Bool) → places n k used (λ i. z (get_or xs i d)) ≡ restFree z n k xs && all_below used k
+  pub places-are : (used : ℕ → Bool) → places n k used (λ i. z (get_or xs i d)) ≡ rest_free z n k xs && all_below used k
   places-are used = same_test _ _ forth back
     where
       p : ℕ → Bool
       p = place k used (λ i. z (get_or xs i d))
 
-      forth : all_below p n && leb k n ≡ true → restFree z n k xs && all_below used k ≡ true
+      forth : all_below p n && leb k n ≡ true → rest_free z n k xs && all_below used k ≡ true
       forth h =
           let all = and_left (all_below p n) (leb k n) h in
           let few = and_right (all_below p n) (leb k n) h in
           let free = every_drop d z xs k (λ i a b. place-free k used (λ i. z (get_or xs i d)) i a (below_at p n i all (omega arith))) in
-          let inUse = below_all used k (λ i b. place-used k used (λ i. z (get_or xs i d)) i b (below_at p n i all (omega (arith, leb-true k n few)))) in
-          rw (few, free) inUse
+          let in_use = below_all used k (λ i b. place-used k used (λ i. z (get_or xs i d)) i b (below_at p n i all (omega (arith, leb-true k n few)))) in
+          rw (few, free) in_use
 
-      back : restFree z n k xs && all_below used k ≡ true → all_below p n && leb k n ≡ true
+      back : rest_free z n k xs && all_below used k ≡ true → all_below p n && leb k n ≡ true
       back h =
-          let a = and_left (restFree z n k xs) (all_below used k) h in
-          let inUse = and_right (restFree z n k xs) (all_below used k) h in
+          let a = and_left (rest_free z n k xs) (all_below used k) h in
+          let in_use = and_right (rest_free z n k xs) (all_below used k) h in
           let few = and_left (leb k n) (every z (drop k xs)) a in
           let free = drop-every d z xs k (and_right (leb k n) (every z (drop k xs)) a) in
-          rw (below_all p n (λ i b. place-both k used (λ i. z (get_or xs i d)) (λ j l. below_at used k j inUse l) i (λ l. free i l (omega arith)))) few
+          rw (below_all p n (λ i b. place-both k used (λ i. z (get_or xs i d)) (λ j l. below_at used k j in_use l) i (λ l. free i l (omega arith)))) few
 
-  pub free-few : restFree z n k xs ≡ true → k ≤ n
+  pub free-few : rest_free z n k xs ≡ true → k ≤ n
   free-few h = leb-true k n (and_left (leb k n) (every z (drop k xs)) h)
 
   pub taken-length : k ≤ n → length (take k xs) ≡ k
@@ -104,11 +104,11 @@ module _ {A : Type 0} (d : A) (z : A → Bool) (n k : ℕ) (xs : List A) (e : le
 
   -- two tests of the list in use, one place by place, that agree where no more are in use than there are
   places-list : (used : ℕ → Bool) (test : Bool) → (k ≤ n → all_below used k ≡ true → test ≡ true) → (k ≤ n → test ≡ true → all_below used k ≡ true)
-      → places n k used (λ i. z (get_or xs i d)) ≡ restFree z n k xs && test
+      → places n k used (λ i. z (get_or xs i d)) ≡ rest_free z n k xs && test
   places-list used test f g = places-are used ∙ same_test _ _ forth back
     where
       free : Bool
-      free = restFree z n k xs
+      free = rest_free z n k xs
 
       forth : free && all_below used k ≡ true → free && test ≡ true
       forth h =
@@ -122,7 +122,7 @@ module _ {A : Type 0} (d : A) (z : A → Bool) (n k : ℕ) (xs : List A) (e : le
 
   -- each in use is fit and not there again further on: the list is limited
   pub places-limited : (fit : A → Bool) (same : A → A → Bool)
-      → places n k (alone d fit same xs k) (λ i. z (get_or xs i d)) ≡ restFree z n k xs && limited fit same n (take k xs)
+      → places n k (alone d fit same xs k) (λ i. z (get_or xs i d)) ≡ rest_free z n k xs && limited fit same n (take k xs)
   unfolding rest
   places-limited fit same = places-list (alone d fit same xs k) (limited fit same n (take k xs)) forth back
     where
@@ -146,10 +146,10 @@ module _ {A : Type 0} (d : A) (z : A → Bool) (n k : ℕ) (xs : List A) (e : le
 
   -- each in use passes the test of its number: so does the list
   pub places-numbered : (fit : ℕ → A → Bool)
-      → places n k (λ i. fit (suc i) (get_or xs i d)) (λ i. z (get_or xs i d)) ≡ restFree z n k xs && (leb (length (take k xs)) n && everyFrom fit 1 (take k xs))
-  places-numbered fit = places-list (λ i. fit (suc i) (get_or xs i d)) (leb (length (take k xs)) n && everyFrom fit 1 (take k xs)) forth back
+      → places n k (λ i. fit (suc i) (get_or xs i d)) (λ i. z (get_or xs i d)) ≡ rest_free z n k xs && (leb (length (take k xs)) n && every_from fit 1 (take k xs))
+  places-numbered fit = places-list (λ i. fit (suc i) (get_or xs i d)) (leb (length (take k xs)) n && every_from fit 1 (take k xs)) forth back
     where
-      forth : k ≤ n → all_below (λ i. fit (suc i) (get_or xs i d)) k ≡ true → leb (length (take k xs)) n && everyFrom fit 1 (take k xs) ≡ true
+      forth : k ≤ n → all_below (λ i. fit (suc i) (get_or xs i d)) k ≡ true → leb (length (take k xs)) n && every_from fit 1 (take k xs) ≡ true
       forth few h =
           let l = taken-length few in
           rw (le-leb (length (take k xs)) n (omega arith))
@@ -157,10 +157,10 @@ module _ {A : Type 0} (d : A) (z : A → Bool) (n k : ℕ) (xs : List A) (e : le
           let s : m ≡ suc i = omega arith in
           rw (s, taken_at few i (omega arith)) (below_at (λ i. fit (suc i) (get_or xs i d)) k i h (omega arith))))
 
-      back : k ≤ n → leb (length (take k xs)) n && everyFrom fit 1 (take k xs) ≡ true → all_below (λ i. fit (suc i) (get_or xs i d)) k ≡ true
+      back : k ≤ n → leb (length (take k xs)) n && every_from fit 1 (take k xs) ≡ true → all_below (λ i. fit (suc i) (get_or xs i d)) k ≡ true
       back few h =
           let l = taken-length few in
-          let q = and_right (leb (length (take k xs)) n) (everyFrom fit 1 (take k xs)) h in
+          let q = and_right (leb (length (take k xs)) n) (every_from fit 1 (take k xs)) h in
           below_all (λ i. fit (suc i) (get_or xs i d)) k (λ i b. rw (← (taken_at few i b)) (from_at d fit 1 (take k xs) q i (omega arith) (suc i) (omega arith)))
 
 -- ---- an array is a list laid out exactly if its unused places pass
@@ -176,9 +176,9 @@ module _ {A : Type 0} (d : A) (z : A → Bool) (pass : z d ≡ true) (only : (a 
   rest-blank zero (x ∷ xs) = refl
   rest-blank (suc n) (x ∷ xs) = rest-blank n xs
 
-  pub laid-free : (n : ℕ) (xs : List A) → length xs ≤ n → restFree z n (length xs) (laid d n xs) ≡ true
+  pub laid-free : (n : ℕ) (xs : List A) → length xs ≤ n → rest_free z n (length xs) (laid d n xs) ≡ true
   laid-free n xs h = rw (le-leb (length xs) n h) (rest-blank n xs)
 
-  pub free-laid : (n k : ℕ) (xs : List A) → length xs ≡ n → restFree z n k xs ≡ true → xs ≡ laid d n (take k xs)
+  pub free-laid : (n k : ℕ) (xs : List A) → length xs ≡ n → rest_free z n k xs ≡ true → xs ≡ laid d n (take k xs)
   free-laid n k xs e h =
       laid-take d n xs k e (λ i a b. only (get_or xs i d) (drop-every d z xs k (and_right (leb k n) (every z (drop k xs)) h) i a (omega arith)))

@@ -10,7 +10,7 @@ use native.Mathlib.Omega.{arith}
 use borrow.Author.Tests.{not-true}
 use lib.ListN.{length, take, drop, get_or, set, length-drop}
 use lib.Seq.{get_or-drop}
-use Rattle.lists.specs.Tests.{pick, some, every, everyFrom, distinct, firstFrom, all_below}
+use Rattle.lists.specs.Tests.{pick, some, every, every_from, distinct, first_from, all_below}
 use Rattle.lists.specs.Arrays.{rest}
 use Rattle.lists.proofs.Bools.{and-true, and_left, and_right, and-false, or_left, or_right}
 use Rattle.lists.proofs.Arrays.{rest_end, rest-past, rest-cons}
@@ -99,57 +99,57 @@ module _ {A : Type 0} where
   distinct_from d r (x ∷ xs) h = rw (h 0 (omega arith)) (distinct_from d r xs (λ i b. h (suc i) (omega arith)))
 
   -- ---- by number
-  pub from_each : (d : A) (p : ℕ → A → Bool) (j : ℕ) (xs : List A) → ((i : ℕ) → i < length xs → (m : ℕ) → m ≡ i + j → p m (get_or xs i d) ≡ true) → everyFrom p j xs ≡ true
-  unfolding everyFrom
+  pub from_each : (d : A) (p : ℕ → A → Bool) (j : ℕ) (xs : List A) → ((i : ℕ) → i < length xs → (m : ℕ) → m ≡ i + j → p m (get_or xs i d) ≡ true) → every_from p j xs ≡ true
+  unfolding every_from
   from_each d p j [] h = refl
   from_each d p j (x ∷ xs) h = rw (h 0 (omega arith) j (omega arith)) (from_each d p (suc j) xs (λ i b m e. h (suc i) (omega arith) m (omega arith)))
 
-  pub from_at : (d : A) (p : ℕ → A → Bool) (j : ℕ) (xs : List A) → everyFrom p j xs ≡ true → (i : ℕ) → i < length xs → (m : ℕ) → m ≡ i + j → p m (get_or xs i d) ≡ true
-  unfolding everyFrom
+  pub from_at : (d : A) (p : ℕ → A → Bool) (j : ℕ) (xs : List A) → every_from p j xs ≡ true → (i : ℕ) → i < length xs → (m : ℕ) → m ≡ i + j → p m (get_or xs i d) ≡ true
+  unfolding every_from
   from_at d p j [] h i b m e = absurd (not-suc-le-zero b)
-  from_at d p j (x ∷ xs) h zero b m e = let n : m ≡ j = omega arith in rw n (and_left (p j x) (everyFrom p (suc j) xs) h)
-  from_at d p j (x ∷ xs) h (suc i) b m e = from_at d p (suc j) xs (and_right (p j x) (everyFrom p (suc j) xs) h) i (le_of_suc-le-suc b) m (omega arith)
+  from_at d p j (x ∷ xs) h zero b m e = let n : m ≡ j = omega arith in rw n (and_left (p j x) (every_from p (suc j) xs) h)
+  from_at d p j (x ∷ xs) h (suc i) b m e = from_at d p (suc j) xs (and_right (p j x) (every_from p (suc j) xs) h) i (le_of_suc-le-suc b) m (omega arith)
 
   at-number : (p : ℕ → A → Bool) (j k : ℕ) (x : A) → j ≡ k → p j x ≡ true → p k x ≡ true
   at-number p j k x e h = rw (← e) h
 
-  pub from-snoc : (p : ℕ → A → Bool) (k : ℕ) (xs : List A) (x : A) → everyFrom p k xs ≡ true → p (length xs + k) x ≡ true → everyFrom p k (xs ++ (x ∷ [])) ≡ true
-  unfolding everyFrom
+  pub from-snoc : (p : ℕ → A → Bool) (k : ℕ) (xs : List A) (x : A) → every_from p k xs ≡ true → p (length xs + k) x ≡ true → every_from p k (xs ++ (x ∷ [])) ≡ true
+  unfolding every_from
   from-snoc p k [] x h e = rw (at-number p (0 + k) k x (omega arith) e)
   from-snoc p k (y ∷ xs) x h e =
-      rw (and_left (p k y) (everyFrom p (suc k) xs) h)
-      (from-snoc p (suc k) xs x (and_right (p k y) (everyFrom p (suc k) xs) h) (at-number p (length (y ∷ xs) + k) (length xs + suc k) x (omega arith) e))
+      rw (and_left (p k y) (every_from p (suc k) xs) h)
+      (from-snoc p (suc k) xs x (and_right (p k y) (every_from p (suc k) xs) h) (at-number p (length (y ∷ xs) + k) (length xs + suc k) x (omega arith) e))
 
   -- one element changed so that it still passes
   pub from-set : (d : A) (p : ℕ → A → Bool) (f : A → A) → ((k : ℕ) (x : A) → p k x ≡ true → p k (f x) ≡ true)
-      → (k i : ℕ) (xs : List A) → everyFrom p k xs ≡ true → everyFrom p k (set xs i (f (get_or xs i d))) ≡ true
-  unfolding everyFrom
+      → (k i : ℕ) (xs : List A) → every_from p k xs ≡ true → every_from p k (set xs i (f (get_or xs i d))) ≡ true
+  unfolding every_from
   from-set d p f keep k i [] h = h
   from-set d p f keep k zero (x ∷ xs) h =
-      rw (keep k x (and_left (p k x) (everyFrom p (suc k) xs) h)) (and_right (p k x) (everyFrom p (suc k) xs) h)
+      rw (keep k x (and_left (p k x) (every_from p (suc k) xs) h)) (and_right (p k x) (every_from p (suc k) xs) h)
   from-set d p f keep k (suc i) (x ∷ xs) h =
-      rw (and_left (p k x) (everyFrom p (suc k) xs) h) (from-set d p f keep (suc k) i xs (and_right (p k x) (everyFrom p (suc k) xs) h))
+      rw (and_left (p k x) (every_from p (suc k) xs) h) (from-set d p f keep (suc k) i xs (and_right (p k x) (every_from p (suc k) xs) h))
 
   -- the element with number m taken out, those behind it falling by one, and each taken to another: those before it pass as they did, and those
   -- behind it that are not c pass with the number before theirs
   module _ (p : ℕ → A → Bool) (c : A → Bool) (f : A → A) (m : ℕ) (higher : (k : ℕ) (x : A) → m ≤ k → c x ≡ false → p (suc k) x ≡ true → p k (f x) ≡ true) where
-    from-fallen : (k : ℕ) (xs : List A) → m ≤ k → everyFrom p (suc k) xs ≡ true → some c xs ≡ false → everyFrom p k (map f xs) ≡ true
-    unfolding everyFrom some
+    from-fallen : (k : ℕ) (xs : List A) → m ≤ k → every_from p (suc k) xs ≡ true → some c xs ≡ false → every_from p k (map f xs) ≡ true
+    unfolding every_from some
     from-fallen k [] b h e = refl
     from-fallen k (x ∷ xs) b h e =
-        rw (higher k x b (or_left (c x) (some c xs) e) (and_left (p (suc k) x) (everyFrom p (suc (suc k)) xs) h))
-        (from-fallen (suc k) xs (omega arith) (and_right (p (suc k) x) (everyFrom p (suc (suc k)) xs) h) (or_right (c x) (some c xs) e))
+        rw (higher k x b (or_left (c x) (some c xs) e) (and_left (p (suc k) x) (every_from p (suc (suc k)) xs) h))
+        (from-fallen (suc k) xs (omega arith) (and_right (p (suc k) x) (every_from p (suc (suc k)) xs) h) (or_right (c x) (some c xs) e))
 
     pub from-without : ((k : ℕ) (x : A) → k < m → p k x ≡ true → p k (f x) ≡ true)
-        → (k j : ℕ) (xs : List A) → j + k ≡ m → everyFrom p k xs ≡ true → some c xs ≡ false → everyFrom p k (map f (take j xs ++ drop (suc j) xs)) ≡ true
-    unfolding everyFrom some
+        → (k j : ℕ) (xs : List A) → j + k ≡ m → every_from p k xs ≡ true → some c xs ≡ false → every_from p k (map f (take j xs ++ drop (suc j) xs)) ≡ true
+    unfolding every_from some
     from-without lower k zero [] at h e = refl
     from-without lower k (suc j) [] at h e = refl
     from-without lower k zero (x ∷ xs) at h e =
-        from-fallen k xs (omega arith) (and_right (p k x) (everyFrom p (suc k) xs) h) (or_right (c x) (some c xs) e)
+        from-fallen k xs (omega arith) (and_right (p k x) (every_from p (suc k) xs) h) (or_right (c x) (some c xs) e)
     from-without lower k (suc j) (x ∷ xs) at h e =
-        rw (lower k x (omega arith) (and_left (p k x) (everyFrom p (suc k) xs) h))
-        (from-without lower (suc k) j xs (omega arith) (and_right (p k x) (everyFrom p (suc k) xs) h) (or_right (c x) (some c xs) e))
+        rw (lower k x (omega arith) (and_left (p k x) (every_from p (suc k) xs) h))
+        (from-without lower (suc k) j xs (omega arith) (and_right (p k x) (every_from p (suc k) xs) h) (or_right (c x) (some c xs) e))
 
   -- ---- an element with others before and behind it
   pub every-mid : (p : A → Bool) (xs : List A) (y : A) (ys : List A) → every p (xs ++ (y ∷ ys)) ≡ true → p y ≡ true
@@ -162,12 +162,12 @@ module _ {A : Type 0} where
   some-mid p [] y ys h = or_left (p y) (some p ys) h
   some-mid p (x ∷ xs) y ys h = some-mid p xs y ys (or_right (p x) (some p (xs ++ (y ∷ ys))) h)
 
-  pub from-mid : (p : ℕ → A → Bool) (k : ℕ) (xs : List A) (y : A) (ys : List A) → everyFrom p k (xs ++ (y ∷ ys)) ≡ true → p (length xs + k) y ≡ true
-  unfolding everyFrom
-  from-mid p k [] y ys h = let e : 0 + k ≡ k = omega arith in rw e (and_left (p k y) (everyFrom p (suc k) ys) h)
+  pub from-mid : (p : ℕ → A → Bool) (k : ℕ) (xs : List A) (y : A) (ys : List A) → every_from p k (xs ++ (y ∷ ys)) ≡ true → p (length xs + k) y ≡ true
+  unfolding every_from
+  from-mid p k [] y ys h = let e : 0 + k ≡ k = omega arith in rw e (and_left (p k y) (every_from p (suc k) ys) h)
   from-mid p k (x ∷ xs) y ys h =
       let e : suc (length xs) + k ≡ length xs + suc k = omega arith in
-      rw e (from-mid p (suc k) xs y ys (and_right (p k x) (everyFrom p (suc k) (xs ++ (y ∷ ys))) h))
+      rw e (from-mid p (suc k) xs y ys (and_right (p k x) (every_from p (suc k) (xs ++ (y ∷ ys))) h))
 
   -- none like it stands before it
   pub distinct-mid : (r : A → A → Bool) → ((a b : A) → r a b ≡ r b a) → (xs : List A) (y : A) (ys : List A) → distinct r (xs ++ (y ∷ ys)) ≡ true → some (r y) xs ≡ false
@@ -229,12 +229,12 @@ pub record First (p : ℕ → Bool) (k n r : ℕ) : Type 0 where
   pub passed : (m : ℕ) → k ≤ m → m < r → p m ≡ false
   pub found : r < k + n → p r ≡ true
 
-pub first-is : (p : ℕ → Bool) (k n : ℕ) → First p k n (firstFrom p k n)
-unfolding firstFrom
+pub first-is : (p : ℕ → Bool) (k n : ℕ) → First p k n (first_from p k n)
+unfolding first_from
 first-is p k zero = record { low = omega arith; high = omega arith; passed = λ m l h. absurd (omega arith); found = λ h. absurd (omega arith) }
 first-is p k (suc n) = go (p k) refl (first-is p (suc k) n)
   where
-    go : (b : Bool) → p k ≡ b → First p (suc k) n (firstFrom p (suc k) n) → First p k (suc n) (pick b k (firstFrom p (suc k) n))
+    go : (b : Bool) → p k ≡ b → First p (suc k) n (first_from p (suc k) n) → First p k (suc n) (pick b k (first_from p (suc k) n))
     go true e f = record { low = omega arith; high = omega arith; passed = λ m l h. absurd (omega arith); found = λ h. e }
     go false e f = record {
       low = omega (arith, f.low);
@@ -244,18 +244,18 @@ first-is p k (suc n) = go (p k) refl (first-is p (suc k) n)
     }
 
 -- a loop that looks for it: it is here, or among the numbers after this one
-pub first-here : (p : ℕ → Bool) (k n : ℕ) → p k ≡ true → firstFrom p k n ≡ k
-unfolding firstFrom
+pub first-here : (p : ℕ → Bool) (k n : ℕ) → p k ≡ true → first_from p k n ≡ k
+unfolding first_from
 first-here p k zero e = refl
 first-here p k (suc n) e = rw e
 
-pub first-later : (p : ℕ → Bool) (k n : ℕ) → 0 < n → p k ≡ false → firstFrom p k n ≡ firstFrom p (k + 1) (n - 1)
-unfolding firstFrom
+pub first-later : (p : ℕ → Bool) (k n : ℕ) → 0 < n → p k ≡ false → first_from p k n ≡ first_from p (k + 1) (n - 1)
+unfolding first_from
 first-later p k zero l e = absurd (omega arith)
 first-later p k (suc n) l e = let h : suc n - 1 ≡ n = omega arith in rw (e, add-one k, h)
 
 -- tests that agree on these numbers
-pub first-agree : (p q : ℕ → Bool) (k n : ℕ) → ((m : ℕ) → m < k + n → p m ≡ q m) → firstFrom p k n ≡ firstFrom q k n
-unfolding firstFrom
+pub first-agree : (p q : ℕ → Bool) (k n : ℕ) → ((m : ℕ) → m < k + n → p m ≡ q m) → first_from p k n ≡ first_from q k n
+unfolding first_from
 first-agree p q k zero h = refl
 first-agree p q k (suc n) h = rw (h k (omega arith), first-agree p q (suc k) n (λ m l. h m (omega arith)))

@@ -13,8 +13,8 @@ abbrev pub places : (size count : ℕ) (used free : ℕ → Bool) → Bool
 places n k used free = all_below (place k used free) n && leb k n
 
 -- the places not in use pass the test z, and no more are in use than there are
-abbrev pub restFree : {A : Type 0} → (A → Bool) → (size count : ℕ) → List A → Bool
-restFree z n k xs = leb k n && every z (drop k xs)
+abbrev pub rest_free : {A : Type 0} → (A → Bool) → (size count : ℕ) → List A → Bool
+rest_free z n k xs = leb k n && every z (drop k xs)
 
 -- the element at place i is fit, and none like it stands further on
 abbrev pub alone : {A : Type 0} → A → (fit : A → Bool) (same : A → A → Bool) → (items : List A) (count : ℕ) → ℕ → Bool

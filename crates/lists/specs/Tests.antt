@@ -18,9 +18,9 @@ every p [] = true
 every p (x ∷ xs) = p x && every p xs
 
 -- does every element pass the test of its number, the elements being numbered from k on?
-unfoldable pub everyFrom : {A : Type 0} → (ℕ → A → Bool) → ℕ → List A → Bool
-everyFrom p k [] = true
-everyFrom p k (x ∷ xs) = p k x && everyFrom p (suc k) xs
+unfoldable pub every_from : {A : Type 0} → (ℕ → A → Bool) → ℕ → List A → Bool
+every_from p k [] = true
+every_from p k (x ∷ xs) = p k x && every_from p (suc k) xs
 
 -- is no element there twice, by a test r of two?
 unfoldable pub distinct : {A : Type 0} → (A → A → Bool) → List A → Bool
@@ -28,9 +28,9 @@ distinct r [] = true
 distinct r (x ∷ xs) = not (some (r x) xs) && distinct r xs
 
 -- the first of the n numbers from k on that passes the test; the one after them where none does
-unfoldable pub firstFrom : (ℕ → Bool) → (k n : ℕ) → ℕ
-firstFrom p k zero = k
-firstFrom p k (suc n) = pick (p k) k (firstFrom p (suc k) n)
+unfoldable pub first_from : (ℕ → Bool) → (k n : ℕ) → ℕ
+first_from p k zero = k
+first_from p k (suc n) = pick (p k) k (first_from p (suc k) n)
 
 -- does every number below n pass the test?
 unfoldable pub all_below : (ℕ → Bool) → ℕ → Bool

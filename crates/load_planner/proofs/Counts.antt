@@ -10,17 +10,17 @@ use lib.Dec.{ltb}
 use lib.ListN.{length, take, drop, length-take, length-drop}
 use Rattle.lists.specs.Tests.{pick}
 use Rattle.lines.specs.declared.splitting.Taken.{Taken}
-use Rattle.lines.specs.Text.{lineFeed, before}
-use Rattle.lines.specs.Input.{hasEnd, takenFrom, Took}
+use Rattle.lines.specs.Text.{line_feed, before}
+use Rattle.lines.specs.Input.{has_end, taken_from, Took}
 use Rattle.lines.proofs.Before.{before-most}
 
-pub count-bounds : (n : ℕ) (s : List ℕ) → 0 < length s → (0 < (takenFrom n s).count) × ((takenFrom n s).count ≤ length s)
-unfolding hasEnd
-count-bounds n s h = go (ltb (before lineFeed s) (length s)) refl
+pub count-bounds : (n : ℕ) (s : List ℕ) → 0 < length s → (0 < (taken_from n s).count) × ((taken_from n s).count ≤ length s)
+unfolding has_end
+count-bounds n s h = go (ltb (before line_feed s) (length s)) refl
   where
-    go : (b : Bool) → ltb (before lineFeed s) (length s) ≡ b → (0 < before lineFeed s + pick b 1 0) × (before lineFeed s + pick b 1 0 ≤ length s)
-    go true e = let l = ltb-true (before lineFeed s) (length s) e in omega arith
-    go false e = let l = ltb-false (before lineFeed s) (length s) e in omega (arith, before-most lineFeed s)
+    go : (b : Bool) → ltb (before line_feed s) (length s) ≡ b → (0 < before line_feed s + pick b 1 0) × (before line_feed s + pick b 1 0 ≤ length s)
+    go true e = let l = ltb-true (before line_feed s) (length s) e in omega arith
+    go false e = let l = ltb-false (before line_feed s) (length s) e in omega (arith, before-most line_feed s)
 
 -- the count of a part from the start
 pub part_length : (n : ℕ) (l : List ℕ) → n ≤ length l → n ≡ length (take n l)
@@ -32,17 +32,17 @@ pub took-bounds : (s : List ℕ) (p : ℕ) (l m : List ℕ) (had : ℕ) (r : Tak
 took-bounds s p l m had r h k =
     let part = take (length s - p) (drop p s) in
     let len : length part ≡ length s - p = omega (arith, length-take (length s - p) (drop p s), length-drop p s) in
-    let e : r.count ≡ (takenFrom had part).count = ap (λ (x : Taken). x.count) k.taken in
+    let e : r.count ≡ (taken_from had part).count = ap (λ (x : Taken). x.count) k.taken in
     let b = count-bounds had part (omega arith) in
     omega arith
 
 -- one that does not end takes all that is left
 pub took-all : (s : List ℕ) (p : ℕ) (l m : List ℕ) (had : ℕ) (r : Taken) → p < length s → Took (take (length s - p) (drop p s)) l m had r → r.ended ≡ false
     → p + r.count ≡ length s
-unfolding hasEnd
+unfolding has_end
 took-all s p l m had r h k e =
     let part = take (length s - p) (drop p s) in
     let len : length part ≡ length s - p = omega (arith, length-take (length s - p) (drop p s), length-drop p s) in
-    let none : ltb (before lineFeed part) (length part) ≡ false = sym (ap (λ (x : Taken). x.ended) k.taken) ∙ e in
-    let count : r.count ≡ before lineFeed part + 0 = ap (λ (x : Taken). x.count) k.taken ∙ ap (λ (b : Bool). before lineFeed part + pick b 1 0) none in
-    omega (arith, count, len, before-most lineFeed part, ltb-false (before lineFeed part) (length part) none)
+    let none : ltb (before line_feed part) (length part) ≡ false = sym (ap (λ (x : Taken). x.ended) k.taken) ∙ e in
+    let count : r.count ≡ before line_feed part + 0 = ap (λ (x : Taken). x.count) k.taken ∙ ap (λ (b : Bool). before line_feed part + pick b 1 0) none in
+    omega (arith, count, len, before-most line_feed part, ltb-false (before line_feed part) (length part) none)

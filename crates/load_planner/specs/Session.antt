@@ -1,7 +1,7 @@
 -- What the line program carries from line to line and from chunk to chunk, as the definition of crate `calls` has it. Assumes nothing.
 use Rattle.std.specs.Prelude.{ℕ, ◌≤◌, ◌≡◌, List, length, take}
-use Rattle.lines.specs.Input.{mostKept}
-use Rattle.calls.specs.Program.{Left, Carried, afterChunk, afterChunks, started, lentCells}
+use Rattle.lines.specs.Input.{most_kept}
+use Rattle.calls.specs.Program.{Left, Carried, after_chunk, after_chunks, started, lent_cells}
 use Rattle.planner.specs.declared.Planner.{Planner}
 use Rattle.planner.specs.Planner.{held}
 use Rattle.load_planner.specs.declared.Session.{Session}
@@ -15,15 +15,15 @@ carried_of s l o w = record { left = left_of s.planner o w; begun = take s.held 
 
 -- and the buffer, which has the length of its type, has room for as many as are kept
 pub record Within (held : ℕ) (line : List ℕ) : Type 0 where
-  pub few : held ≤ mostKept
-  pub room : length line ≡ mostKept
+  pub few : held ≤ most_kept
+  pub room : length line ≡ most_kept
 
 -- a read put some bytes into its buffer, whichever they are, and they were taken as a chunk
 pub record Stepped (before after : Carried) (buffer : List ℕ) : Type 0 where
   pub count : ℕ
-  pub taken : after ≡ afterChunk before (take count buffer)
+  pub taken : after ≡ after_chunk before (take count buffer)
 
 -- chunks were read and taken, one after the other from the start
 pub record Ran (x : Carried) : Type 0 where
   pub chunks : List (List ℕ)
-  pub taken : x ≡ afterChunks (started lentCells) chunks
+  pub taken : x ≡ after_chunks (started lent_cells) chunks

@@ -1,7 +1,7 @@
 // The line program: reads lines from standard input, and prints each answer as soon as its line is complete.
 ghost use Rattle.std.specs.Prelude.{◌≤◌, ◌≡◌, true, false, length, take, pos};
 ghost use Rattle.io.specs.Counts.{clamp_len};
-ghost use Rattle.calls.specs.Program.{doneOn, answered, afterChunk, atEnd};
+ghost use Rattle.calls.specs.Program.{done_on, answered, after_chunk, at_end};
 ghost use Rattle.planner.specs.Calls.{done_of};
 ghost use Rattle.load_planner.specs.Session.{left_of, carried_of, Within, Stepped};
 
@@ -53,7 +53,7 @@ fn show(out: &[u8], count: usize) -> bool
 // The call on the line whose bytes are held.
 fn call(planner: Planner, line: &[u8], held: usize, out: &mut [u8], work: &mut [u32]) -> Called
     requires { held ≤ length line.now }
-    ensures { done_of result out.new work.new ≡ doneOn (left_of planner out.old work.old) (take held line.now) }
+    ensures { done_of result out.new work.new ≡ done_on (left_of planner out.old work.old) (take held line.now) }
 {
     planner.call(&line[..held], out, 0, work)
 }
@@ -91,7 +91,7 @@ fn take_chunk(
     work: &mut [u32; LENT_CELLS],
 ) -> Session
     requires { Within s.held line.old }
-    ensures chunk { result.open ≡ true → carried_of result line.new out.new work.new ≡ afterChunk (carried_of s line.old out.old work.old) chunk.now }
+    ensures chunk { result.open ≡ true → carried_of result line.new out.new work.new ≡ after_chunk (carried_of s line.old out.old work.old) chunk.now }
     ensures held { Within result.held line.new }
 {
     let mut session = s;
@@ -118,7 +118,7 @@ fn finish(
     work: &mut [u32; LENT_CELLS],
 ) -> Session
     requires { Within s.held line.now }
-    ensures end { left_of result.planner out.new work.new ≡ atEnd (carried_of s line.now out.old work.old) }
+    ensures end { left_of result.planner out.new work.new ≡ at_end (carried_of s line.now out.old work.old) }
     ensures none { result.held ≡ 0 }
     ensures shut { result.open ≡ false }
 {
@@ -141,8 +141,8 @@ fn take_read(
     work: &mut [u32; LENT_CELLS],
 ) -> Session
     requires { Within s.held line.old }
-    ensures chunk { result.open ≡ true → carried_of result line.new out.new work.new ≡ afterChunk (carried_of s line.old out.old work.old) (take (clamp_len got (length chunk.now)) chunk.now) }
-    ensures end { got ≡ pos 0 → left_of result.planner out.new work.new ≡ atEnd (carried_of s line.old out.old work.old) }
+    ensures chunk { result.open ≡ true → carried_of result line.new out.new work.new ≡ after_chunk (carried_of s line.old out.old work.old) (take (clamp_len got (length chunk.now)) chunk.now) }
+    ensures end { got ≡ pos 0 → left_of result.planner out.new work.new ≡ at_end (carried_of s line.old out.old work.old) }
     ensures held { Within result.held line.new }
 {
     let mut session = s;

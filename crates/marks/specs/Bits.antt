@@ -15,28 +15,28 @@ abbrev pub bit_at : ℕ → ℕ → Bool
 bit_at x k = eqb (x / 2 ^ k % 2) 1
 
 -- the number with digit k set
-abbrev pub setBit : ℕ → ℕ → ℕ
-setBit x k = bit_or x (2 ^ k)
+abbrev pub set_bit : ℕ → ℕ → ℕ
+set_bit x k = bit_or x (2 ^ k)
 
 -- is n in the set?
-unfoldable pub hasMark : ℕ → ℕ → Bool
-hasMark x zero = false
-hasMark x (suc k) = bit_at x k
+unfoldable pub has_mark : ℕ → ℕ → Bool
+has_mark x zero = false
+has_mark x (suc k) = bit_at x k
 
 -- are all of its numbers from 1 to n?
 abbrev pub up_to : ℕ → ℕ → Bool
 up_to n x = ltb x (2 ^ n)
 
 -- the set with n in it; a number outside 1 to w changes nothing
-unfoldable pub withMark : ℕ → ℕ → ℕ → ℕ
-withMark w x n = pick (within w n) (setBit x (n - 1)) x
+unfoldable pub with_mark : ℕ → ℕ → ℕ → ℕ
+with_mark w x n = pick (within w n) (set_bit x (n - 1)) x
 
 -- how many of the numbers 1 to n pass the test p
-unfoldable pub sizeTo : (ℕ → Bool) → ℕ → ℕ
-sizeTo p zero = 0
-sizeTo p (suc n) = sizeTo p n + pick (p (suc n)) 1 0
+unfoldable pub size_to : (ℕ → Bool) → ℕ → ℕ
+size_to p zero = 0
+size_to p (suc n) = size_to p n + pick (p (suc n)) 1 0
 
 -- how many of the numbers 1 to w are in the set
 unfoldable pub size : ℕ → ℕ → ℕ
-unfolding sizeTo hasMark
-size w x = sizeTo (hasMark x) w
+unfolding size_to has_mark
+size w x = size_to (has_mark x) w

@@ -4,38 +4,38 @@
 use Rattle.std.specs.Prelude.{ℕ, min, ◌+◌, ◌-◌, Bool, ◌&&◌, leb}
 use Rattle.lists.specs.Tests.{pick}
 use Rattle.lists.specs.Argmax.{guard}
-use Rattle.marks.specs.Bits.{hasMark, up_to, withMark, size}
+use Rattle.marks.specs.Bits.{has_mark, up_to, with_mark, size}
 use Rattle.marks.specs.declared.Marks.{Marks}
 use Rattle.marks.specs.declared.LoadSet.{LoadSet}
 
 abbrev pub marked : Marks → ℕ → Marks
-marked m n = record { 0 = withMark 8 m.0 n }
+marked m n = record { 0 = with_mark 8 m.0 n }
 
 -- half of a set of loads: the numbers from 1 to 64 in one word
-abbrev pub halfWidth : ℕ
-halfWidth = 64
+abbrev pub half_width : ℕ
+half_width = 64
 
 -- a set of loads: the numbers from 1 to 128 in two words, those above 64 as their excess in the high one
-abbrev pub setWidth : ℕ
-setWidth = 128
+abbrev pub set_width : ℕ
+set_width = 128
 
-abbrev pub noLoads : LoadSet
-noLoads = record { low = 0; high = 0 }
+abbrev pub no_loads : LoadSet
+no_loads = record { low = 0; high = 0 }
 
 unfoldable pub joined : LoadSet → ℕ → LoadSet
-joined s n = record { low = withMark halfWidth s.low n; high = withMark halfWidth s.high (n - halfWidth) }
+joined s n = record { low = with_mark half_width s.low n; high = with_mark half_width s.high (n - half_width) }
 
-unfoldable pub hasLoad : LoadSet → ℕ → Bool
-hasLoad s n = pick (leb n halfWidth) (hasMark s.low n) (hasMark s.high (n - halfWidth))
+unfoldable pub has_load : LoadSet → ℕ → Bool
+has_load s n = pick (leb n half_width) (has_mark s.low n) (has_mark s.high (n - half_width))
 
 -- are all of its loads from 1 to n?
-abbrev pub loadsUpTo : ℕ → LoadSet → Bool
-loadsUpTo n s = up_to (min n halfWidth) s.low && up_to (n - halfWidth) s.high
+abbrev pub loads_up_to : ℕ → LoadSet → Bool
+loads_up_to n s = up_to (min n half_width) s.low && up_to (n - half_width) s.high
 
 -- how many loads are in the set
 unfoldable pub size_of : LoadSet → ℕ
-size_of s = size halfWidth s.low + size halfWidth s.high
+size_of s = size half_width s.low + size half_width s.high
 
 -- the mark of a load in a set: 1 on, 0 off
-abbrev pub markIn : LoadSet → ℕ → ℕ
-markIn s n = guard (hasLoad s n) 1
+abbrev pub mark_in : LoadSet → ℕ → ℕ
+mark_in s n = guard (has_load s n) 1

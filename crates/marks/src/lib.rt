@@ -1,7 +1,7 @@
 // Sets of small numbers, held as marks: number n is in the set where binary digit n - 1 is set.
 ghost use Rattle.std.specs.Prelude.{◌≡◌};
-ghost use Rattle.marks.specs.Bits.{hasMark, up_to, withMark, size};
-ghost use Rattle.marks.specs.Sets.{marked, halfWidth, joined, hasLoad, loadsUpTo, size_of};
+ghost use Rattle.marks.specs.Bits.{has_mark, up_to, with_mark, size};
+ghost use Rattle.marks.specs.Sets.{marked, half_width, joined, has_load, loads_up_to, size_of};
 
 // A set of states or of stages: numbers from 1 to 8.
 #[repr(C)]
@@ -26,7 +26,7 @@ impl Marks {
 
     // Is n in the set?
     pub fn has(self, n: usize) -> bool
-        ensures { result ≡ hasMark self.0 n }
+        ensures { result ≡ has_mark self.0 n }
     {
         if n == 0 {
             return false;
@@ -44,7 +44,7 @@ const HALF: usize = 64;
 
 // The half with k in it. A number outside 1 to 64 changes nothing.
 fn half_with(half: u64, k: usize) -> u64
-    ensures { result ≡ withMark halfWidth half k }
+    ensures { result ≡ with_mark half_width half k }
 {
     if k == 0 {
         return half;
@@ -57,7 +57,7 @@ fn half_with(half: u64, k: usize) -> u64
 
 // Is k in the half?
 fn half_has(half: u64, k: usize) -> bool
-    ensures { result ≡ hasMark half k }
+    ensures { result ≡ has_mark half k }
 {
     if k == 0 {
         return false;
@@ -80,7 +80,7 @@ fn half_up_to(half: u64, k: usize) -> bool
 
 // How many numbers are in the half.
 fn half_count(half: u64) -> u32
-    ensures { result ≡ size halfWidth half }
+    ensures { result ≡ size half_width half }
 {
     u64::count_ones(half)
 }
@@ -114,7 +114,7 @@ impl LoadSet {
 
     // Is this load in the set?
     pub fn has(self, load: usize) -> bool
-        ensures { result ≡ hasLoad self load }
+        ensures { result ≡ has_load self load }
     {
         if load <= HALF {
             return half_has(self.low, load);
@@ -124,7 +124,7 @@ impl LoadSet {
 
     // Are all of its loads from 1 to n?
     pub fn up_to(self, n: usize) -> bool
-        ensures { result ≡ loadsUpTo n self }
+        ensures { result ≡ loads_up_to n self }
     {
         if n <= HALF {
             return half_up_to(self.low, n) & half_up_to(self.high, 0);

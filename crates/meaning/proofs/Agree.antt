@@ -12,17 +12,17 @@ use Rattle.lists.specs.Argmax.{guard, Greatest}
 use Rattle.lists.proofs.Argmax.{argmax-agree, argmax-bound, argmax-least}
 use Rattle.tables.specs.declared.rule.Transition.{Transition}
 use Rattle.tables.specs.Tables.{Book}
-use Rattle.meaning.specs.Runs.{isStart, ruleAt}
+use Rattle.meaning.specs.Runs.{is_start, rule_at}
 use Rattle.meaning.specs.Forest.{Item, Forest, nil, node}
 use Rattle.meaning.specs.Cell.{◌⊕◌, draw, score}
-use Rattle.meaning.specs.Best.{bestRule, loadReach, rowReach, shares, loadRuleFor, rowRuleFor, branchCell, rowCell, best, bestTree}
+use Rattle.meaning.specs.Best.{best_rule, load_reach, row_reach, shares, load_rule_for, row_rule_for, branch_cell, row_cell, best, best_tree}
 use Rattle.meaning.proofs.Cell.{⊕-mono}
 use Rattle.meaning.proofs.Optimal.{and-elim, and_intro}
 
 rules-agree : (ts : List Transition) (x : ℕ) (reach reach' : Transition → ℕ)
-    → ((j : ℕ) → j < length ts → reach (ruleAt ts j) ≡ reach' (ruleAt ts j)) → bestRule ts x reach ≡ bestRule ts x reach'
+    → ((j : ℕ) → j < length ts → reach (rule_at ts j) ≡ reach' (rule_at ts j)) → best_rule ts x reach ≡ best_rule ts x reach'
 rules-agree ts x reach reach' h =
-    argmax-agree _ _ (length ts) (λ j l. ap (guard (eqb (ruleAt ts j).from x)) (h j l))
+    argmax-agree _ _ (length ts) (λ j l. ap (guard (eqb (rule_at ts j).from x)) (h j l))
 
 pub shares-agree : (branch branch' later later' : ℕ → ℕ) (c : ℕ) → ((a : ℕ) → a ≤ c → branch a ≡ branch' a)
     → ((a : ℕ) → a ≤ c → later a ≡ later' a) → shares branch later c ≡ shares branch' later' c
@@ -31,19 +31,19 @@ shares-agree branch branch' later later' c h k =
 
 module _ (b : Book) where
   pub load-agree : (i : Item) (below below' : ℕ → ℕ → ℕ) (q c : ℕ)
-      → ((j a : ℕ) → j < length b.loadRules → a ≤ c → below (ruleAt b.loadRules j).to a ≡ below' (ruleAt b.loadRules j).to a)
-      → loadRuleFor b i below q c ≡ loadRuleFor b i below' q c
+      → ((j a : ℕ) → j < length b.load_rules → a ≤ c → below (rule_at b.load_rules j).to a ≡ below' (rule_at b.load_rules j).to a)
+      → load_rule_for b i below q c ≡ load_rule_for b i below' q c
   load-agree i below below' q c h =
-      rules-agree b.loadRules q (loadReach i below c) (loadReach i below' c)
-      (λ j l. ap (λ x. guard (i.serves (ruleAt b.loadRules j) && leb (draw i (ruleAt b.loadRules j).label) c)
-      (score i (ruleAt b.loadRules j).label ⊕ x)) (h j _ l (sub-le c _)))
+      rules-agree b.load_rules q (load_reach i below c) (load_reach i below' c)
+      (λ j l. ap (λ x. guard (i.serves (rule_at b.load_rules j) && leb (draw i (rule_at b.load_rules j).label) c)
+      (score i (rule_at b.load_rules j).label ⊕ x)) (h j _ l (sub-le c _)))
 
   pub row-agree : (branch branch' later later' : ℕ → ℕ → ℕ) (g c : ℕ)
-      → ((j a : ℕ) → j < length b.rowRules → a ≤ c → branch (ruleAt b.rowRules j).label a ≡ branch' (ruleAt b.rowRules j).label a)
-      → ((j a : ℕ) → j < length b.rowRules → a ≤ c → later (ruleAt b.rowRules j).to a ≡ later' (ruleAt b.rowRules j).to a)
-      → rowRuleFor b branch later g c ≡ rowRuleFor b branch' later' g c
+      → ((j a : ℕ) → j < length b.row_rules → a ≤ c → branch (rule_at b.row_rules j).label a ≡ branch' (rule_at b.row_rules j).label a)
+      → ((j a : ℕ) → j < length b.row_rules → a ≤ c → later (rule_at b.row_rules j).to a ≡ later' (rule_at b.row_rules j).to a)
+      → row_rule_for b branch later g c ≡ row_rule_for b branch' later' g c
   row-agree branch branch' later later' g c h k =
-      rules-agree b.rowRules g (rowReach branch later c) (rowReach branch' later' c)
+      rules-agree b.row_rules g (row_reach branch later c) (row_reach branch' later' c)
       (λ j l. ap (λ (p : Greatest). p.value) (shares-agree _ _ _ _ c (λ a s. h j a l s) (λ a s. k j a l s)))
 
 -- Growing allowances
@@ -56,25 +56,25 @@ abbrev pub Grows : (ℕ → ℕ → ℕ) → Type 0
 Grows cell = (x c c' : ℕ) → c ≤ c' → cell x c ≤ cell x c'
 
 rules-grow : (ts : List Transition) (x : ℕ) (reach reach' : Transition → ℕ) → ((t : Transition) → reach t ≤ reach' t)
-    → (bestRule ts x reach).value ≤ (bestRule ts x reach').value
+    → (best_rule ts x reach).value ≤ (best_rule ts x reach').value
 rules-grow ts x reach reach' h =
     argmax-least _ (length ts) _ (λ j l. le_trans
-    (guard_mono (eqb (ruleAt ts j).from x) (eqb (ruleAt ts j).from x) (reach (ruleAt ts j)) (reach' (ruleAt ts j)) (λ t. t) (h (ruleAt ts j)))
-    (argmax-bound (λ j. guard (eqb (ruleAt ts j).from x) (reach' (ruleAt ts j))) (length ts) j l))
+    (guard_mono (eqb (rule_at ts j).from x) (eqb (rule_at ts j).from x) (reach (rule_at ts j)) (reach' (rule_at ts j)) (λ t. t) (h (rule_at ts j)))
+    (argmax-bound (λ j. guard (eqb (rule_at ts j).from x) (reach' (rule_at ts j))) (length ts) j l))
 
 module _ (b : Book) where
-  pub branch-grows : (i : Item) (below : ℕ → ℕ → ℕ) → Grows below → Grows (branchCell b i below)
+  pub branch-grows : (i : Item) (below : ℕ → ℕ → ℕ) → Grows below → Grows (branch_cell b i below)
   branch-grows i below h q c c' l =
-      rules-grow b.loadRules q (loadReach i below c) (loadReach i below c')
+      rules-grow b.load_rules q (load_reach i below c) (load_reach i below c')
       (λ t. guard_mono (i.serves t && leb (draw i t.label) c) (i.serves t && leb (draw i t.label) c') _ _
       (λ s. let p = and-elim (i.serves t) (leb (draw i t.label) c) s in
       and_intro (i.serves t) (leb (draw i t.label) c') p.0 (le→leb (draw i t.label) c' (le_trans (leb→le (draw i t.label) c p.1) l)))
       (⊕-mono (score i t.label) (score i t.label) (below t.to (c - draw i t.label)) (below t.to (c' - draw i t.label))
       (le_refl _) (h _ _ _ (omega arith))))
 
-  row-grows : (branch later : ℕ → ℕ → ℕ) → Grows later → Grows (rowCell b branch later)
+  row-grows : (branch later : ℕ → ℕ → ℕ) → Grows later → Grows (row_cell b branch later)
   row-grows branch later h g c c' l =
-      rules-grow b.rowRules g (rowReach branch later c) (rowReach branch later c')
+      rules-grow b.row_rules g (row_reach branch later c) (row_reach branch later c')
       (λ r. argmax-least _ (suc c) _ (λ a s. le_trans
       (⊕-mono (branch r.label a) (branch r.label a) (later r.to (c - a)) (later r.to (c' - a)) (le_refl _) (h _ _ _ (omega arith)))
       (argmax-bound (λ a. branch r.label a ⊕ later r.to (c' - a)) (suc c') a (omega arith))))
@@ -82,12 +82,12 @@ module _ (b : Book) where
   pub best-grows : (f : Forest) → Grows (best b f)
   unfolding best
   best-grows nil = λ g c c' l. le_refl _
-  best-grows (node k i below later) = row-grows (branchCell b i (best b below)) (best b later) (best-grows later)
+  best-grows (node k i below later) = row-grows (branch_cell b i (best b below)) (best b later) (best-grows later)
 
-  pub tree-grows : (f : Forest) (c c' : ℕ) → c ≤ c' → bestTree b f c ≤ bestTree b f c'
-  unfolding bestTree
+  pub tree-grows : (f : Forest) (c c' : ℕ) → c ≤ c' → best_tree b f c ≤ best_tree b f c'
+  unfolding best_tree
   tree-grows nil c c' l = zero-le
   tree-grows (node k i below later) c c' l =
       argmax-least _ b.states _ (λ s h. le_trans
-      (guard_mono (isStart b (suc s)) (isStart b (suc s)) _ _ (λ x. x) (branch-grows i (best b below) (best-grows below) (suc s) c c' l))
-      (argmax-bound (λ s. guard (isStart b (suc s)) (branchCell b i (best b below) (suc s) c')) b.states s h))
+      (guard_mono (is_start b (suc s)) (is_start b (suc s)) _ _ (λ x. x) (branch-grows i (best b below) (best-grows below) (suc s) c c' l))
+      (argmax-bound (λ s. guard (is_start b (suc s)) (branch_cell b i (best b below) (suc s) c')) b.states s h))

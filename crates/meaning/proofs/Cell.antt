@@ -7,7 +7,7 @@ use native.Mathlib.Omega.{arith}
 use borrow.Author.Tests.{leb-true, ltb-true, le-leb, lt-ltb}
 use lib.Dec.{leb, ltb}
 use Rattle.lists.proofs.Bools.{same_test}
-use Rattle.meaning.specs.Cell.{cell, floor, powerLimit, empty, ◌⊕◌}
+use Rattle.meaning.specs.Cell.{cell, floor, power_limit, empty, ◌⊕◌}
 
 pub ⊕-mono : (x x' y y' : ℕ) → x ≤ x' → y ≤ y' → x ⊕ y ≤ x' ⊕ y'
 unfolding ◌⊕◌ cell
@@ -57,42 +57,42 @@ unfolding ◌⊕◌
 ⊕-right (suc x) (suc y) h = absurd (omega arith)
 
 -- two sets that are worth nothing and draw too much together, or one that is none
-pub ⊕-over : (x y : ℕ) → x + y ≤ powerLimit → x ⊕ y ≡ 0
+pub ⊕-over : (x y : ℕ) → x + y ≤ power_limit → x ⊕ y ≡ 0
 unfolding ◌⊕◌ cell
 ⊕-over zero y h = refl
 ⊕-over (suc x) zero h = refl
 ⊕-over (suc x) (suc y) h = omega arith
 
-pub ⊕-both : (x y : ℕ) → (x ≡ 0 → ⊥) → (y ≡ 0 → ⊥) → x ⊕ y ≡ x + y - powerLimit
+pub ⊕-both : (x y : ℕ) → (x ≡ 0 → ⊥) → (y ≡ 0 → ⊥) → x ⊕ y ≡ x + y - power_limit
 unfolding ◌⊕◌ cell
 ⊕-both zero y h k = absurd (h refl)
 ⊕-both (suc x) zero h k = absurd (k refl)
 ⊕-both (suc x) (suc y) h k = refl
 
 -- the cell of two sets together is that of their power and worth together
-pub cell-add : (p v p' v' : ℕ) → p + p' < powerLimit → cell p v ⊕ cell p' v' ≡ cell (p + p') (v + v')
+pub cell-add : (p v p' v' : ℕ) → p + p' < power_limit → cell p v ⊕ cell p' v' ≡ cell (p + p') (v + v')
 unfolding ◌⊕◌ cell
 cell-add p v p' v' h =
-    let sum : cell p v + cell p' v' - powerLimit ≡ cell (p + p') (v + v') = omega arith in
+    let sum : cell p v + cell p' v' - power_limit ≡ cell (p + p') (v + v') = omega arith in
     ⊕-both (cell p v) (cell p' v') (λ e. absurd (omega arith)) (λ e. absurd (omega arith)) ∙ sum
 
-pub cell-pos : (p v : ℕ) → p < powerLimit → 0 < cell p v
+pub cell-pos : (p v : ℕ) → p < power_limit → 0 < cell p v
 unfolding cell
 cell-pos p v h = omega arith
 
 -- the greater cell is worth no less
-pub cell-le : (p v p' v' : ℕ) → p < powerLimit → p' < powerLimit → cell p v ≤ cell p' v' → v ≤ v'
+pub cell-le : (p v p' v' : ℕ) → p < power_limit → p' < power_limit → cell p v ≤ cell p' v' → v ≤ v'
 unfolding cell
 cell-le p v p' v' h h' l = omega arith
 
 -- and of equal worth draws no more
-pub cell-cooler : (p v p' v' : ℕ) → p < powerLimit → v ≡ v' → cell p v ≤ cell p' v' → p' ≤ p
+pub cell-cooler : (p v p' v' : ℕ) → p < power_limit → v ≡ v' → cell p v ≤ cell p' v' → p' ≤ p
 unfolding cell
 cell-cooler p v p' v' h e l = omega arith
 
 -- a cell exceeds the floor of a worth exactly where its set is worth so much
-pub cell_below : (p w v : ℕ) → p < powerLimit → ltb w v ≡ leb (cell p w) (floor v)
+pub cell_below : (p w v : ℕ) → p < power_limit → ltb w v ≡ leb (cell p w) (floor v)
 unfolding cell floor
 cell_below p w v h =
-    let c = w * powerLimit + powerLimit - p in
-    same_test (ltb w v) (leb c (v * powerLimit)) (λ e. le-leb c _ (omega (arith, ltb-true w v e))) (λ e. lt-ltb w v (omega (arith, leb-true c (v * powerLimit) e)))
+    let c = w * power_limit + power_limit - p in
+    same_test (ltb w v) (leb c (v * power_limit)) (λ e. le-leb c _ (omega (arith, ltb-true w v e))) (λ e. lt-ltb w v (omega (arith, leb-true c (v * power_limit) e)))

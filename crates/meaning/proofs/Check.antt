@@ -14,17 +14,17 @@ use Rattle.lists.specs.Argmax.{guard}
 use Rattle.tables.specs.declared.rule.Transition.{Transition}
 use Rattle.tables.specs.Tables.{Book, Tables}
 use Rattle.tables.specs.declared.load.Load.{Load}
-use Rattle.meaning.specs.Forest.{Item, Forest, nil, node, planned, fixedTo, checked, row, tree, IsTree, total}
+use Rattle.meaning.specs.Forest.{Item, Forest, nil, node, planned, fixed_to, checked, row, tree, IsTree, total}
 use Rattle.meaning.specs.Cell.{empty, ◌⊕◌, score, drawn, scored}
 use Rattle.meaning.specs.Sets.{tree_of, counted, Allowed, Accepted}
-use Rattle.meaning.specs.Best.{best, bestTree, bestCheck}
-use Rattle.meaning.specs.Choice.{check, marksOf, assignedBy}
+use Rattle.meaning.specs.Best.{best, best_tree, best_check}
+use Rattle.meaning.specs.Choice.{check, marks_of, assigned_by}
 use Rattle.meaning.specs.Runs.{Assigned, rule, BranchRun, RowRun, Run, TreeRun}
-use Rattle.meaning.specs.Acceptance.{Letter, letterOf, letterFor, Chain, Rewrites, AcceptsRow, Accepts}
+use Rattle.meaning.specs.Acceptance.{Letter, letter_of, letter_for, Chain, Rewrites, AcceptsRow, Accepts}
 use Rattle.meaning.proofs.Cell.{cell-pos, ⊕-empty}
 use Rattle.meaning.proofs.Optimal.{and_intro, and-elim, eqb_of, Covers, branch-complete, row-complete, start-bound, complete, tree-sound}
 use Rattle.meaning.proofs.Tree.{Rooted, tree-rooted}
-use Rattle.meaning.specs.Order.{◌≼◌, treeNumbers}
+use Rattle.meaning.specs.Order.{◌≼◌, tree_numbers}
 use Rattle.meaning.proofs.Lowest.{tree-lowest}
 use Rattle.meaning.proofs.Entries.{check-follows, once, tree-occurs}
 
@@ -32,7 +32,7 @@ use Rattle.meaning.proofs.Entries.{check-follows, once, tree-occurs}
 module _ (σ : ℕ → ℕ) where
   fixed : Forest → Forest
   fixed nil = nil
-  fixed (node k i below later) = node k (fixedTo σ k i) (fixed below) (fixed later)
+  fixed (node k i below later) = node k (fixed_to σ k i) (fixed below) (fixed later)
 
   fixed-row : (ls : List Load) (k p : ℕ) → fixed (row planned ls k p) ≡ row (checked σ) ls k p
   unfolding fixed row
@@ -69,19 +69,19 @@ fixed-scored σ τ (node k i below later) =
 
 module _ (b : Book) (σ : ℕ → ℕ) where
   unfix-branch : (m k n : ℕ) (i : Item) (R R' : ℕ → Type 0) → ((g : ℕ) → R g → R' g)
-      → (q : ℕ) → BranchRun b m n (fixedTo σ k i) R q → BranchRun b (σ k) n i R' q
+      → (q : ℕ) → BranchRun b m n (fixed_to σ k i) R q → BranchRun b (σ k) n i R' q
   unfix-branch m k n i R R' f q r =
-      let a = and-elim (i.serves (rule b.loadRules n)) (eqb (rule b.loadRules n).label (σ k)) r.serves in
+      let a = and-elim (i.serves (rule b.load_rules n)) (eqb (rule b.load_rules n).label (σ k)) r.serves in
       record { begins = r.begins; mark = eqb→eq _ _ a.1; serves = a.0; runs = f _ r.runs }
 
   fix-branch : (k n : ℕ) (i : Item) (R R' : ℕ → Type 0) → ((g : ℕ) → R g → R' g)
-      → (q : ℕ) → BranchRun b (σ k) n i R q → BranchRun b (σ k) n (fixedTo σ k i) R' q
+      → (q : ℕ) → BranchRun b (σ k) n i R q → BranchRun b (σ k) n (fixed_to σ k i) R' q
   fix-branch k n i R R' f q r =
       record {
         begins = r.begins;
         mark = r.mark;
         runs = f _ r.runs;
-        serves = and_intro (i.serves (rule b.loadRules n)) (eqb (rule b.loadRules n).label (σ k)) r.serves (eqb_of _ _ r.mark);
+        serves = and_intro (i.serves (rule b.load_rules n)) (eqb (rule b.load_rules n).label (σ k)) r.serves (eqb_of _ _ r.mark);
       }
 
   row-map : (n q : ℕ) (B B' L L' : ℕ → Type 0) → ((g : ℕ) → B g → B' g) → ((g : ℕ) → L g → L' g)
@@ -92,29 +92,29 @@ module _ (b : Book) (σ : ℕ → ℕ) where
   unfolding fixed
   unfix τ ρ nil = λ g r. r
   unfix τ ρ (node k i below later) =
-      row-map _ _ _ _ _ _ (unfix-branch (τ k) k (ρ k).loadRule i _ _ (unfix τ ρ below)) (unfix τ ρ later)
+      row-map _ _ _ _ _ _ (unfix-branch (τ k) k (ρ k).load_rule i _ _ (unfix τ ρ below)) (unfix τ ρ later)
 
   unfix-tree : (τ : ℕ → ℕ) (ρ : ℕ → Assigned) (f : Forest) → TreeRun b τ ρ (fixed σ f) → TreeRun b σ ρ f
   unfolding fixed
   unfix-tree τ ρ nil r = r
-  unfix-tree τ ρ (node k i below later) r = (r.0, r.1, unfix-branch (τ k) k (ρ k).loadRule i _ _ (unfix τ ρ below) _ r.2)
+  unfix-tree τ ρ (node k i below later) r = (r.0, r.1, unfix-branch (τ k) k (ρ k).load_rule i _ _ (unfix τ ρ below) _ r.2)
 
   -- and back, where the run is one of σ
   fix : (ρ : ℕ → Assigned) (f : Forest) → (g : ℕ) → Run b σ ρ f g → Run b σ ρ (fixed σ f) g
   unfolding fixed
   fix ρ nil = λ g r. r
-  fix ρ (node k i below later) = row-map _ _ _ _ _ _ (fix-branch k (ρ k).loadRule i _ _ (fix ρ below)) (fix ρ later)
+  fix ρ (node k i below later) = row-map _ _ _ _ _ _ (fix-branch k (ρ k).load_rule i _ _ (fix ρ below)) (fix ρ later)
 
   fix-tree : (ρ : ℕ → Assigned) (f : Forest) → TreeRun b σ ρ f → TreeRun b σ ρ (fixed σ f)
   unfolding fixed
   fix-tree ρ nil r = r
-  fix-tree ρ (node k i below later) r = (r.0, r.1, fix-branch k (ρ k).loadRule i _ _ (fix ρ below) _ r.2)
+  fix-tree ρ (node k i below later) r = (r.0, r.1, fix-branch k (ρ k).load_rule i _ _ (fix ρ below) _ r.2)
 
 -- in a run of the forest for the check of σ every load has σ's mark
 module _ (b : Book) (σ τ : ℕ → ℕ) (ρ : ℕ → Assigned) where
-  own-mark : (k n : ℕ) (i : Item) (R : ℕ → Type 0) (q : ℕ) → BranchRun b (τ k) n (fixedTo σ k i) R q → τ k ≡ σ k
+  own-mark : (k n : ℕ) (i : Item) (R : ℕ → Type 0) (q : ℕ) → BranchRun b (τ k) n (fixed_to σ k i) R q → τ k ≡ σ k
   own-mark k n i R q r =
-      let a = and-elim (i.serves (rule b.loadRules n)) (eqb (rule b.loadRules n).label (σ k)) r.serves in
+      let a = and-elim (i.serves (rule b.load_rules n)) (eqb (rule b.load_rules n).label (σ k)) r.serves in
       sym r.mark ∙ eqb→eq _ _ a.1
 
   -- by where the number occurs
@@ -131,17 +131,17 @@ module _ (b : Book) (σ τ : ℕ → ℕ) (ρ : ℕ → Assigned) where
   fixed-agree nil g r n h = absurd (omega arith)
   fixed-agree (node k i below later) g r n h =
       somewhere n k (total (λ k i. once n k) below) (total (λ k i. once n k) later)
-      (own-mark k (ρ k).loadRule i (Run b τ ρ (fixed σ below)) (ρ k).state r.branches)
-      (fixed-agree below (rule b.loadRules (ρ k).loadRule).to r.branches.runs n)
-      (fixed-agree later (rule b.rowRules (ρ k).rowRule).to r.goes n) h
+      (own-mark k (ρ k).load_rule i (Run b τ ρ (fixed σ below)) (ρ k).state r.branches)
+      (fixed-agree below (rule b.load_rules (ρ k).load_rule).to r.branches.runs n)
+      (fixed-agree later (rule b.row_rules (ρ k).row_rule).to r.goes n) h
 
   fixed-tree-agree : (f : Forest) → Rooted f → TreeRun b τ ρ (fixed σ f) → (n : ℕ) → 0 < total (λ k i. once n k) f → τ n ≡ σ n
   unfolding fixed total
   fixed-tree-agree nil o r n h = absurd r
   fixed-tree-agree (node k i below nil) o r n h =
       somewhere n k (total (λ k i. once n k) below) 0
-      (own-mark k (ρ k).loadRule i (Run b τ ρ (fixed σ below)) (ρ k).state r.2)
-      (fixed-agree below (rule b.loadRules (ρ k).loadRule).to r.2.runs n)
+      (own-mark k (ρ k).load_rule i (Run b τ ρ (fixed σ below)) (ρ k).state r.2)
+      (fixed-agree below (rule b.load_rules (ρ k).load_rule).to r.2.runs n)
       (λ z. absurd (omega arith)) h
   fixed-tree-agree (node k i below (node k' i' below' later')) o r n h = absurd o
 
@@ -170,10 +170,10 @@ tree-kinds [] = tt
 tree-kinds (l ∷ ls) = (λ r. refl, row-kinds ls 2 1, tt)
 
 -- a rule that serves is for the load's letter, and the other way round
-serves-letter : (i : Item) → OwnKind i → (r : Transition) (m : ℕ) → r.label ≡ m → T (i.serves r) → letterFor r ≡ letterOf i m
+serves-letter : (i : Item) → OwnKind i → (r : Transition) (m : ℕ) → r.label ≡ m → T (i.serves r) → letter_for r ≡ letter_of i m
 serves-letter i own r m e s = let k = eqb→eq r.kind i.kind (rw (own r) at s) in λ x. record { kind = k x; mark = e x }
 
-letter-serves : (i : Item) → OwnKind i → (r : Transition) (m : ℕ) → letterFor r ≡ letterOf i m → T (i.serves r)
+letter-serves : (i : Item) → OwnKind i → (r : Transition) (m : ℕ) → letter_for r ≡ letter_of i m → T (i.serves r)
 letter-serves i own r m e = rw (own r) (eqb_of r.kind i.kind (ap (λ (x : Letter). x.kind) e))
 
 -- acceptance from a stage: some states of the roots, with a chain of row rules
@@ -182,14 +182,14 @@ Derives b σ f g = (qs : List ℕ) × Chain b g qs × AcceptsRow b σ f qs
 
 module _ (b : Book) (σ : ℕ → ℕ) where
   -- what acceptance says of a branch and of a place in a row is what a run says of it
-  rewrites-branch : (k : ℕ) (i : Item) → OwnKind i → (below : Forest) (q : ℕ) (rs : List ℕ) → (w : Rewrites b (letterOf i (σ k)) q rs) → AcceptsRow b σ below rs
-      → BranchRun b (σ k) w.0 (fixedTo σ k i) (Derives b σ below) q
+  rewrites-branch : (k : ℕ) (i : Item) → OwnKind i → (below : Forest) (q : ℕ) (rs : List ℕ) → (w : Rewrites b (letter_of i (σ k)) q rs) → AcceptsRow b σ below rs
+      → BranchRun b (σ k) w.0 (fixed_to σ k i) (Derives b σ below) q
   rewrites-branch k i own below q rs w a =
       fix-branch b σ k w.0 i (Derives b σ below) (Derives b σ below) (λ g d. d) q
       (record {
         begins = w.1;
         mark = ap (λ (x : Letter). x.mark) w.2;
-        serves = letter-serves i own (rule b.loadRules w.0) (σ k) w.2;
+        serves = letter-serves i own (rule b.load_rules w.0) (σ k) w.2;
         runs = (rs, w.3, a);
       })
 
@@ -202,7 +202,7 @@ module _ (b : Book) (σ : ℕ → ℕ) where
   derives-cover k i own below later hb hl g c [] ch a h = absurd a
   derives-cover k i own below later hb hl g c (q ∷ qs) ch a h =
       row-complete b _ _ _ _ _ _ _ _
-      (branch-complete b (fixedTo σ k i) _ (Derives b σ below) _ _ hb (σ k) a.0.1.0)
+      (branch-complete b (fixed_to σ k i) _ (Derives b σ below) _ _ hb (σ k) a.0.1.0)
       hl ch.0 q g c
       (record { begins = ch.1; state = ch.2; branches = rewrites-branch k i own below q a.0.0 a.0.1 a.0.2; goes = (qs, ch.3, a.1) })
       h
@@ -212,82 +212,82 @@ module _ (b : Book) (σ : ℕ → ℕ) where
   accepts-cover nil own = λ g c d h. empty-cover g c d.0 d.1 d.2
     where
       empty-cover : (g c : ℕ) (qs : List ℕ) → Chain b g qs → AcceptsRow b σ nil qs → scored σ nil ≤ best b nil g c
-      empty-cover g c [] ch a = complete b σ (λ k. record { state = 0; loadRule = 0; rowRule = 0 }) nil g c ch zero-le
+      empty-cover g c [] ch a = complete b σ (λ k. record { state = 0; load_rule = 0; row_rule = 0 }) nil g c ch zero-le
       empty-cover g c (q ∷ qs) ch a = absurd a
   accepts-cover (node k i below later) own = λ g c d h.
       derives-cover k i own.0 below later (accepts-cover below own.1) (accepts-cover later own.2) g c d.0 d.1 d.2 h
 
-  accepts-cell : (f : Forest) → OwnKinds f → Rooted f → Accepts b σ f → scored σ (fixed σ f) ≤ bestTree b (fixed σ f) 0
-  unfolding fixed bestTree scored
+  accepts-cell : (f : Forest) → OwnKinds f → Rooted f → Accepts b σ f → scored σ (fixed σ f) ≤ best_tree b (fixed σ f) 0
+  unfolding fixed best_tree scored
   accepts-cell nil own o a = absurd a
   accepts-cell (node k i below nil) own o a =
-      rw (⊕-empty (score (fixedTo σ k i) (σ k) ⊕ scored σ (fixed σ below)))
-      (le_trans (branch-complete b (fixedTo σ k i) (best b (fixed σ below)) (Derives b σ below) _ _ (accepts-cover below own.1) (σ k) a.3.0 a.0 0
+      rw (⊕-empty (score (fixed_to σ k i) (σ k) ⊕ scored σ (fixed σ below)))
+      (le_trans (branch-complete b (fixed_to σ k i) (best b (fixed σ below)) (Derives b σ below) _ _ (accepts-cover below own.1) (σ k) a.3.0 a.0 0
       (rewrites-branch k i own.0 below a.0 a.2 a.3 a.4)
       (omega (arith, counted-zero (σ k), fixed-drawn σ σ below)))
-      (start-bound b (fixedTo σ k i) (best b (fixed σ below)) 0 a.0 a.1))
+      (start-bound b (fixed_to σ k i) (best b (fixed σ below)) 0 a.0 a.1))
   accepts-cell (node k i below (node k' i' below' later')) own o a = absurd o
 
   -- a run is accepted
-  run-rewrites : (k : ℕ) (i : Item) → OwnKind i → (below : ℕ → Type 0) (n q : ℕ) → BranchRun b (σ k) n i below q → letterFor (rule b.loadRules n) ≡ letterOf i (σ k)
-  run-rewrites k i own below n q r = serves-letter i own (rule b.loadRules n) (σ k) r.mark r.serves
+  run-rewrites : (k : ℕ) (i : Item) → OwnKind i → (below : ℕ → Type 0) (n q : ℕ) → BranchRun b (σ k) n i below q → letter_for (rule b.load_rules n) ≡ letter_of i (σ k)
+  run-rewrites k i own below n q r = serves-letter i own (rule b.load_rules n) (σ k) r.mark r.serves
 
   run-derives : (ρ : ℕ → Assigned) (f : Forest) → OwnKinds f → (g : ℕ) → Run b σ ρ f g → Derives b σ f g
   run-derives ρ nil own g r = ([], r, tt)
   run-derives ρ (node k i below later) own g r =
-      let d = run-derives ρ below own.1 (rule b.loadRules (ρ k).loadRule).to r.branches.runs in
-      let l = run-derives ρ later own.2 (rule b.rowRules (ρ k).rowRule).to r.goes in (
+      let d = run-derives ρ below own.1 (rule b.load_rules (ρ k).load_rule).to r.branches.runs in
+      let l = run-derives ρ later own.2 (rule b.row_rules (ρ k).row_rule).to r.goes in (
         (ρ k).state ∷ l.0,
-        ((ρ k).rowRule, r.begins, r.state, l.1),
-        ((d.0, ((ρ k).loadRule, r.branches.begins, run-rewrites k i own.0 (Run b σ ρ below) (ρ k).loadRule (ρ k).state r.branches, d.1), d.2), l.2),
+        ((ρ k).row_rule, r.begins, r.state, l.1),
+        ((d.0, ((ρ k).load_rule, r.branches.begins, run-rewrites k i own.0 (Run b σ ρ below) (ρ k).load_rule (ρ k).state r.branches, d.1), d.2), l.2),
       )
 
   run-accepts : (ρ : ℕ → Assigned) (f : Forest) → OwnKinds f → TreeRun b σ ρ f → Accepts b σ f
   run-accepts ρ nil own r = r
   run-accepts ρ (node k i below later) own r =
-      let d = run-derives ρ below own.1 (rule b.loadRules (ρ k).loadRule).to r.2.runs in
-      ((ρ k).state, r.0, d.0, ((ρ k).loadRule, r.2.begins, run-rewrites k i own.0 (Run b σ ρ below) (ρ k).loadRule (ρ k).state r.2, d.1), d.2)
+      let d = run-derives ρ below own.1 (rule b.load_rules (ρ k).load_rule).to r.2.runs in
+      ((ρ k).state, r.0, d.0, ((ρ k).load_rule, r.2.begins, run-rewrites k i own.0 (Run b σ ρ below) (ρ k).load_rule (ρ k).state r.2, d.1), d.2)
 
 module _ (t : Tables) (o : IsTree t.loads) (σ : ℕ → ℕ) where
   -- the entries that the check finds are a run of the forest for the check
-  check_sound : 0 < bestCheck t σ
-      → TreeRun t.book (marksOf (check t σ)) (assignedBy (check t σ)) (fixed σ (tree_of t))
-      × (scored (marksOf (check t σ)) (fixed σ (tree_of t)) ≡ bestCheck t σ)
-  unfolding bestCheck check
+  check_sound : 0 < best_check t σ
+      → TreeRun t.book (marks_of (check t σ)) (assigned_by (check t σ)) (fixed σ (tree_of t))
+      × (scored (marks_of (check t σ)) (fixed σ (tree_of t)) ≡ best_check t σ)
+  unfolding best_check check
   check_sound h =
-      let s = tree-sound t.book (marksOf (check t σ)) (assignedBy (check t σ)) (tree (checked σ) t.loads) (tree-rooted (checked σ) t.loads) 0 h (check-follows t o σ) in
+      let s = tree-sound t.book (marks_of (check t σ)) (assigned_by (check t σ)) (tree (checked σ) t.loads) (tree-rooted (checked σ) t.loads) 0 h (check-follows t o σ) in
       rw (fixed-tree σ t.loads) (s.0, s.2)
 
   -- and so a run of the set
-  pub check-run : 0 < bestCheck t σ → TreeRun t.book σ (assignedBy (check t σ)) (tree_of t)
-  check-run h = unfix-tree t.book σ (marksOf (check t σ)) (assignedBy (check t σ)) (tree_of t) (check_sound h).0
+  pub check-run : 0 < best_check t σ → TreeRun t.book σ (assigned_by (check t σ)) (tree_of t)
+  check-run h = unfix-tree t.book σ (marks_of (check t σ)) (assigned_by (check t σ)) (tree_of t) (check_sound h).0
 
   -- in which every load has its mark
-  pub check-marks : 0 < bestCheck t σ → (n : ℕ) → 0 < n → n ≤ length t.loads → marksOf (check t σ) n ≡ σ n
+  pub check-marks : 0 < best_check t σ → (n : ℕ) → 0 < n → n ≤ length t.loads → marks_of (check t σ) n ≡ σ n
   check-marks h n a l =
-      fixed-tree-agree t.book σ (marksOf (check t σ)) (assignedBy (check t σ)) (tree_of t) (tree-rooted planned t.loads) (check_sound h).0
+      fixed-tree-agree t.book σ (marks_of (check t σ)) (assigned_by (check t σ)) (tree_of t) (tree-rooted planned t.loads) (check_sound h).0
       n (omega (arith, tree-occurs t.book planned t.loads o 0 n a l))
 
   -- it finds one where the automaton accepts
-  pub check-finds : Accepted t σ → 0 < bestCheck t σ
-  unfolding bestCheck
+  pub check-finds : Accepted t σ → 0 < best_check t σ
+  unfolding best_check
   check-finds a =
       let some = accepts-cell t.book σ (tree_of t) (tree-kinds t.loads) (tree-rooted planned t.loads) a in
       rw (← (fixed-tree σ t.loads)) (lt_of_lt_of_le (cell-pos 0 0 (omega arith)) (rw (fixed-scored σ σ (tree_of t)) at some))
 
   pub allowed-accepted : Allowed t σ ↔ Accepted t σ
-  allowed-accepted = (λ a. run-accepts t.book σ a.0 (tree_of t) (tree-kinds t.loads) a.1, λ a. (assignedBy (check t σ), check-run (check-finds a)))
+  allowed-accepted = (λ a. run-accepts t.book σ a.0 (tree_of t) (tree-kinds t.loads) a.1, λ a. (assigned_by (check t σ), check-run (check-finds a)))
 
-  pub check-allowed : (0 < bestCheck t σ) ↔ Accepted t σ
-  check-allowed = (λ h. allowed-accepted.0 (assignedBy (check t σ), check-run h), check-finds)
+  pub check-allowed : (0 < best_check t σ) ↔ Accepted t σ
+  check-allowed = (λ h. allowed-accepted.0 (assigned_by (check t σ), check-run h), check-finds)
 
   -- the run is the lowest of the set's runs
-  pub check-lowest : 0 < bestCheck t σ → (ρ : ℕ → Assigned) → TreeRun t.book σ ρ (tree_of t)
-      → treeNumbers (marksOf (check t σ)) (assignedBy (check t σ)) (tree (checked σ) t.loads) ≼ treeNumbers σ ρ (tree (checked σ) t.loads)
-  unfolding bestCheck check
+  pub check-lowest : 0 < best_check t σ → (ρ : ℕ → Assigned) → TreeRun t.book σ ρ (tree_of t)
+      → tree_numbers (marks_of (check t σ)) (assigned_by (check t σ)) (tree (checked σ) t.loads) ≼ tree_numbers σ ρ (tree (checked σ) t.loads)
+  unfolding best_check check
   check-lowest h ρ r =
       let e = fixed-tree σ t.loads in
-      tree-lowest t.book (marksOf (check t σ)) (assignedBy (check t σ)) σ ρ (tree (checked σ) t.loads) (tree-rooted (checked σ) t.loads) 0 h (check-follows t o σ)
+      tree-lowest t.book (marks_of (check t σ)) (assigned_by (check t σ)) σ ρ (tree (checked σ) t.loads) (tree-rooted (checked σ) t.loads) 0 h (check-follows t o σ)
       (rw (← e) (fix-tree t.book σ ρ (tree_of t) r))
       (rw (← e) (le_of_eq (fixed-drawn σ σ (tree_of t))))
-      (ap (scored σ) (sym e) ∙ fixed-scored σ σ (tree_of t) ∙ sym (fixed-scored σ (marksOf (check t σ)) (tree_of t)) ∙ (check_sound h).1)
+      (ap (scored σ) (sym e) ∙ fixed-scored σ σ (tree_of t) ∙ sym (fixed-scored σ (marks_of (check t σ)) (tree_of t)) ∙ (check_sound h).1)

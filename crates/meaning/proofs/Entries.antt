@@ -15,7 +15,7 @@ use Rattle.tables.specs.declared.load.Load.{Load}
 use Rattle.meaning.specs.Forest.{Item, Forest, nil, node, planned, checked, tree, IsTree, total, sum}
 use Rattle.tables.specs.declared.entry.Entry.{Entry}
 use Rattle.meaning.specs.Best.{best}
-use Rattle.meaning.specs.Choice.{chooseBranch, choose, chooseTree, plan, check, noEntry, find, assigned, marksOf, assignedBy, Follows}
+use Rattle.meaning.specs.Choice.{choose_branch, choose, choose_tree, plan, check, no_entry, find, assigned, marks_of, assigned_by, Follows}
 use Rattle.meaning.proofs.Tree.{Rooted, tree-rooted, tree-total}
 
 -- how often a number occurs
@@ -46,7 +46,7 @@ follows-agree F G (e ∷ es) h f =
     )
 
 -- where no number occurs twice
-follows-own : (es : List Entry) → ((n : ℕ) → occurs n es ≤ 1) → Follows (marksOf es) (assignedBy es) es
+follows-own : (es : List Entry) → ((n : ℕ) → occurs n es ≤ 1) → Follows (marks_of es) (assigned_by es) es
 unfolding occurs
 follows-own [] h = tt
 follows-own (e ∷ es) h =
@@ -82,25 +82,25 @@ module _ (b : Book) (n : ℕ) where
   occurs-choose (node k i below later) = occurs-node k i below later (occurs-choose below) (occurs-choose later)
 
   occurs-branch : (k : ℕ) (i : Item) (below : Forest) (r q c : ℕ)
-      → occurs n (chooseBranch b k i (best b below) (choose b below) r q c) ≡ once n k + total (λ k i. once n k) below
+      → occurs n (choose_branch b k i (best b below) (choose b below) r q c) ≡ once n k + total (λ k i. once n k) below
   unfolding occurs
   occurs-branch k i below r q c = ap (λ x. once n k + x) (occurs-choose below _ _)
 
-  occurs-tree : (f : Forest) → Rooted f → (c : ℕ) → occurs n (chooseTree b f c) ≡ total (λ k i. once n k) f
-  unfolding chooseTree total occurs
+  occurs-tree : (f : Forest) → Rooted f → (c : ℕ) → occurs n (choose_tree b f c) ≡ total (λ k i. once n k) f
+  unfolding choose_tree total occurs
   occurs-tree nil o c = refl
   occurs-tree (node k i below nil) o c = simp (occurs-choose below) (omega arith)
   occurs-tree (node k i below (node k' i' below' later')) o c = absurd o
 
 -- the entries chosen for a row or a branch in which no number is that of two loads
 pub row-follows : (b : Book) (f : Forest) → ((n : ℕ) → total (λ k i. once n k) f ≤ 1) → (g c : ℕ)
-    → Follows (marksOf (choose b f g c)) (assignedBy (choose b f g c)) (choose b f g c)
+    → Follows (marks_of (choose b f g c)) (assigned_by (choose b f g c)) (choose b f g c)
 row-follows b f h g c = follows-own (choose b f g c) (λ n. omega (arith, h n, occurs-choose b n f g c))
 
 pub branch_follows : (b : Book) (k : ℕ) (i : Item) (below : Forest) → ((n : ℕ) → once n k + total (λ k i. once n k) below ≤ 1) → (r q c : ℕ)
-    → (let es = chooseBranch b k i (best b below) (choose b below) r q c in Follows (marksOf es) (assignedBy es) es)
+    → (let es = choose_branch b k i (best b below) (choose b below) r q c in Follows (marks_of es) (assigned_by es) es)
 branch_follows b k i below h r q c =
-    follows-own (chooseBranch b k i (best b below) (choose b below) r q c) (λ n. omega (arith, h n, occurs-branch b n k i below r q c))
+    follows-own (choose_branch b k i (best b below) (choose b below) r q c) (λ n. omega (arith, h n, occurs-branch b n k i below r q c))
 
 -- a number is that of at most one load
 sum_past : (n : ℕ) (ls : List Load) (k : ℕ) → n < k → sum (λ k l. once n k) ls k ≡ 0
@@ -145,33 +145,33 @@ find-number (e ∷ es) n h = go (eqb e.number n) refl (find-number es n)
     go true q ih = eqb-true _ _ q
     go false q ih = ih (omega (arith, ap (λ t. guard t 1) q))
 
-find_none : (es : List Entry) (n : ℕ) → occurs n es ≡ 0 → find es n ≡ noEntry
+find_none : (es : List Entry) (n : ℕ) → occurs n es ≡ 0 → find es n ≡ no_entry
 unfolding occurs find
 find_none [] n h = refl
 find_none (e ∷ es) n h = go (eqb e.number n) refl (find_none es n)
   where
-    go : (t : Bool) → eqb e.number n ≡ t → (occurs n es ≡ 0 → find es n ≡ noEntry) → cond t e (find es n) ≡ noEntry
+    go : (t : Bool) → eqb e.number n ≡ t → (occurs n es ≡ 0 → find es n ≡ no_entry) → cond t e (find es n) ≡ no_entry
     go true q ih = absurd (omega (arith, ap (λ t. guard t 1) q))
     go false q ih = ih (omega (arith, ap (λ t. guard t 1) q))
 
 -- the entries for a tree of n loads are found by their numbers 1 to n, and no others are
 pub record Listed (es : List Entry) (n : ℕ) : Type 0 where
   pub number : (k : ℕ) → 0 < k → k ≤ n → (find es k).number ≡ k
-  pub zeroth : find es 0 ≡ noEntry
-  pub past : (k : ℕ) → n < k → find es k ≡ noEntry
+  pub zeroth : find es 0 ≡ no_entry
+  pub past : (k : ℕ) → n < k → find es k ≡ no_entry
 
 -- the entries chosen for a tree of the loads list each load once
 module _ (b : Book) (item : ℕ → Load → Item) (ls : List Load) (o : IsTree ls) (c : ℕ) where
-  occurs-number : (n : ℕ) → occurs n (chooseTree b (tree item ls) c) ≡ sum (λ k l. once n k) ls 1
+  occurs-number : (n : ℕ) → occurs n (choose_tree b (tree item ls) c) ≡ sum (λ k l. once n k) ls 1
   occurs-number n = occurs-tree b n (tree item ls) (tree-rooted item ls) c ∙ tree-total item (λ k i. once n k) ls o
 
-  pub tree-follows : Follows (marksOf (chooseTree b (tree item ls) c)) (assignedBy (chooseTree b (tree item ls) c)) (chooseTree b (tree item ls) c)
-  tree-follows = follows-own (chooseTree b (tree item ls) c) (λ n. omega (arith, occurs-number n, sum-once n ls 1))
+  pub tree-follows : Follows (marks_of (choose_tree b (tree item ls) c)) (assigned_by (choose_tree b (tree item ls) c)) (choose_tree b (tree item ls) c)
+  tree-follows = follows-own (choose_tree b (tree item ls) c) (λ n. omega (arith, occurs-number n, sum-once n ls 1))
 
-  pub tree_lists : (n : ℕ) → 0 < n → n ≤ length ls → occurs n (chooseTree b (tree item ls) c) ≡ 1
+  pub tree_lists : (n : ℕ) → 0 < n → n ≤ length ls → occurs n (choose_tree b (tree item ls) c) ≡ 1
   tree_lists n h l = occurs-number n ∙ sum_one n ls 1 h (omega arith)
 
-  pub tree-listed : Listed (chooseTree b (tree item ls) c) (length ls)
+  pub tree-listed : Listed (choose_tree b (tree item ls) c) (length ls)
   tree-listed = record {
     number = λ n h l. find-number _ n (omega (arith, tree_lists n h l));
     zeroth = find_none _ 0 (occurs-number 0 ∙ sum_past 0 ls 1 (omega arith));
@@ -191,10 +191,10 @@ module _ (t : Tables) (o : IsTree t.loads) where
   unfolding check
   check-listed σ = tree-listed t.book (checked σ) t.loads o 0
 
-  pub plan-follows : Follows (marksOf (plan t)) (assignedBy (plan t)) (plan t)
+  pub plan-follows : Follows (marks_of (plan t)) (assigned_by (plan t)) (plan t)
   unfolding plan
   plan-follows = tree-follows t.book planned t.loads o t.budget
 
-  pub check-follows : (σ : ℕ → ℕ) → Follows (marksOf (check t σ)) (assignedBy (check t σ)) (check t σ)
+  pub check-follows : (σ : ℕ → ℕ) → Follows (marks_of (check t σ)) (assigned_by (check t σ)) (check t σ)
   unfolding check
   check-follows σ = tree-follows t.book (checked σ) t.loads o 0

@@ -12,8 +12,8 @@ use lib.ListN.{length, get_or, take, drop}
 use Rattle.lists.specs.Tests.{pick, some}
 use Rattle.lists.proofs.Bools.{or_left, or_right, same_test}
 use Rattle.tables.specs.declared.load.Load.{Load}
-use Rattle.tables.specs.Tables.{Book, Tables, noLoad}
-use Rattle.tables.specs.Changes.{isChild, hasChildren, fallen, reparented, remaining, dropLoad}
+use Rattle.tables.specs.Tables.{Book, Tables, no_load}
+use Rattle.tables.specs.Changes.{is_child, has_children, fallen, reparented, remaining, drop_load}
 use Rattle.tables.specs.Limits.{Limits}
 use Rattle.tables.specs.Lawful.{LoadFits, Lawful}
 use Rattle.tables.proofs.Lawful.{lawful}
@@ -21,15 +21,15 @@ use Rattle.tables.proofs.Removed.{fallen-value}
 use Rattle.tables.proofs.Keeps.{drop-load-keeps}
 use Rattle.meaning.specs.Forest.{Item, Forest, nil, node, planned, checked, row, tree, total, sum}
 use Rattle.meaning.specs.Runs.{Assigned, Starts, BranchRun, RowRun, Run, TreeRun}
-use Rattle.meaning.specs.Acceptance.{letterOf, Rewrites, AcceptsRow, Accepts}
+use Rattle.meaning.specs.Acceptance.{letter_of, Rewrites, AcceptsRow, Accepts}
 use Rattle.meaning.specs.Sets.{tree_of}
 use Rattle.meaning.specs.Cell.{draw, gain}
-use Rattle.meaning.specs.Best.{branchCell, rowCell, best, startFor, bestTree, bestPlan, bestCheck}
-use Rattle.meaning.specs.Order.{numbers, treeNumbers}
+use Rattle.meaning.specs.Best.{branch_cell, row_cell, best, start_for, best_tree, best_plan, best_check}
+use Rattle.meaning.specs.Order.{numbers, tree_numbers}
 use Rattle.meaning.proofs.Rows.{row-none}
 use Rattle.meaning.proofs.Ordered.{loads-ordered}
 use Rattle.meaning.proofs.Tree.{tree-total}
-use Rattle.meaning.specs.Leaving.{without, renumbered, before, risen, treeLeft, checkedLeft, Left}
+use Rattle.meaning.specs.Leaving.{without, renumbered, before, risen, tree_left, checked_left, Left}
 
 -- ---- the numbers after load k has left
 module _ (k : ℕ) where
@@ -56,25 +56,25 @@ module _ (k : ℕ) where
       (λ e. eq-eqb (fallen k m) (fallen k n) (ap (fallen k) (eqb-true m n e)))
 
   -- the loads numbered from j, without load k: by number, where `remaining` goes by place
-  remainingFrom : List Load → ℕ → List Load
-  remainingFrom [] j = []
-  remainingFrom (l ∷ ls) j = cond (eqb j k) (remainingFrom ls (suc j)) (reparented k l ∷ remainingFrom ls (suc j))
+  remaining_from : List Load → ℕ → List Load
+  remaining_from [] j = []
+  remaining_from (l ∷ ls) j = cond (eqb j k) (remaining_from ls (suc j)) (reparented k l ∷ remaining_from ls (suc j))
 
   -- after load k every load remains
-  from_past : (ls : List Load) (j : ℕ) → k < j → remainingFrom ls j ≡ map (reparented k) ls
-  unfolding remainingFrom
+  from_past : (ls : List Load) (j : ℕ) → k < j → remaining_from ls j ≡ map (reparented k) ls
+  unfolding remaining_from
   from_past [] j h = refl
   from_past (l ∷ ls) j h = rw (ne_eqb j k (omega arith)) (ap (λ r. reparented k l ∷ r) (from_past ls (suc j) (omega arith)))
 
   -- load k stands d places on
-  from_place : (d : ℕ) (ls : List Load) (j : ℕ) → j + d ≡ k → remainingFrom ls j ≡ map (reparented k) (take d ls ++ drop (suc d) ls)
-  unfolding remainingFrom
+  from_place : (d : ℕ) (ls : List Load) (j : ℕ) → j + d ≡ k → remaining_from ls j ≡ map (reparented k) (take d ls ++ drop (suc d) ls)
+  unfolding remaining_from
   from_place zero [] j e = refl
   from_place (suc d) [] j e = refl
   from_place zero (l ∷ ls) j e = rw (eq-eqb j k (omega arith)) (from_past ls (suc j) (omega arith))
   from_place (suc d) (l ∷ ls) j e = rw (ne_eqb j k (omega arith)) (ap (λ r. reparented k l ∷ r) (from_place d ls (suc j) (omega arith)))
 
-  remaining-from : 1 ≤ k → (ls : List Load) → remaining k ls ≡ remainingFrom ls 1
+  remaining-from : 1 ≤ k → (ls : List Load) → remaining k ls ≡ remaining_from ls 1
   unfolding remaining
   remaining-from one ls =
       let e : k ≡ suc (k - 1) = omega arith in
@@ -106,16 +106,16 @@ module _ (k j : ℕ) (i : Item) (below later : Forest) where
 
 module _ (k : ℕ) (item item' : ℕ → Load → Item) (same : (j : ℕ) (l : Load) → item' (fallen k j) (reparented k l) ≡ item j l) where
   -- the children of p after the drop are those that are left of the children of p, if neither p nor the parent of any load is load k
-  row_kept : (ls : List Load) (j p : ℕ) → eqb p k ≡ false → hasChildren k ls ≡ false
-      → row item' (remainingFrom k ls j) (fallen k j) (fallen k p) ≡ kept k (row item ls j p)
-  unfolding row remainingFrom renumbered without hasChildren some
+  row_kept : (ls : List Load) (j p : ℕ) → eqb p k ≡ false → has_children k ls ≡ false
+      → row item' (remaining_from k ls j) (fallen k j) (fallen k p) ≡ kept k (row item ls j p)
+  unfolding row remaining_from renumbered without has_children some
   row_kept [] j p a h = refl
   row_kept (l ∷ ls) j p a h =
-      let none = or_right (isChild k l) (hasChildren k ls) h in
+      let none = or_right (is_child k l) (has_children k ls) h in
       go (eqb j k) refl (λ e. row_kept ls (suc j) j e none) (row_kept ls (suc j) p a none)
     where
       rest : List Load
-      rest = remainingFrom k ls (suc j)
+      rest = remaining_from k ls (suc j)
 
       below : Forest
       below = row item ls (suc j) j
@@ -131,7 +131,7 @@ module _ (k : ℕ) (item item' : ℕ → Load → Item) (same : (j : ℕ) (l : L
           rw (
             without-node k j (item j l) below later e (eqb l.parent p),
             renumbered-node k j (item j l) (without k below) (without k later) (eqb l.parent p),
-            fallen-eqb k l.parent p (or_left (isChild k l) (hasChildren k ls) h) a,
+            fallen-eqb k l.parent p (or_left (is_child k l) (has_children k ls) h) a,
             same j l,
             ← fallen-suc k j e,
             f e,
@@ -140,7 +140,7 @@ module _ (k : ℕ) (item item' : ℕ → Load → Item) (same : (j : ℕ) (l : L
 
 -- ---- the tree is the row of the children of 0, which the root alone is
 module _ (item : ℕ → Load → Item) where
-  tree-row : (ls : List Load) → ((j : ℕ) → j < length ls → LoadFits (suc j) (get_or ls j noLoad)) → tree item ls ≡ row item ls 1 0
+  tree-row : (ls : List Load) → ((j : ℕ) → j < length ls → LoadFits (suc j) (get_or ls j no_load)) → tree item ls ≡ row item ls 1 0
   unfolding tree row
   tree-row [] h = refl
   tree-row (l ∷ ls) h = rw (eq-eqb l.parent 0 (omega (arith, (h 0 (omega arith)).parent)), row-none item ls 2 (loads-ordered (l ∷ ls) h))
@@ -156,12 +156,12 @@ module _ (k : ℕ) where
     renumbered-best : (f : Forest) → best b (renumbered k f) ≡ best b f
     unfolding renumbered best
     renumbered-best nil = refl
-    renumbered-best (node j i below later) = λ x g c. rowCell b (branchCell b i (renumbered-best below x)) (renumbered-best later x) g c
+    renumbered-best (node j i below later) = λ x g c. row_cell b (branch_cell b i (renumbered-best below x)) (renumbered-best later x) g c
 
-    renumbered-best-tree : (f : Forest) (c : ℕ) → bestTree b (renumbered k f) c ≡ bestTree b f c
-    unfolding renumbered bestTree
+    renumbered-best-tree : (f : Forest) (c : ℕ) → best_tree b (renumbered k f) c ≡ best_tree b f c
+    unfolding renumbered best_tree
     renumbered-best-tree nil c = refl
-    renumbered-best-tree (node j i below later) c = λ x. (startFor b i (renumbered-best below x) c).value
+    renumbered-best-tree (node j i below later) c = λ x. (start_for b i (renumbered-best below x) c).value
 
     module _ (σ : ℕ → ℕ) where
       renumbered-accepts-row : (f : Forest) (qs : List ℕ) → AcceptsRow b σ (renumbered k f) qs ≡ AcceptsRow b (before k σ) f qs
@@ -170,28 +170,28 @@ module _ (k : ℕ) where
       renumbered-accepts-row nil (q ∷ qs) = refl
       renumbered-accepts-row (node j i below later) [] = refl
       renumbered-accepts-row (node j i below later) (q ∷ qs) = λ x.
-          ((rs : List ℕ) × Rewrites b (letterOf i (σ (fallen k j))) q rs × renumbered-accepts-row below rs x) × renumbered-accepts-row later qs x
+          ((rs : List ℕ) × Rewrites b (letter_of i (σ (fallen k j))) q rs × renumbered-accepts-row below rs x) × renumbered-accepts-row later qs x
 
       renumbered-accepts : (f : Forest) → Accepts b σ (renumbered k f) ≡ Accepts b (before k σ) f
       unfolding renumbered
       renumbered-accepts nil = refl
       renumbered-accepts (node j i below later) = λ x.
-          (q : ℕ) × Starts b q × (qs : List ℕ) × Rewrites b (letterOf i (σ (fallen k j))) q qs × renumbered-accepts-row below qs x
+          (q : ℕ) × Starts b q × (qs : List ℕ) × Rewrites b (letter_of i (σ (fallen k j))) q qs × renumbered-accepts-row below qs x
 
       module _ (ρ : ℕ → Assigned) where
         renumbered-run : (f : Forest) → Run b σ ρ (renumbered k f) ≡ Run b (before k σ) (before k ρ) f
         unfolding renumbered
         renumbered-run nil = refl
         renumbered-run (node j i below later) = λ x.
-            RowRun b (ρ (fallen k j)).rowRule (ρ (fallen k j)).state
-            (BranchRun b (σ (fallen k j)) (ρ (fallen k j)).loadRule i (renumbered-run below x)) (renumbered-run later x)
+            RowRun b (ρ (fallen k j)).row_rule (ρ (fallen k j)).state
+            (BranchRun b (σ (fallen k j)) (ρ (fallen k j)).load_rule i (renumbered-run below x)) (renumbered-run later x)
 
         renumbered-tree-run : (f : Forest) → TreeRun b σ ρ (renumbered k f) ≡ TreeRun b (before k σ) (before k ρ) f
         unfolding renumbered
         renumbered-tree-run nil = refl
         renumbered-tree-run (node j i below later) = λ x.
-            Starts b (ρ (fallen k j)).state × ((ρ (fallen k j)).rowRule ≡ 0)
-            × BranchRun b (σ (fallen k j)) (ρ (fallen k j)).loadRule i (renumbered-run below x) (ρ (fallen k j)).state
+            Starts b (ρ (fallen k j)).state × ((ρ (fallen k j)).row_rule ≡ 0)
+            × BranchRun b (σ (fallen k j)) (ρ (fallen k j)).load_rule i (renumbered-run below x) (ρ (fallen k j)).state
 
   module _ (σ : ℕ → ℕ) (ρ : ℕ → Assigned) where
     renumbered-numbers : (f : Forest) → numbers σ ρ (renumbered k f) ≡ numbers (before k σ) (before k ρ) f
@@ -200,13 +200,13 @@ module _ (k : ℕ) where
     renumbered-numbers (node j i below later) =
         rw (renumbered-total (λ j i. draw i (σ j)) below, renumbered-numbers below, renumbered-numbers later)
 
-    renumbered-tree-numbers : (f : Forest) → treeNumbers σ ρ (renumbered k f) ≡ treeNumbers (before k σ) (before k ρ) f
-    unfolding renumbered treeNumbers
+    renumbered-tree-numbers : (f : Forest) → tree_numbers σ ρ (renumbered k f) ≡ tree_numbers (before k σ) (before k ρ) f
+    unfolding renumbered tree_numbers
     renumbered-tree-numbers nil = refl
     renumbered-tree-numbers (node j i below later) = rw (renumbered-numbers below)
 
 -- ---- the tables, before and after the drop
-module _ (t : Tables) (k : ℕ) (w : Lawful t) (w' : Lawful (dropLoad t k)) (one : 1 ≤ k) (none : hasChildren k t.loads ≡ false) where
+module _ (t : Tables) (k : ℕ) (w : Lawful t) (w' : Lawful (drop_load t k)) (one : 1 ≤ k) (none : has_children k t.loads ≡ false) where
   -- what the search knows of a load may go by its number: item by the number before the drop, item' by that after it
   tree-kept : (item item' : ℕ → Load → Item) → ((j : ℕ) (l : Load) → item' (fallen k j) (reparented k l) ≡ item j l)
       → tree item' (remaining k t.loads) ≡ kept k (tree item t.loads)
@@ -218,32 +218,32 @@ module _ (t : Tables) (k : ℕ) (w : Lawful t) (w' : Lawful (dropLoad t k)) (one
       ∙ rw (remaining-from k one t.loads) (rw (a, b) at r)
       ∙ ap (kept k) (sym (tree-row item t.loads w.load))
 
-  shape : tree_of (dropLoad t k) ≡ renumbered k (treeLeft t k)
+  shape : tree_of (drop_load t k) ≡ renumbered k (tree_left t k)
   shape = tree-kept planned planned (λ j l. refl)
 
-  checked-shape : (σ : ℕ → ℕ) → tree (checked σ) (remaining k t.loads) ≡ renumbered k (checkedLeft t k σ)
+  checked-shape : (σ : ℕ → ℕ) → tree (checked σ) (remaining k t.loads) ≡ renumbered k (checked_left t k σ)
   checked-shape σ = tree-kept (checked (before k σ)) (checked σ) (λ j l. refl)
 
   -- a sum over the loads after the drop is one over the tree that is left
-  figures : (figure : ℕ → Item → ℕ) → sum (λ j l. figure j (planned j l)) (remaining k t.loads) 1 ≡ total (λ j i. figure (fallen k j) i) (treeLeft t k)
+  figures : (figure : ℕ → Item → ℕ) → sum (λ j l. figure j (planned j l)) (remaining k t.loads) 1 ≡ total (λ j i. figure (fallen k j) i) (tree_left t k)
   figures figure =
       sym (tree-total planned figure (remaining k t.loads) (loads-ordered (remaining k t.loads) w'.load))
-      ∙ ap (total figure) shape ∙ renumbered-total k figure (treeLeft t k)
+      ∙ ap (total figure) shape ∙ renumbered-total k figure (tree_left t k)
 
   left-holds : Left t k
-  unfolding bestPlan bestCheck
+  unfolding best_plan best_check
   left-holds = record {
     shape = shape;
     back = fallen-back k;
-    accepted = λ σ. rw (shape, renumbered-accepts k t.book σ (treeLeft t k)) Iff.rfl;
-    runs = λ σ ρ. rw (shape, renumbered-tree-run k t.book σ ρ (treeLeft t k)) Iff.rfl;
+    accepted = λ σ. rw (shape, renumbered-accepts k t.book σ (tree_left t k)) Iff.rfl;
+    runs = λ σ ρ. rw (shape, renumbered-tree-run k t.book σ ρ (tree_left t k)) Iff.rfl;
     powers = λ σ. figures (λ j i. draw i (σ j));
     worths = λ σ. figures (λ j i. gain i (σ j));
-    parted = λ σ ρ. rw (shape, renumbered-tree-numbers k σ ρ (treeLeft t k));
-    plan = rw (shape, renumbered-best-tree k t.book (treeLeft t k) t.budget);
-    check = λ σ. rw (checked-shape σ, renumbered-best-tree k t.book (checkedLeft t k σ) 0);
-    checkParted = λ σ ρ. rw (checked-shape σ, renumbered-tree-numbers k σ ρ (checkedLeft t k σ));
+    parted = λ σ ρ. rw (shape, renumbered-tree-numbers k σ ρ (tree_left t k));
+    plan = rw (shape, renumbered-best-tree k t.book (tree_left t k) t.budget);
+    check = λ σ. rw (checked-shape σ, renumbered-best-tree k t.book (checked_left t k σ) 0);
+    check_parted = λ σ ρ. rw (checked-shape σ, renumbered-tree-numbers k σ ρ (checked_left t k σ));
   }
 
-pub left : (t : Tables) → Limits t → (k : ℕ) → 1 ≤ k → k ≤ length t.loads → hasChildren k t.loads ≡ false → Left t k
-left t h k one most none = left-holds t k (lawful t h) (lawful (dropLoad t k) (drop-load-keeps t h k one most none)) one none
+pub left : (t : Tables) → Limits t → (k : ℕ) → 1 ≤ k → k ≤ length t.loads → has_children k t.loads ≡ false → Left t k
+left t h k one most none = left-holds t k (lawful t h) (lawful (drop_load t k) (drop-load-keeps t h k one most none)) one none

@@ -8,17 +8,17 @@ use native.Mathlib.Omega.{arith}
 use borrow.Author.Tests.{lt-ltb, le-ltb}
 use lib.ListN.{length, get_or, drop}
 use Rattle.tables.specs.declared.load.Load.{Load}
-use Rattle.tables.specs.Tables.{Tables, noLoad}
+use Rattle.tables.specs.Tables.{Tables, no_load}
 use Rattle.tables.specs.Limits.{Limits}
 use Rattle.tables.specs.Lawful.{Lawful}
 use Rattle.tables.proofs.Lawful.{lawful}
-use Rattle.meaning.specs.Forest.{Item, node, planned, row, tree, rowAfter, row_at, IsTree, total, sum}
+use Rattle.meaning.specs.Forest.{Item, node, planned, row, tree, row_after, row_at, IsTree, total, sum}
 use Rattle.meaning.specs.Runs.{Assigned, Run}
-use Rattle.meaning.specs.Cell.{cell, powerLimit, ◌⊕◌, score, drawn, gained, scored}
-use Rattle.meaning.specs.Best.{best, branchCell}
-use Rattle.meaning.specs.Choice.{chooseBranch, choose, marksOf, assignedBy}
-use Rattle.meaning.specs.Cells.{cells_of, loadAt, rowCells, branchCells, place_in, cellIn, Holding}
-use Rattle.meaning.specs.Portions.{Part, branchOf, row_of, Within, BestSet, BestOf, InOrder, CellBest, BestHeld, CellsBest}
+use Rattle.meaning.specs.Cell.{cell, power_limit, ◌⊕◌, score, drawn, gained, scored}
+use Rattle.meaning.specs.Best.{best, branch_cell}
+use Rattle.meaning.specs.Choice.{choose_branch, choose, marks_of, assigned_by}
+use Rattle.meaning.specs.Cells.{cells_of, load_at, row_cells, branch_cells, place_in, cell_in, Holding}
+use Rattle.meaning.specs.Portions.{Part, branch_of, row_of, Within, BestSet, BestOf, InOrder, CellBest, BestHeld, CellsBest}
 use Rattle.meaning.proofs.Cell.{cell-pos, cell-le, cell-cooler, ⊕-empty}
 use Rattle.meaning.proofs.Tree.{row-after}
 use Rattle.meaning.proofs.Ordered.{loads-ordered}
@@ -36,7 +36,7 @@ record Found (p : Part) (c v : ℕ) : Type 0 where
   scores : scored set p.loads ≡ v
 
 -- no run within the allowance scores more than v, and some run scores v, if it is not 0
-module _ (p : Part) (c v : ℕ) (small : c < powerLimit)
+module _ (p : Part) (c v : ℕ) (small : c < power_limit)
     (bound : (σ : ℕ → ℕ) (ρ : ℕ → Assigned) → p.Runs σ ρ → drawn σ p.loads ≤ c → scored σ p.loads ≤ v)
     (found : 0 < v → Found p c v) where
   abbrev power : (ℕ → ℕ) → ℕ
@@ -45,7 +45,7 @@ module _ (p : Part) (c v : ℕ) (small : c < powerLimit)
   abbrev worth : (ℕ → ℕ) → ℕ
   worth σ = gained σ p.loads
 
-  less : (σ : ℕ → ℕ) → Within p c σ → power σ < powerLimit
+  less : (σ : ℕ → ℕ) → Within p c σ → power σ < power_limit
   less σ w = omega (arith, w.fits, small)
 
   most : (σ : ℕ → ℕ) → Within p c σ → cell (power σ) (worth σ) ≤ v
@@ -93,18 +93,18 @@ module _ (p : Part) (c v : ℕ) (small : c < powerLimit)
 
 -- ---- the loads of a row
 -- each is in it once
-row-once : (item : ℕ → Load → Item) (ls : List Load) → IsTree ls → (j : ℕ) → (get_or ls j noLoad).parent ≤ j
+row-once : (item : ℕ → Load → Item) (ls : List Load) → IsTree ls → (j : ℕ) → (get_or ls j no_load).parent ≤ j
     → (n : ℕ) → total (λ k i. once n k) (row_at item ls (suc j)) ≤ 1
 unfolding total sum
 row-once item ls o j low n =
     omega (
       arith,
-      rows-le item (λ k i. once n k) (drop (suc j) ls) j (get_or ls j noLoad).parent (ordered-after ls o j) low,
-      sum-once n (noLoad ∷ drop (suc j) ls) (suc j),
+      rows-le item (λ k i. once n k) (drop (suc j) ls) j (get_or ls j no_load).parent (ordered-after ls o j) low,
+      sum-once n (no_load ∷ drop (suc j) ls) (suc j),
     )
 
 -- load 1 is the only load of its row
-root-alone : (ls : List Load) → IsTree ls → (get_or ls 0 noLoad).parent ≤ 0 → 0 < length ls → row_at planned ls 1 ≡ tree planned ls
+root-alone : (ls : List Load) → IsTree ls → (get_or ls 0 no_load).parent ≤ 0 → 0 < length ls → row_at planned ls 1 ≡ tree planned ls
 unfolding tree
 root-alone [] o low h = absurd (omega arith)
 root-alone (l ∷ ls) o low h =
@@ -116,64 +116,64 @@ module _ (t : Tables) (w : Lawful t) where
   o : IsTree t.loads
   o = loads-ordered t.loads w.load
 
-  within-limit : (c : ℕ) → c ≤ t.budget → c < powerLimit
+  within-limit : (c : ℕ) → c ≤ t.budget → c < power_limit
   within-limit c h = omega (arith, w.budget)
 
-  low : (j : ℕ) → j < length t.loads → (get_or t.loads j noLoad).parent ≤ j
+  low : (j : ℕ) → j < length t.loads → (get_or t.loads j no_load).parent ≤ j
   low j few = omega (arith, (w.load j few).parent)
 
-  row-best : (j g c : ℕ) → j < length t.loads → c ≤ t.budget → BestOf (row_of t (suc j) g) c (rowCells t.book planned t.loads (suc j) g c)
-  unfolding rowCells
+  row-best : (j g c : ℕ) → j < length t.loads → c ≤ t.budget → BestOf (row_of t (suc j) g) c (row_cells t.book planned t.loads (suc j) g c)
+  unfolding row_cells
   row-best j g c few h =
       let b = t.book in
       let f = row_at planned t.loads (suc j) in
       let es = choose b f g c in
       best_of (row_of t (suc j) g) c (best b f g c) (within-limit c h) (λ σ ρ r d. complete b σ ρ f g c r d)
       (λ l.
-      let s = sound b (marksOf es) (assignedBy es) f g c l (row-follows b f (row-once planned t.loads o j (low j few)) g c) in
-      record { set = marksOf es; within = record { allowed = (assignedBy es, s.0); fits = s.1 }; scores = s.2 })
+      let s = sound b (marks_of es) (assigned_by es) f g c l (row-follows b f (row-once planned t.loads o j (low j few)) g c) in
+      record { set = marks_of es; within = record { allowed = (assigned_by es, s.0); fits = s.1 }; scores = s.2 })
 
   -- the row below a load is that from its first child onward
-  branch-cells : (j q c : ℕ) → branchCells t.book planned t.loads (suc j) q c
-      ≡ branchCell t.book (planned (suc j) (loadAt t.loads (suc j))) (best t.book (rowAfter planned t.loads (suc j) (suc j))) q c
-  unfolding branchCells rowCells
+  branch-cells : (j q c : ℕ) → branch_cells t.book planned t.loads (suc j) q c
+      ≡ branch_cell t.book (planned (suc j) (load_at t.loads (suc j))) (best t.book (row_after planned t.loads (suc j) (suc j))) q c
+  unfolding branch_cells row_cells
   branch-cells j q c = rw (row-after planned t.loads (suc j) (suc j))
 
-  branch-once : (j : ℕ) → j < length t.loads → (n : ℕ) → once n (suc j) + total (λ k i. once n k) (rowAfter planned t.loads (suc j) (suc j)) ≤ 1
+  branch-once : (j : ℕ) → j < length t.loads → (n : ℕ) → once n (suc j) + total (λ k i. once n k) (row_after planned t.loads (suc j) (suc j)) ≤ 1
   unfolding total
   branch-once j few n = omega (arith, row-once planned t.loads o j (low j few) n)
 
   branch-best : (j q c : ℕ) → j < length t.loads → c ≤ t.budget
-      → BestOf (branchOf t (suc j) q) c (branchCells t.book planned t.loads (suc j) q c)
+      → BestOf (branch_of t (suc j) q) c (branch_cells t.book planned t.loads (suc j) q c)
   unfolding total scored
   branch-best j q c few h =
       let b = t.book in
       let k = suc j in
-      let i = planned k (loadAt t.loads k) in
-      let below = rowAfter planned t.loads k k in
-      let es = chooseBranch b k i (best b below) (choose b below) 0 q c in
+      let i = planned k (load_at t.loads k) in
+      let below = row_after planned t.loads k k in
+      let es = choose_branch b k i (best b below) (choose b below) 0 q c in
       rw (branch-cells j q c)
-      (best_of (branchOf t k q) c (branchCell b i (best b below) q c) (within-limit c h)
+      (best_of (branch_of t k q) c (branch_cell b i (best b below) q c) (within-limit c h)
       (λ σ ρ r d.
       rw (⊕-empty (score i (σ k) ⊕ scored σ below))
-      (branch-complete b i (best b below) (Run b σ ρ below) (drawn σ below) (scored σ below) (complete b σ ρ below) (σ k) (ρ k).loadRule q c r.1 (omega arith)))
+      (branch-complete b i (best b below) (Run b σ ρ below) (drawn σ below) (scored σ below) (complete b σ ρ below) (σ k) (ρ k).load_rule q c r.1 (omega arith)))
       (λ l.
-      let σ = marksOf es in
-      let ρ = assignedBy es in
+      let σ = marks_of es in
+      let ρ = assigned_by es in
       let s = branch-sound b σ ρ k i (best b below) (choose b below) (Run b σ ρ below) (drawn σ below) (scored σ below) (sound b σ ρ below)
       0 q c l (branch_follows b k i below (branch-once j few) 0 q c) in
       record { set = σ; within = record { allowed = (ρ, (s.state, s.run)); fits = omega (arith, s.fits) }; scores = ⊕-empty _ ∙ s.scores }))
 
-  branches : (k q c : ℕ) → 0 < k → k ≤ length t.loads → c ≤ t.budget → BestOf (branchOf t k q) c (branchCells t.book planned t.loads k q c)
+  branches : (k q c : ℕ) → 0 < k → k ≤ length t.loads → c ≤ t.budget → BestOf (branch_of t k q) c (branch_cells t.book planned t.loads k q c)
   branches zero q c pos few h = absurd (omega arith)
   branches (suc j) q c pos few h = branch-best j q c few h
 
-  rows : (k g c : ℕ) → 0 < k → k ≤ length t.loads → c ≤ t.budget → BestOf (row_of t k g) c (rowCells t.book planned t.loads k g c)
+  rows : (k g c : ℕ) → 0 < k → k ≤ length t.loads → c ≤ t.budget → BestOf (row_of t k g) c (row_cells t.book planned t.loads k g c)
   rows zero g c pos few h = absurd (omega arith)
   rows (suc j) g c pos few h = row-best j g c few h
 
-  cells : (k x c : ℕ) → 0 < k → k ≤ length t.loads → c ≤ t.budget → CellBest t k x c (cellIn t k x c)
-  unfolding cellIn
+  cells : (k x c : ℕ) → 0 < k → k ≤ length t.loads → c ≤ t.budget → CellBest t k x c (cell_in t k x c)
+  unfolding cell_in
   cells k x c pos few h =
       record {
         branch = λ l. rw (lt-ltb x t.book.states l) (branches k (suc x) c pos few h);

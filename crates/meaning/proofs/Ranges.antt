@@ -11,13 +11,13 @@ use Rattle.lists.proofs.Argmax.{argmax-within}
 use Rattle.tables.specs.declared.rule.Sort.{Sort}
 use Rattle.tables.specs.declared.rule.Sort.TheVariants as sort
 use Rattle.tables.specs.declared.rule.Transition.{Transition}
-use Rattle.tables.specs.Tables.{Tables, noRule, rulesFor}
-use Rattle.tables.specs.Limits.{maxStates, maxRules, rangeFor}
+use Rattle.tables.specs.Tables.{Tables, no_rule, rules_for}
+use Rattle.tables.specs.Limits.{max_states, max_rules, range_for}
 use Rattle.tables.specs.Lawful.{Lawful}
 use Rattle.meaning.specs.Forest.{Item, Forest, nil, node, planned, checked, tree}
-use Rattle.meaning.specs.Runs.{ruleAt}
+use Rattle.meaning.specs.Runs.{rule_at}
 use Rattle.tables.specs.declared.entry.Entry.{Entry}
-use Rattle.meaning.specs.Choice.{choose, chooseTree, plan, check, noEntry, find}
+use Rattle.meaning.specs.Choice.{choose, choose_tree, plan, check, no_entry, find}
 
 -- a property of each entry
 data All (P : Entry → Type 0) : List Entry → Type 0 where
@@ -28,7 +28,7 @@ all_append : {P : Entry → Type 0} {xs ys : List Entry} → All P xs → All P 
 all_append done g = g
 all_append (more h f) g = more h (all_append f g)
 
-all-find : (P : Entry → Type 0) → P noEntry → (es : List Entry) (n : ℕ) → All P es → P (find es n)
+all-find : (P : Entry → Type 0) → P no_entry → (es : List Entry) (n : ℕ) → All P es → P (find es n)
 unfolding find
 all-find P z [] n done = z
 all-find P z (e ∷ es) n (more h f) = go (eqb e.number n) (all-find P z es n f)
@@ -40,25 +40,25 @@ all-find P z (e ∷ es) n (more h f) = go (eqb e.number n) (all-find P z es n f)
 -- the figures of an entry
 pub record Bounded (e : Entry) : Type 0 where
   pub mark : e.mark ≤ 1
-  pub state : e.state ≤ maxStates
-  pub rule : e.rule ≤ maxRules
-  pub row : e.row ≤ maxRules
+  pub state : e.state ≤ max_states
+  pub rule : e.rule ≤ max_rules
+  pub row : e.row ≤ max_rules
 
 module _ (t : Tables) (w : Lawful t) where
   -- the label of every rule is in its range, and so is that of the rule of zeros
-  label-most : (k : Sort) (j : ℕ) → (ruleAt (rulesFor t.book k) j).label ≤ (rangeFor t.book k).high
-  label-most k = at_every (λ j (r : Transition). r.label ≤ (rangeFor t.book k).high) noRule (rulesFor t.book k) (λ j. zero-le) (λ j l. (w.rule k j l).gives.1)
+  label-most : (k : Sort) (j : ℕ) → (rule_at (rules_for t.book k) j).label ≤ (range_for t.book k).high
+  label-most k = at_every (λ j (r : Transition). r.label ≤ (range_for t.book k).high) no_rule (rules_for t.book k) (λ j. zero-le) (λ j l. (w.rule k j l).gives.1)
 
-  bounded : (k q j r : ℕ) → q ≤ maxStates → suc j ≤ maxRules → r ≤ maxRules
-      → Bounded (record { number = k; mark = (ruleAt t.book.loadRules j).label; state = q; rule = suc j; row = r })
+  bounded : (k q j r : ℕ) → q ≤ max_states → suc j ≤ max_rules → r ≤ max_rules
+      → Bounded (record { number = k; mark = (rule_at t.book.load_rules j).label; state = q; rule = suc j; row = r })
   bounded k q j r a d e = record { mark = label-most sort.Load j; state = a; rule = d; row = e }
 
   abbrev BoundedFrom : Forest → Type 0
   BoundedFrom f = (g c : ℕ) → All Bounded (choose t.book f g c)
 
   -- the number of the rule chosen among those of a sort
-  numbered : (k : Sort) (f : ℕ → ℕ) → (argmax f (length (rulesFor t.book k))).index < maxRules
-  numbered k f = argmax-within f (length (rulesFor t.book k)) maxRules (w.rules k) (lit≤ tt)
+  numbered : (k : Sort) (f : ℕ → ℕ) → (argmax f (length (rules_for t.book k))).index < max_rules
+  numbered k f = argmax-within f (length (rules_for t.book k)) max_rules (w.rules k) (lit≤ tt)
 
   bounded-node : (k : ℕ) (i : Item) (below later : Forest) → BoundedFrom below → BoundedFrom later → BoundedFrom (node k i below later)
   unfolding choose
@@ -70,13 +70,13 @@ module _ (t : Tables) (w : Lawful t) where
   bounded-choose nil = λ g c. done
   bounded-choose (node k i below later) = bounded-node k i below later (bounded-choose below) (bounded-choose later)
 
-  bounded-tree : (f : Forest) (c : ℕ) → All Bounded (chooseTree t.book f c)
-  unfolding chooseTree
+  bounded-tree : (f : Forest) (c : ℕ) → All Bounded (choose_tree t.book f c)
+  unfolding choose_tree
   bounded-tree nil c = done
   bounded-tree (node k i below later) c =
-      more (bounded k _ _ 0 (argmax-within _ t.book.states maxStates w.states (lit≤ tt)) (numbered sort.Load _) zero-le) (bounded-choose below _ _)
+      more (bounded k _ _ 0 (argmax-within _ t.book.states max_states w.states (lit≤ tt)) (numbered sort.Load _) zero-le) (bounded-choose below _ _)
 
-none-bounded : Bounded noEntry
+none-bounded : Bounded no_entry
 none-bounded = record { mark = zero-le; state = zero-le; rule = zero-le; row = zero-le }
 
 pub plan-bounded : (t : Tables) → Lawful t → (n : ℕ) → Bounded (find (plan t) n)

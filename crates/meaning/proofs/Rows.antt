@@ -14,10 +14,10 @@ use Rattle.tables.specs.declared.load.Load.{Load}
 use Rattle.meaning.specs.Forest.{Item, nil, row, Ordered, total, sum, first, after}
 use Rattle.meaning.proofs.Tree.{sum_to, rows-total}
 
-sumTo-term : (f : ℕ → ℕ) (n p : ℕ) → 0 < p → p ≤ n → f p ≤ sum_to f n
+sum_to-term : (f : ℕ → ℕ) (n p : ℕ) → 0 < p → p ≤ n → f p ≤ sum_to f n
 unfolding sum_to
-sumTo-term f zero p h l = absurd (omega arith)
-sumTo-term f (suc n) p h l = go (sumTo-term f n p h) (eq-or-lt_of_le l)
+sum_to-term f zero p h l = absurd (omega arith)
+sum_to-term f (suc n) p h l = go (sum_to-term f n p h) (eq-or-lt_of_le l)
   where
     go : (p ≤ n → f p ≤ sum_to f n) → (p ≡ suc n) ⊎ (p < suc n) → f p ≤ sum_to f n + f (suc n)
     go ih (inl e) = rw e (omega arith)
@@ -37,7 +37,7 @@ module _ (item : ℕ → Load → Item) (w : ℕ → Item → ℕ) where
   -- a row is at most all the loads after its start
   pub row-le : (ls : List Load) (k p : ℕ) → Ordered ls (suc k) → p ≤ k → total w (row item ls (suc k) p) ≤ sum (λ k l. w k (item k l)) ls (suc k)
   row-le ls k zero o l = omega (arith, row-root ls (suc k) o)
-  row-le ls k (suc p) o l = omega (arith, sumTo-term (λ p. total w (row item ls (suc k) p)) k (suc p) (omega arith) l, rows-total item w ls k o)
+  row-le ls k (suc p) o l = omega (arith, sum_to-term (λ p. total w (row item ls (suc k) p)) k (suc p) (omega arith) l, rows-total item w ls k o)
 
   -- the rows of load j and of one before it are together at most all the loads after j
   pub rows-le : (ls : List Load) (j p : ℕ) → Ordered ls (suc (suc j)) → p ≤ j
@@ -45,7 +45,7 @@ module _ (item : ℕ → Load → Item) (w : ℕ → Item → ℕ) where
   unfolding sum_to
   rows-le ls j zero o l = omega (arith, row-root ls (suc (suc j)) o, row-le ls (suc j) (suc j) o (omega arith))
   rows-le ls j (suc p) o l =
-      omega (arith, sumTo-term (λ p. total w (row item ls (suc (suc j)) p)) j (suc p) (omega arith) l, rows-total item w ls (suc j) o)
+      omega (arith, sum_to-term (λ p. total w (row item ls (suc (suc j)) p)) j (suc p) (omega arith) l, rows-total item w ls (suc j) o)
 
 -- f is no number, or one of the n numbers from k on
 abbrev pub NoneOrFrom : (k n f : ℕ) → Type 0

@@ -14,8 +14,8 @@ use lib.ListN.{length, get_or, drop_of_length-le}
 use lib.Seq.{drop-cons}
 use Rattle.lists.specs.Argmax.{guard}
 use Rattle.tables.specs.declared.load.Load.{Load}
-use Rattle.tables.specs.Tables.{noLoad}
-use Rattle.meaning.specs.Forest.{Item, Forest, nil, node, row, tree, Ordered, IsTree, total, sum, first, after, rowAfter, row_at}
+use Rattle.tables.specs.Tables.{no_load}
+use Rattle.meaning.specs.Forest.{Item, Forest, nil, node, row, tree, Ordered, IsTree, total, sum, first, after, row_after, row_at}
 
 -- a tree: at most one root
 abbrev pub Rooted : Forest → Type 0
@@ -33,31 +33,31 @@ unfoldable pub sum_to : (ℕ → ℕ) → ℕ → ℕ
 sum_to f zero = 0
 sum_to f (suc n) = sum_to f n + f (suc n)
 
-sumTo-zero : (f : ℕ → ℕ) (n : ℕ) → ((p : ℕ) → f p ≡ 0) → sum_to f n ≡ 0
+sum_to-zero : (f : ℕ → ℕ) (n : ℕ) → ((p : ℕ) → f p ≡ 0) → sum_to f n ≡ 0
 unfolding sum_to
-sumTo-zero f zero h = refl
-sumTo-zero f (suc n) h = omega (arith, sumTo-zero f n h, h (suc n))
+sum_to-zero f zero h = refl
+sum_to-zero f (suc n) h = omega (arith, sum_to-zero f n h, h (suc n))
 
-sumTo-add : (f g h : ℕ → ℕ) (n : ℕ) → ((p : ℕ) → f p ≡ g p + h p) → sum_to f n ≡ sum_to g n + sum_to h n
+sum_to-add : (f g h : ℕ → ℕ) (n : ℕ) → ((p : ℕ) → f p ≡ g p + h p) → sum_to f n ≡ sum_to g n + sum_to h n
 unfolding sum_to
-sumTo-add f g h zero e = refl
-sumTo-add f g h (suc n) e = omega (arith, sumTo-add f g h n e, e (suc n))
+sum_to-add f g h zero e = refl
+sum_to-add f g h (suc n) e = omega (arith, sum_to-add f g h n e, e (suc n))
 
 -- only the number q counts
-sumTo-past : (q x n : ℕ) → n < q → sum_to (λ p. guard (eqb q p) x) n ≡ 0
+sum_to-past : (q x n : ℕ) → n < q → sum_to (λ p. guard (eqb q p) x) n ≡ 0
 unfolding sum_to
-sumTo-past q x zero h = refl
-sumTo-past q x (suc n) h =
-    omega (arith, sumTo-past q x n (omega arith), ap (λ t. guard t x) (ne_eqb q (suc n) (λ e. absurd (omega arith))))
+sum_to-past q x zero h = refl
+sum_to-past q x (suc n) h =
+    omega (arith, sum_to-past q x n (omega arith), ap (λ t. guard t x) (ne_eqb q (suc n) (λ e. absurd (omega arith))))
 
-sumTo-pick : (q x n : ℕ) → 0 < q → q ≤ n → sum_to (λ p. guard (eqb q p) x) n ≡ x
+sum_to-pick : (q x n : ℕ) → 0 < q → q ≤ n → sum_to (λ p. guard (eqb q p) x) n ≡ x
 unfolding sum_to
-sumTo-pick q x zero h k = absurd (omega arith)
-sumTo-pick q x (suc n) h k = go (sumTo-pick q x n h) (eq-or-lt_of_le k)
+sum_to-pick q x zero h k = absurd (omega arith)
+sum_to-pick q x (suc n) h k = go (sum_to-pick q x n h) (eq-or-lt_of_le k)
   where
     go : (q ≤ n → sum_to (λ p. guard (eqb q p) x) n ≡ x) → (q ≡ suc n) ⊎ (q < suc n)
         → sum_to (λ p. guard (eqb q p) x) n + guard (eqb q (suc n)) x ≡ x
-    go ih (inl e) = omega (arith, sumTo-past q x n (omega arith), ap (λ t. guard t x) (eq-eqb q (suc n) e))
+    go ih (inl e) = omega (arith, sum_to-past q x n (omega arith), ap (λ t. guard t x) (eq-eqb q (suc n) e))
     go ih (inr l) = omega (arith, ih (omega arith), ap (λ t. guard t x) (ne_eqb q (suc n) (λ e. absurd (omega arith))))
 
 module _ (item : ℕ → Load → Item) (w : ℕ → Item → ℕ) where
@@ -74,14 +74,14 @@ module _ (item : ℕ → Load → Item) (w : ℕ → Item → ℕ) where
   pub rows-total : (ls : List Load) (k : ℕ) → Ordered ls (suc k)
       → sum_to (λ p. total w (row item ls (suc k) p)) k ≡ sum (λ k l. w k (item k l)) ls (suc k)
   unfolding row total sum sum_to
-  rows-total [] k o = sumTo-zero _ k (λ p. refl)
+  rows-total [] k o = sum_to-zero _ k (λ p. refl)
   rows-total (l ∷ ls) k o =
       omega (
         arith,
-        sumTo-add (λ p. total w (row item (l ∷ ls) (suc k) p))
+        sum_to-add (λ p. total w (row item (l ∷ ls) (suc k) p))
             (λ p. guard (eqb l.parent p) (w (suc k) (item (suc k) l) + total w (row item ls (suc (suc k)) (suc k))))
             (λ p. total w (row item ls (suc (suc k)) p)) k (row-total l ls (suc k)),
-        sumTo-pick l.parent (w (suc k) (item (suc k) l) + total w (row item ls (suc (suc k)) (suc k))) k o.0 (omega arith),
+        sum_to-pick l.parent (w (suc k) (item (suc k) l) + total w (row item ls (suc (suc k)) (suc k))) k o.0 (omega arith),
         rows-total ls (suc k) o.2,
       )
 
@@ -97,32 +97,32 @@ module _ (ls : List Load) (j p : ℕ) where
   unfolding first after
   after-end h = rw (drop_of_length-le ls h)
 
-  pub after-here : j < length ls → (get_or ls j noLoad).parent ≡ p → after ls j p ≡ suc j
+  pub after-here : j < length ls → (get_or ls j no_load).parent ≡ p → after ls j p ≡ suc j
   unfolding first after
-  after-here h e = rw (drop-cons ls j noLoad h, eq-eqb _ _ e)
+  after-here h e = rw (drop-cons ls j no_load h, eq-eqb _ _ e)
 
-  pub after-skip : j < length ls → ((get_or ls j noLoad).parent ≡ p → ⊥) → after ls j p ≡ after ls (suc j) p
+  pub after-skip : j < length ls → ((get_or ls j no_load).parent ≡ p → ⊥) → after ls j p ≡ after ls (suc j) p
   unfolding first after
-  after-skip h e = rw (drop-cons ls j noLoad h, ne_eqb _ _ e)
+  after-skip h e = rw (drop-cons ls j no_load h, ne_eqb _ _ e)
 
 module _ (item : ℕ → Load → Item) (ls : List Load) (p : ℕ) where
-  row_from : (n j : ℕ) → length ls ≤ j + n → rowAfter item ls j p ≡ row_at item ls (after ls j p)
+  row_from : (n j : ℕ) → length ls ≤ j + n → row_after item ls j p ≡ row_at item ls (after ls j p)
   unfolding row first after
   row_from zero j h = rw (after-end ls j p (omega arith), drop_of_length-le ls {i = j} (omega arith))
   row_from (suc n) j h = go (row_from n (suc j) (omega arith)) (dec_lt j (length ls))
     where
-      here : rowAfter item ls (suc j) p ≡ row_at item ls (after ls (suc j) p) → (t : Bool) → eqb (get_or ls j noLoad).parent p ≡ t
-          → cond t (node (suc j) (item (suc j) (get_or ls j noLoad)) (rowAfter item ls (suc j) (suc j)) (rowAfter item ls (suc j) p)) (rowAfter item ls (suc j) p)
+      here : row_after item ls (suc j) p ≡ row_at item ls (after ls (suc j) p) → (t : Bool) → eqb (get_or ls j no_load).parent p ≡ t
+          → cond t (node (suc j) (item (suc j) (get_or ls j no_load)) (row_after item ls (suc j) (suc j)) (row_after item ls (suc j) p)) (row_after item ls (suc j) p)
           ≡ row_at item ls (cond t (suc j) (after ls (suc j) p))
       here ih true e =
-          ap (λ (q : ℕ). node (suc j) (item (suc j) (get_or ls j noLoad)) (rowAfter item ls (suc j) (suc j)) (rowAfter item ls (suc j) q)) (sym (eqb-true _ _ e))
+          ap (λ (q : ℕ). node (suc j) (item (suc j) (get_or ls j no_load)) (row_after item ls (suc j) (suc j)) (row_after item ls (suc j) q)) (sym (eqb-true _ _ e))
       here ih false e = ih
 
-      go : rowAfter item ls (suc j) p ≡ row_at item ls (after ls (suc j) p) → Dec (j < length ls)
-          → rowAfter item ls j p ≡ row_at item ls (after ls j p)
-      go ih (yes l) = rw (after, drop-cons ls j noLoad l) (here ih _ refl)
+      go : row_after item ls (suc j) p ≡ row_at item ls (after ls (suc j) p) → Dec (j < length ls)
+          → row_after item ls j p ≡ row_at item ls (after ls j p)
+      go ih (yes l) = rw (after, drop-cons ls j no_load l) (here ih _ refl)
       go ih (no l) = rw (after-end ls j p (omega arith), drop_of_length-le ls {i = j} (omega arith))
 
   -- a row of children is the row from the first of them onward
-  pub row-after : (j : ℕ) → rowAfter item ls j p ≡ row_at item ls (after ls j p)
+  pub row-after : (j : ℕ) → row_after item ls j p ≡ row_at item ls (after ls j p)
   row-after j = row_from (length ls) j (omega arith)

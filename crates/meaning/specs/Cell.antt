@@ -7,16 +7,16 @@ use Rattle.meaning.specs.Forest.{Item, Forest, nil, node, total}
 use Rattle.meaning.specs.Sets.{counted}
 
 -- more than any budget: the laws of cells are for sets that draw less
-abbrev pub powerLimit : ℕ
-powerLimit = 512
+abbrev pub power_limit : ℕ
+power_limit = 512
 
 -- the cell of a set with this power and worth: the greater cell is the better set, worth first, then less power
 unfoldable pub cell : (power worth : ℕ) → ℕ
-cell p v = v * powerLimit + powerLimit - p
+cell p v = v * power_limit + power_limit - p
 
 -- the cells of sets that are worth v or more, and of no others, exceed this
 unfoldable pub floor : (worth : ℕ) → ℕ
-floor v = v * powerLimit
+floor v = v * power_limit
 
 abbrev pub empty : ℕ
 empty = cell 0 0

@@ -5,43 +5,43 @@
 -- Assumes nothing.
 use Rattle.std.specs.Prelude.{ℕ, zero, suc, ◌+◌, ◌-◌, ◌*◌, ◌≤◌, ◌<◌, ◌≡◌, cond, List, ltb, length, get_or}
 use Rattle.tables.specs.declared.load.Load.{Load}
-use Rattle.tables.specs.Tables.{Book, Tables, noLoad}
+use Rattle.tables.specs.Tables.{Book, Tables, no_load}
 use Rattle.meaning.specs.Forest.{Item, planned, after, row_at}
-use Rattle.meaning.specs.Best.{best, branchCell}
+use Rattle.meaning.specs.Best.{best, branch_cell}
 use Rattle.tables.specs.declared.entry.Entry.{Entry}
-use Rattle.meaning.specs.Choice.{choose, chooseBranch}
+use Rattle.meaning.specs.Choice.{choose, choose_branch}
 
 -- how many a plan needs
 unfoldable pub cells_of : Tables → ℕ
 cells_of t = length t.loads * (t.book.states + t.book.stages) * (t.budget + 1)
 
 -- load k, numbered from 1
-abbrev pub loadAt : List Load → ℕ → Load
-loadAt ls zero = noLoad
-loadAt ls (suc j) = get_or ls j noLoad
+abbrev pub load_at : List Load → ℕ → Load
+load_at ls zero = no_load
+load_at ls (suc j) = get_or ls j no_load
 
 -- the first child of load k, and the next child of its parent; 0 for none
-abbrev pub firstChild : List Load → ℕ → ℕ
-firstChild ls k = after ls k k
+abbrev pub first_child : List Load → ℕ → ℕ
+first_child ls k = after ls k k
 
-abbrev pub nextSibling : List Load → ℕ → ℕ
-nextSibling ls k = after ls k (loadAt ls k).parent
+abbrev pub next_sibling : List Load → ℕ → ℕ
+next_sibling ls k = after ls k (load_at ls k).parent
 
 module _ (b : Book) (item : ℕ → Load → Item) (ls : List Load) where
   -- by stage and allowance
-  unfoldable pub rowCells : ℕ → ℕ → ℕ → ℕ
-  rowCells k = best b (row_at item ls k)
+  unfoldable pub row_cells : ℕ → ℕ → ℕ → ℕ
+  row_cells k = best b (row_at item ls k)
 
   -- by state and allowance
-  unfoldable pub branchCells : ℕ → ℕ → ℕ → ℕ
-  branchCells k = branchCell b (item k (loadAt ls k)) (rowCells (firstChild ls k))
+  unfoldable pub branch_cells : ℕ → ℕ → ℕ → ℕ
+  branch_cells k = branch_cell b (item k (load_at ls k)) (row_cells (first_child ls k))
 
   -- the entries of the row from load k onward, and of load k's branch
-  unfoldable pub rowEntries : ℕ → ℕ → ℕ → List Entry
-  rowEntries k = choose b (row_at item ls k)
+  unfoldable pub row_entries : ℕ → ℕ → ℕ → List Entry
+  row_entries k = choose b (row_at item ls k)
 
-  unfoldable pub branchEntries : ℕ → (rowRule q c : ℕ) → List Entry
-  branchEntries k = chooseBranch b k (item k (loadAt ls k)) (rowCells (firstChild ls k)) (rowEntries (firstChild ls k))
+  unfoldable pub branch_entries : ℕ → (row_rule q c : ℕ) → List Entry
+  branch_entries k = choose_branch b k (item k (load_at ls k)) (row_cells (first_child ls k)) (row_entries (first_child ls k))
 
 -- ---- in the work
 -- "The order is loads from last to first, states then stages, allowances upward; so they stand in the work from its start.": where the cells of load k and
@@ -51,12 +51,12 @@ place_in t k x = ((length t.loads - k) * (t.book.states + t.book.stages) + x) * 
 
 -- "There is a cell for each load, state and allowance, and one for each load, stage and allowance, the latter for the row from that load onward": what it
 -- is to hold
-unfoldable pub cellIn : Tables → (k x a : ℕ) → ℕ
-cellIn t k x a =
+unfoldable pub cell_in : Tables → (k x a : ℕ) → ℕ
+cell_in t k x a =
     let s = t.book.states in
-    cond (ltb x s) (branchCells t.book planned t.loads k (suc x) a) (rowCells t.book planned t.loads k (suc (x - s)) a)
+    cond (ltb x s) (branch_cells t.book planned t.loads k (suc x) a) (row_cells t.book planned t.loads k (suc (x - s)) a)
 
 -- the first n cells of the work hold what they are to hold
 pub record Holding (t : Tables) (w : List ℕ) (n : ℕ) : Type 0 where
   pub at : (k x a : ℕ) → 0 < k → k ≤ length t.loads → x < t.book.states + t.book.stages → a ≤ t.budget
-      → place_in t k x + a < n → get_or w (place_in t k x + a) 0 ≡ cellIn t k x a
+      → place_in t k x + a < n → get_or w (place_in t k x + a) 0 ≡ cell_in t k x a

@@ -4,7 +4,7 @@
 use Rattle.std.specs.Prelude.{ℕ, zero, suc, ◌+◌, ◌<◌, Bool, cond, ◌&&◌, List, [], ◌∷◌, eqb, get_or, drop}
 use Rattle.tables.specs.declared.rule.Transition.{Transition}
 use Rattle.tables.specs.declared.load.Load.{Load}
-use Rattle.tables.specs.Tables.{noLoad}
+use Rattle.tables.specs.Tables.{no_load}
 
 -- what counts of a load in a search (an item of document 000's problem): its figures, its kind, and which load rules serve it
 pub record Item : Type 0 where
@@ -18,11 +18,11 @@ abbrev pub planned : ℕ → Load → Item
 planned k l = record { power = l.power; worth = l.worth; kind = l.kind; serves = λ t. eqb t.kind l.kind }
 
 -- checking a set σ, the mark of each load by its number: no figure counts, and of the rules that serve, those with the load's mark
-abbrev pub fixedTo : (ℕ → ℕ) → ℕ → Item → Item
-fixedTo σ k i = record { power = 0; worth = 0; kind = i.kind; serves = λ t. i.serves t && eqb t.label (σ k) }
+abbrev pub fixed_to : (ℕ → ℕ) → ℕ → Item → Item
+fixed_to σ k i = record { power = 0; worth = 0; kind = i.kind; serves = λ t. i.serves t && eqb t.label (σ k) }
 
 abbrev pub checked : (ℕ → ℕ) → ℕ → Load → Item
-checked σ k l = fixedTo σ k (planned k l)
+checked σ k l = fixed_to σ k (planned k l)
 
 -- a row of children from some child onward: that child with its number, the children below it, and the later children of its row
 pub data Forest : Type 0 where
@@ -51,14 +51,14 @@ after ls j p = first (drop j ls) (suc j) p
 
 module _ (item : ℕ → Load → Item) (ls : List Load) where
   -- the children of load p after load j
-  abbrev pub rowAfter : ℕ → ℕ → Forest
-  rowAfter j p = row item (drop j ls) (suc j) p
+  abbrev pub row_after : ℕ → ℕ → Forest
+  row_after j p = row item (drop j ls) (suc j) p
 
   -- the row from load k onward; load 0 stands for no load
   abbrev pub row_at : ℕ → Forest
   row_at zero = nil
   row_at (suc j) =
-      node (suc j) (item (suc j) (get_or ls j noLoad)) (rowAfter (suc j) (suc j)) (rowAfter (suc j) (get_or ls j noLoad).parent)
+      node (suc j) (item (suc j) (get_or ls j no_load)) (row_after (suc j) (suc j)) (row_after (suc j) (get_or ls j no_load).parent)
 
 -- "each later load has a parent with a smaller number": the loads numbered from k
 abbrev pub Ordered : List Load → ℕ → Type 0

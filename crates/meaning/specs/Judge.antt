@@ -5,38 +5,38 @@ use Rattle.std.specs.Prelude.{ℕ, zero, suc, Bool, false, ◌&&◌, List, ltb, 
 use Rattle.tables.specs.declared.rule.Transition.{Transition}
 use Rattle.tables.specs.Tables.{Book}
 use Rattle.meaning.specs.Forest.{Item, Forest, nil, node}
-use Rattle.meaning.specs.Runs.{isStart, isEnd, ruleAt, rule, Assigned}
+use Rattle.meaning.specs.Runs.{is_start, is_end, rule_at, rule, Assigned}
 
 -- is n the number of a rule that begins at x?
 abbrev pub begins : List Transition → ℕ → ℕ → Bool
 begins ts zero x = false
-begins ts (suc j) x = ltb j (length ts) && eqb (ruleAt ts j).from x
+begins ts (suc j) x = ltb j (length ts) && eqb (rule_at ts j).from x
 
 -- is q the number of a start state?
 abbrev pub starts : Book → ℕ → Bool
 starts b zero = false
-starts b (suc s) = ltb s b.states && isStart b (suc s)
+starts b (suc s) = ltb s b.states && is_start b (suc s)
 
 module _ (b : Book) (ρ : ℕ → Assigned) where
   -- a load's branch is judged through its row, ..
-  abbrev pub judgeBranch : ℕ → Item → (below : ℕ → Bool) → ℕ → Bool
-  judgeBranch k i below q =
-      let r = rule b.loadRules (ρ k).loadRule in
-      begins b.loadRules (ρ k).loadRule q && (i.serves r && below r.to)
+  abbrev pub judge_branch : ℕ → Item → (below : ℕ → Bool) → ℕ → Bool
+  judge_branch k i below q =
+      let r = rule b.load_rules (ρ k).load_rule in
+      begins b.load_rules (ρ k).load_rule q && (i.serves r && below r.to)
 
   -- .. and a row through its branches
   unfoldable pub judge : Forest → ℕ → Bool
-  judge nil g = isEnd b g
+  judge nil g = is_end b g
   judge (node k i below later) g =
-      let r = rule b.rowRules (ρ k).rowRule in
-      begins b.rowRules (ρ k).rowRule g && (eqb r.label (ρ k).state && (judgeBranch k i (judge below) (ρ k).state && judge later r.to))
+      let r = rule b.row_rules (ρ k).row_rule in
+      begins b.row_rules (ρ k).row_rule g && (eqb r.label (ρ k).state && (judge_branch k i (judge below) (ρ k).state && judge later r.to))
 
   -- "The root's state is a start state"; its row rule is 0
-  unfoldable pub judgeTree : Forest → Bool
-  judgeTree nil = false
-  judgeTree (node k i below later) =
-      starts b (ρ k).state && (eqb (ρ k).rowRule 0 && judgeBranch k i (judge below) (ρ k).state)
+  unfoldable pub judge_tree : Forest → Bool
+  judge_tree nil = false
+  judge_tree (node k i below later) =
+      starts b (ρ k).state && (eqb (ρ k).row_rule 0 && judge_branch k i (judge below) (ρ k).state)
 
   -- "The run's set is the loads whose load rule has mark 1."
-  abbrev pub ownMarks : ℕ → ℕ
-  ownMarks k = (rule b.loadRules (ρ k).loadRule).label
+  abbrev pub own_marks : ℕ → ℕ
+  own_marks k = (rule b.load_rules (ρ k).load_rule).label

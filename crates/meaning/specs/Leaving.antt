@@ -4,14 +4,14 @@
 use Rattle.std.specs.Prelude.{ℕ, suc, ◌≡◌, cond, ◌↔◌, eqb, ltb}
 use Rattle.lists.specs.Tests.{pick}
 use Rattle.tables.specs.Tables.{Tables}
-use Rattle.tables.specs.Changes.{fallen, dropLoad}
+use Rattle.tables.specs.Changes.{fallen, drop_load}
 use Rattle.meaning.specs.Forest.{Forest, nil, node, checked, tree}
 use Rattle.meaning.specs.Runs.{Assigned, TreeRun}
 use Rattle.meaning.specs.Acceptance.{Accepts}
 use Rattle.meaning.specs.Sets.{tree_of, power, worth, Accepted}
 use Rattle.meaning.specs.Cell.{drawn, gained}
-use Rattle.meaning.specs.Best.{bestTree, bestPlan, bestCheck}
-use Rattle.meaning.specs.Order.{treeNumbers}
+use Rattle.meaning.specs.Best.{best_tree, best_plan, best_check}
+use Rattle.meaning.specs.Order.{tree_numbers}
 
 -- a forest without its leaf k: the later children of its row follow on
 unfoldable pub without : ℕ → Forest → Forest
@@ -32,23 +32,23 @@ abbrev pub risen : (k number : ℕ) → ℕ
 risen k n = pick (ltb n k) n (suc n)
 
 -- the tree of the tables without load k, as a plan and as a check of a set looks at it; by the numbers before
-abbrev pub treeLeft : Tables → ℕ → Forest
-treeLeft t k = without k (tree_of t)
+abbrev pub tree_left : Tables → ℕ → Forest
+tree_left t k = without k (tree_of t)
 
-abbrev pub checkedLeft : Tables → ℕ → (ℕ → ℕ) → Forest
-checkedLeft t k σ = without k (tree (checked (before k σ)) t.loads)
+abbrev pub checked_left : Tables → ℕ → (ℕ → ℕ) → Forest
+checked_left t k σ = without k (tree (checked (before k σ)) t.loads)
 
 -- the tables after load k has left have the tree that is left, with new numbers; and acceptance, runs, figures, what equals are parted by and
 -- the best of a plan and of a check are those of the tree that is left
 pub record Left (t : Tables) (k : ℕ) : Type 0 where
-  pub shape : tree_of (dropLoad t k) ≡ renumbered k (treeLeft t k)
+  pub shape : tree_of (drop_load t k) ≡ renumbered k (tree_left t k)
   -- every number but k comes back, so each set and assignment of the tree that is left is one of the tables after
   pub back : (j : ℕ) → (j ≡ k → ⊥) → risen k (fallen k j) ≡ j
-  pub accepted : (σ : ℕ → ℕ) → Accepted (dropLoad t k) σ ↔ Accepts t.book (before k σ) (treeLeft t k)
-  pub runs : (σ : ℕ → ℕ) (ρ : ℕ → Assigned) → TreeRun t.book σ ρ (tree_of (dropLoad t k)) ↔ TreeRun t.book (before k σ) (before k ρ) (treeLeft t k)
-  pub powers : (σ : ℕ → ℕ) → power (dropLoad t k) σ ≡ drawn (before k σ) (treeLeft t k)
-  pub worths : (σ : ℕ → ℕ) → worth (dropLoad t k) σ ≡ gained (before k σ) (treeLeft t k)
-  pub parted : (σ : ℕ → ℕ) (ρ : ℕ → Assigned) → treeNumbers σ ρ (tree_of (dropLoad t k)) ≡ treeNumbers (before k σ) (before k ρ) (treeLeft t k)
-  pub plan : bestPlan (dropLoad t k) ≡ bestTree t.book (treeLeft t k) t.budget
-  pub check : (σ : ℕ → ℕ) → bestCheck (dropLoad t k) σ ≡ bestTree t.book (checkedLeft t k σ) 0
-  pub checkParted : (σ : ℕ → ℕ) (ρ : ℕ → Assigned) → treeNumbers σ ρ (tree (checked σ) (dropLoad t k).loads) ≡ treeNumbers (before k σ) (before k ρ) (checkedLeft t k σ)
+  pub accepted : (σ : ℕ → ℕ) → Accepted (drop_load t k) σ ↔ Accepts t.book (before k σ) (tree_left t k)
+  pub runs : (σ : ℕ → ℕ) (ρ : ℕ → Assigned) → TreeRun t.book σ ρ (tree_of (drop_load t k)) ↔ TreeRun t.book (before k σ) (before k ρ) (tree_left t k)
+  pub powers : (σ : ℕ → ℕ) → power (drop_load t k) σ ≡ drawn (before k σ) (tree_left t k)
+  pub worths : (σ : ℕ → ℕ) → worth (drop_load t k) σ ≡ gained (before k σ) (tree_left t k)
+  pub parted : (σ : ℕ → ℕ) (ρ : ℕ → Assigned) → tree_numbers σ ρ (tree_of (drop_load t k)) ≡ tree_numbers (before k σ) (before k ρ) (tree_left t k)
+  pub plan : best_plan (drop_load t k) ≡ best_tree t.book (tree_left t k) t.budget
+  pub check : (σ : ℕ → ℕ) → best_check (drop_load t k) σ ≡ best_tree t.book (checked_left t k σ) 0
+  pub check_parted : (σ : ℕ → ℕ) (ρ : ℕ → Assigned) → tree_numbers σ ρ (tree (checked σ) (drop_load t k).loads) ≡ tree_numbers (before k σ) (before k ρ) (checked_left t k σ)

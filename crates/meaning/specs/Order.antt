@@ -18,9 +18,9 @@ module _ (σ : ℕ → ℕ) (ρ : ℕ → Assigned) where
   -- then the same of the children below it, then of the later children
   unfoldable pub numbers : Forest → List ℕ
   numbers nil = []
-  numbers (node k i below later) = (ρ k).rowRule ∷ (draw i (σ k) + drawn σ below) ∷ (ρ k).loadRule ∷ (numbers below ++ numbers later)
+  numbers (node k i below later) = (ρ k).row_rule ∷ (draw i (σ k) + drawn σ below) ∷ (ρ k).load_rule ∷ (numbers below ++ numbers later)
 
   -- of the root its start state and its load rule
-  unfoldable pub treeNumbers : Forest → List ℕ
-  treeNumbers nil = []
-  treeNumbers (node k i below later) = (ρ k).state ∷ (ρ k).loadRule ∷ numbers below
+  unfoldable pub tree_numbers : Forest → List ℕ
+  tree_numbers nil = []
+  tree_numbers (node k i below later) = (ρ k).state ∷ (ρ k).load_rule ∷ numbers below

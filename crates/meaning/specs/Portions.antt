@@ -5,11 +5,11 @@
 -- Assumes nothing.
 use Rattle.std.specs.Prelude.{ℕ, suc, ◌+◌, ◌-◌, ◌≤◌, ◌<◌, ◌≡◌, List, ◌↔◌, length, get_or}
 use Rattle.tables.specs.Tables.{Tables}
-use Rattle.meaning.specs.Forest.{Forest, nil, node, planned, rowAfter, row_at}
+use Rattle.meaning.specs.Forest.{Forest, nil, node, planned, row_after, row_at}
 use Rattle.meaning.specs.Runs.{Assigned, BranchRun, Run}
 use Rattle.meaning.specs.Sets.{tree_of}
 use Rattle.meaning.specs.Cell.{cell, drawn, gained}
-use Rattle.meaning.specs.Cells.{cells_of, loadAt, rowCells, branchCells, place_in, cellIn, Holding}
+use Rattle.meaning.specs.Cells.{cells_of, load_at, row_cells, branch_cells, place_in, cell_in, Holding}
 
 -- ---- branch and row
 -- a part of the tree: its loads, and which sets and assignments are a run of it
@@ -18,13 +18,13 @@ pub record Part : Type 1 where
   pub Runs : (ℕ → ℕ) → (ℕ → Assigned) → Type 0
 
 -- load k's branch: the load, in state q, and all loads below it
-abbrev pub branchOf : Tables → (k q : ℕ) → Part
-branchOf t k q =
-    let i = planned k (loadAt t.loads k) in
-    let below = rowAfter planned t.loads k k in
+abbrev pub branch_of : Tables → (k q : ℕ) → Part
+branch_of t k q =
+    let i = planned k (load_at t.loads k) in
+    let below = row_after planned t.loads k k in
     record {
       loads = node k i below nil;
-      Runs = λ σ ρ. ((ρ k).state ≡ q) × BranchRun t.book (σ k) (ρ k).loadRule i (Run t.book σ ρ below) q;
+      Runs = λ σ ρ. ((ρ k).state ≡ q) × BranchRun t.book (σ k) (ρ k).load_rule i (Run t.book σ ρ below) q;
     }
 
 -- "the row from that load onward", its row rules from stage g: load k and the later children of its parent, each with all loads below it
@@ -63,7 +63,7 @@ pub record InOrder (t : Tables) : Type 0 where
 
 -- v is what the cell of load k, of state or stage x and of allowance c is to hold; x counts from 0, states first
 pub record CellBest (t : Tables) (k x c v : ℕ) : Type 0 where
-  pub branch : x < t.book.states → BestOf (branchOf t k (suc x)) c v
+  pub branch : x < t.book.states → BestOf (branch_of t k (suc x)) c v
   pub row : t.book.states ≤ x → BestOf (row_of t k (suc (x - t.book.states))) c v
 
 -- "the filled cells hold .. the best of their branch or row": the first n cells of the work
@@ -73,11 +73,11 @@ pub record BestHeld (t : Tables) (w : List ℕ) (n : ℕ) : Type 0 where
 
 pub record CellsBest (t : Tables) : Type 0 where
   -- "a cell for each load, state and allowance"
-  pub branches : (k q c : ℕ) → 0 < k → k ≤ length t.loads → c ≤ t.budget → BestOf (branchOf t k q) c (branchCells t.book planned t.loads k q c)
+  pub branches : (k q c : ℕ) → 0 < k → k ≤ length t.loads → c ≤ t.budget → BestOf (branch_of t k q) c (branch_cells t.book planned t.loads k q c)
   -- "and one for each load, stage and allowance, the latter for the row from that load onward"
-  pub rows : (k g c : ℕ) → 0 < k → k ≤ length t.loads → c ≤ t.budget → BestOf (row_of t k g) c (rowCells t.book planned t.loads k g c)
+  pub rows : (k g c : ℕ) → 0 < k → k ≤ length t.loads → c ≤ t.budget → BestOf (row_of t k g) c (row_cells t.book planned t.loads k g c)
   -- "(load 1 is a row of itself)"
   pub root : 0 < length t.loads → row_at planned t.loads 1 ≡ tree_of t
   -- so each cell is the best of its branch or row, and a work that holds the cells holds these
-  pub cells : (k x c : ℕ) → 0 < k → k ≤ length t.loads → c ≤ t.budget → CellBest t k x c (cellIn t k x c)
+  pub cells : (k x c : ℕ) → 0 < k → k ≤ length t.loads → c ≤ t.budget → CellBest t k x c (cell_in t k x c)
   pub held : (w : List ℕ) (n : ℕ) → Holding t w n → BestHeld t w n

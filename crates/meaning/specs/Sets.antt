@@ -25,8 +25,8 @@ module _ (t : Tables) (σ : ℕ → ℕ) where
   worth = sum (λ k l. counted (σ k) l.worth) t.loads 1
 
   -- "n being the number of loads on"
-  abbrev pub numberOn : ℕ
-  numberOn = sum (λ k l. guard (eqb (σ k) 1) 1) t.loads 1
+  abbrev pub number_on : ℕ
+  number_on = sum (λ k l. guard (eqb (σ k) 1) 1) t.loads 1
 
   abbrev pub Allowed : Type 0
   Allowed = (ρ : ℕ → Assigned) × TreeRun t.book σ ρ (tree_of t)

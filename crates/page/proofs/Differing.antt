@@ -15,36 +15,36 @@ use Rattle.lines.specs.Text.{same}
 use Rattle.lines.proofs.Codes.{same_refl, same-is}
 use Rattle.page.specs.declared.stretch.Rows.{Rows}
 use Rattle.page.specs.declared.stretch.Part.{Part}
-use Rattle.page.specs.Rows.{rowCount, rowBytes, pageBytes}
-use Rattle.page.specs.Stretch.{row_at, differs, passing, no_rows, isPage, differing, place}
+use Rattle.page.specs.Rows.{row_count, row_bytes, page_bytes}
+use Rattle.page.specs.Stretch.{row_at, differs, passing, no_rows, is_page, differing, place}
 use Rattle.page.proofs.Rowwise.{passing-fits}
 
 -- ---- a row, byte for byte
-abbrev pub bytesSame : (glass drawn : List ℕ) → (row : ℕ) → (i : ℕ) → Bool
-bytesSame g d r i = eqb (get_or g (r * rowBytes + i) 0) (get_or d (r * rowBytes + i) 0)
+abbrev pub bytes_same : (glass drawn : List ℕ) → (row : ℕ) → (i : ℕ) → Bool
+bytes_same g d r i = eqb (get_or g (r * row_bytes + i) 0) (get_or d (r * row_bytes + i) 0)
 
-module _ (s : List ℕ) (r : ℕ) (h : r * rowBytes + rowBytes ≤ length s) where
-  at_length : length (row_at s r) ≡ rowBytes
+module _ (s : List ℕ) (r : ℕ) (h : r * row_bytes + row_bytes ≤ length s) where
+  at_length : length (row_at s r) ≡ row_bytes
   unfolding row_at
-  at_length = length-take-le rowBytes (drop (r * rowBytes) s) (omega (arith, length-drop (r * rowBytes) s))
+  at_length = length-take-le row_bytes (drop (r * row_bytes) s) (omega (arith, length-drop (r * row_bytes) s))
 
-  row-byte : (i : ℕ) → i < rowBytes → get_or (row_at s r) i 0 ≡ get_or s (r * rowBytes + i) 0
+  row-byte : (i : ℕ) → i < row_bytes → get_or (row_at s r) i 0 ≡ get_or s (r * row_bytes + i) 0
   unfolding row_at
-  row-byte i l = get_or-take rowBytes (drop (r * rowBytes) s) i 0 l ∙ get_or-drop (r * rowBytes) s i 0
+  row-byte i l = get_or-take row_bytes (drop (r * row_bytes) s) i 0 l ∙ get_or-drop (r * row_bytes) s i 0
 
-module _ (g d : List ℕ) (r : ℕ) (a : r * rowBytes + rowBytes ≤ length g) (b : r * rowBytes + rowBytes ≤ length d) where
-  pub row_same : all_below (bytesSame g d r) rowBytes ≡ same (row_at g r) (row_at d r)
+module _ (g d : List ℕ) (r : ℕ) (a : r * row_bytes + row_bytes ≤ length g) (b : r * row_bytes + row_bytes ≤ length d) where
+  pub row_same : all_below (bytes_same g d r) row_bytes ≡ same (row_at g r) (row_at d r)
   row_same = same_test _ _ to from
     where
-      to : all_below (bytesSame g d r) rowBytes ≡ true → same (row_at g r) (row_at d r) ≡ true
+      to : all_below (bytes_same g d r) row_bytes ≡ true → same (row_at g r) (row_at d r) ≡ true
       to h =
           let e : row_at g r ≡ row_at d r = ext_get_or 0 (row_at g r) (row_at d r) (at_length g r a ∙ sym (at_length d r b))
-          (λ i l. let m : i < rowBytes = omega (arith, l, at_length g r a) in
-          row-byte g r a i m ∙ eqb-true _ _ (below_at (bytesSame g d r) rowBytes i h m) ∙ sym (row-byte d r b i m)) in
+          (λ i l. let m : i < row_bytes = omega (arith, l, at_length g r a) in
+          row-byte g r a i m ∙ eqb-true _ _ (below_at (bytes_same g d r) row_bytes i h m) ∙ sym (row-byte d r b i m)) in
           rw e (same_refl (row_at d r))
 
-      from : same (row_at g r) (row_at d r) ≡ true → all_below (bytesSame g d r) rowBytes ≡ true
-      from h = below_all (bytesSame g d r) rowBytes (λ i m. eq-eqb _ _ (sym (row-byte g r a i m) ∙ ap (λ (x : List ℕ). get_or x i 0) (same-is (row_at g r) (row_at d r) h) ∙ row-byte d r b i m))
+      from : same (row_at g r) (row_at d r) ≡ true → all_below (bytes_same g d r) row_bytes ≡ true
+      from h = below_all (bytes_same g d r) row_bytes (λ i m. eq-eqb _ _ (sym (row-byte g r a i m) ∙ ap (λ (x : List ℕ). get_or x i 0) (same-is (row_at g r) (row_at d r) h) ∙ row-byte d r b i m))
 
 -- ---- the rows of two pages that are the same
 module _ (g d : List ℕ) where
@@ -55,23 +55,23 @@ module _ (g d : List ℕ) where
   not-differing i e = rw (e, same_refl (row_at d i))
 
   -- the rows before one
-  pub same-front : (k : ℕ) → ((i : ℕ) → i < k → row_at g i ≡ row_at d i) → take (k * rowBytes) g ≡ take (k * rowBytes) d
+  pub same-front : (k : ℕ) → ((i : ℕ) → i < k → row_at g i ≡ row_at d i) → take (k * row_bytes) g ≡ take (k * row_bytes) d
   unfolding row_at
   same-front zero f = refl
   same-front (suc k) f =
-      let e : suc k * rowBytes ≡ k * rowBytes + rowBytes = omega arith in
-      rw (e, take-add (k * rowBytes) rowBytes g, take-add (k * rowBytes) rowBytes d, same-front k (λ i l. f i (omega arith)), f k (omega arith))
+      let e : suc k * row_bytes ≡ k * row_bytes + row_bytes = omega arith in
+      rw (e, take-add (k * row_bytes) row_bytes g, take-add (k * row_bytes) row_bytes d, same-front k (λ i l. f i (omega arith)), f k (omega arith))
 
   -- the rows from one on, n of them being left
-  pub same_back : (n k : ℕ) → length g ≤ (k + n) * rowBytes → length d ≤ (k + n) * rowBytes → ((i : ℕ) → k ≤ i → i < k + n → row_at g i ≡ row_at d i)
-      → drop (k * rowBytes) g ≡ drop (k * rowBytes) d
+  pub same_back : (n k : ℕ) → length g ≤ (k + n) * row_bytes → length d ≤ (k + n) * row_bytes → ((i : ℕ) → k ≤ i → i < k + n → row_at g i ≡ row_at d i)
+      → drop (k * row_bytes) g ≡ drop (k * row_bytes) d
   unfolding row_at
-  same_back zero k a b f = drop_of_length-le g {i = k * rowBytes} (omega arith) ∙ sym (drop_of_length-le d {i = k * rowBytes} (omega arith))
+  same_back zero k a b f = drop_of_length-le g {i = k * row_bytes} (omega arith) ∙ sym (drop_of_length-le d {i = k * row_bytes} (omega arith))
   same_back (suc n) k a b f =
-      let e : k * rowBytes + rowBytes ≡ suc k * rowBytes = omega arith in
+      let e : k * row_bytes + row_bytes ≡ suc k * row_bytes = omega arith in
       let next = same_back n (suc k) (omega arith) (omega arith) (λ i l m. f i (omega arith) (omega arith)) in
-      sym (take-append-drop rowBytes (drop (k * rowBytes) g))
-      ∙ rw (f k (omega arith) (omega arith), drop-drop rowBytes (k * rowBytes) g, e, next, ← e, ← (drop-drop rowBytes (k * rowBytes) d)) (take-append-drop rowBytes (drop (k * rowBytes) d))
+      sym (take-append-drop row_bytes (drop (k * row_bytes) g))
+      ∙ rw (f k (omega arith) (omega arith), drop-drop row_bytes (k * row_bytes) g, e, next, ← e, ← (drop-drop row_bytes (k * row_bytes) d)) (take-append-drop row_bytes (drop (k * row_bytes) d))
 
 -- ---- the rows that differ, and where the stretch lies
 -- are both of 160 bytes, as the code tests it?
@@ -83,22 +83,22 @@ pub pages-good : (a b : Bool) → not a || not b ≡ false → (a ≡ true) × (
 pages-good a b e = (not-false a (or_left (not a) (not b) e), not-false b (or_right (not a) (not b) e))
 
 module _ (g d : List ℕ) where
-  pub rows_fit : {r : Rows} → r ≡ differing g d → (r.first ≤ r.end) × (r.end ≤ rowCount)
+  pub rows_fit : {r : Rows} → r ≡ differing g d → (r.first ≤ r.end) × (r.end ≤ row_count)
   unfolding differing
-  rows_fit e = rw e (go (isPage g && isPage d))
+  rows_fit e = rw e (go (is_page g && is_page d))
     where
-      go : (b : Bool) → ((pick b (passing (differs g d) rowCount) no_rows).first ≤ (pick b (passing (differs g d) rowCount) no_rows).end)
-          × ((pick b (passing (differs g d) rowCount) no_rows).end ≤ rowCount)
-      go true = passing-fits (differs g d) rowCount
+      go : (b : Bool) → ((pick b (passing (differs g d) row_count) no_rows).first ≤ (pick b (passing (differs g d) row_count) no_rows).end)
+          × ((pick b (passing (differs g d) row_count) no_rows).end ≤ row_count)
+      go true = passing-fits (differs g d) row_count
       go false = (zero-le, zero-le)
 
   -- there are rows only in pages
-  some-rows : 0 < (differing g d).end → length d ≡ pageBytes
+  some-rows : 0 < (differing g d).end → length d ≡ page_bytes
   unfolding differing
-  some-rows h = go (isPage g) refl (isPage d) refl h
+  some-rows h = go (is_page g) refl (is_page d) refl h
     where
-      go : (a : Bool) → isPage g ≡ a → (b : Bool) → isPage d ≡ b → 0 < (pick (a && b) (passing (differs g d) rowCount) no_rows).end → length d ≡ pageBytes
-      go true p true q h = eqb-true (length d) pageBytes q
+      go : (a : Bool) → is_page g ≡ a → (b : Bool) → is_page d ≡ b → 0 < (pick (a && b) (passing (differs g d) row_count) no_rows).end → length d ≡ page_bytes
+      go true p true q h = eqb-true (length d) page_bytes q
       go true p false q h = absurd (omega arith)
       go false p b q h = absurd (omega arith)
 
@@ -106,9 +106,9 @@ module _ (g d : List ℕ) where
   unfolding place
   place-fits is = rw is (go (differing g d).end refl)
     where
-      f : ((differing g d).first ≤ (differing g d).end) × ((differing g d).end ≤ rowCount)
+      f : ((differing g d).first ≤ (differing g d).end) × ((differing g d).end ≤ row_count)
       f = rows_fit refl
 
-      go : (m : ℕ) → (differing g d).end ≡ m → (differing g d).first * rowBytes + ((differing g d).end - (differing g d).first) * rowBytes ≤ length d
+      go : (m : ℕ) → (differing g d).end ≡ m → (differing g d).first * row_bytes + ((differing g d).end - (differing g d).first) * row_bytes ≤ length d
       go zero e = omega (arith, e, f.0)
       go (suc m) e = omega (arith, e, f.0, f.1, some-rows (omega (arith, e)))

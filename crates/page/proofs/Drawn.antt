@@ -11,45 +11,45 @@ use lib.Seq.{sets-eq}
 use Rattle.lists.proofs.Bools.{and_left, and_right, and-false, or_left, or_right}
 use Rattle.lines.specs.Answers.{Wrote}
 use Rattle.tables.specs.Refusals as no
-use Rattle.tables.specs.Limits.{maxLoads, between}
-use Rattle.tables.specs.Stored.{keepsLimits, Holds}
+use Rattle.tables.specs.Limits.{max_loads, between}
+use Rattle.tables.specs.Stored.{keeps_limits, Holds}
 use Rattle.tables.specs.declared.entry.Entry.{Entry}
 use Rattle.meaning.specs.Sets.{worth, power}
-use Rattle.meaning.specs.Choice.{shownSet}
-use Rattle.runs.specs.Outcome.{noSet, planned, isNothing, ofStatus, heldRange, keepsOutcome}
+use Rattle.meaning.specs.Choice.{shown_set}
+use Rattle.runs.specs.Outcome.{no_set, planned, is_nothing, of_status, held_range, keeps_outcome}
 use Rattle.calls.specs.State.{State, StoredState, state_of, keeps}
-use Rattle.calls.specs.Rows.{isLoad}
+use Rattle.calls.specs.Rows.{is_load}
 use Rattle.calls.specs.Causes.{lowest}
 use Rattle.calls.proofs.Work.{clash}
 use Rattle.planner.specs.declared.Planner.{Planner}
-use Rattle.planner.specs.Planner.{held, stateIn, Lawful}
+use Rattle.planner.specs.Planner.{held, state_in, Lawful}
 use Rattle.planner.proofs.Commands.{tables-count}
-use Rattle.page.specs.Rows.{pageBytes, rowBytes, loadRowCount, blank, planRow, noPlanRow, loadRows}
-use Rattle.page.specs.Drawing.{page_of, refusalOf, drawnOf, drawing}
+use Rattle.page.specs.Rows.{page_bytes, row_bytes, load_row_count, blank, plan_row, no_plan_row, load_rows}
+use Rattle.page.specs.Drawing.{page_of, refusal_of, drawn_of, drawing}
 use Rattle.page.proofs.RowText.{rows-blank}
 
 module _ (p : StoredState) (k n : ℕ) where
-  pub no-page : (n ≡ pageBytes → ⊥) → no.notAPage ≡ refusalOf p k n
-  unfolding refusalOf lowest
-  no-page d = rw (ne_eqb n pageBytes d)
+  pub no-page : (n ≡ page_bytes → ⊥) → no.not_aPage ≡ refusal_of p k n
+  unfolding refusal_of lowest
+  no-page d = rw (ne_eqb n page_bytes d)
 
-  module _ (e : n ≡ pageBytes) where
-    pub broken : keeps p ≡ false → no.unusable ≡ refusalOf p k n
-    unfolding refusalOf lowest
-    broken b = rw (eq-eqb n pageBytes e, b)
+  module _ (e : n ≡ page_bytes) where
+    pub broken : keeps p ≡ false → no.unusable ≡ refusal_of p k n
+    unfolding refusal_of lowest
+    broken b = rw (eq-eqb n page_bytes e, b)
 
     module _ (h : keeps p ≡ true) where
-      pub no-load : isLoad (state_of p).tables k ≡ false → no.outOfRange ≡ refusalOf p k n
-      unfolding refusalOf lowest
-      no-load b = rw (eq-eqb n pageBytes e, h, b)
+      pub no-load : is_load (state_of p).tables k ≡ false → no.out_of_range ≡ refusal_of p k n
+      unfolding refusal_of lowest
+      no-load b = rw (eq-eqb n page_bytes e, h, b)
 
-      pub no-plan : isLoad (state_of p).tables k ≡ true → isNothing (state_of p).outcome ≡ true → no.noPlan ≡ refusalOf p k n
-      unfolding refusalOf lowest
-      no-plan l b = rw (eq-eqb n pageBytes e, h, l, b)
+      pub no-plan : is_load (state_of p).tables k ≡ true → is_nothing (state_of p).outcome ≡ true → no.no_plan ≡ refusal_of p k n
+      unfolding refusal_of lowest
+      no-plan l b = rw (eq-eqb n page_bytes e, h, l, b)
 
-      pub unrefused : isLoad (state_of p).tables k ≡ true → isNothing (state_of p).outcome ≡ false → 0 ≡ refusalOf p k n
-      unfolding refusalOf lowest
-      unrefused l b = rw (eq-eqb n pageBytes e, h, l, b)
+      pub unrefused : is_load (state_of p).tables k ≡ true → is_nothing (state_of p).outcome ≡ false → 0 ≡ refusal_of p k n
+      unfolding refusal_of lowest
+      unrefused l b = rw (eq-eqb n page_bytes e, h, l, b)
 
 -- the test of a planner, as the code makes it
 module _ (p : Planner) {a : Bool} (t : a ≡ keeps (held p)) where
@@ -60,13 +60,13 @@ module _ (p : Planner) {a : Bool} (t : a ≡ keeps (held p)) where
   test-passed e = sym t ∙ not-false a e
 
 -- the status of an outcome
-pub status-nothing : (k : ℕ) (es : List Entry) → k ≡ 0 → isNothing (ofStatus k es) ≡ true
+pub status-nothing : (k : ℕ) (es : List Entry) → k ≡ 0 → is_nothing (of_status k es) ≡ true
 status-nothing k es e = rw e
 
-pub status-no-set : (k : ℕ) (es : List Entry) → k ≡ 1 → ofStatus k es ≡ noSet
+pub status-no-set : (k : ℕ) (es : List Entry) → k ≡ 1 → of_status k es ≡ no_set
 status-no-set k es e = rw e
 
-pub status-something : (k : ℕ) (es : List Entry) → (k ≡ 0 → ⊥) → isNothing (ofStatus k es) ≡ false
+pub status-something : (k : ℕ) (es : List Entry) → (k ≡ 0 → ⊥) → is_nothing (of_status k es) ≡ false
 status-something zero es d = absurd (d refl)
 status-something (suc zero) es d = refl
 status-something (suc (suc k)) es d = refl
@@ -88,13 +88,13 @@ load-there k n m is h = rw (← is, le-leb 1 k h.0, le-leb k n h.1)
 
 -- ---- the page
 -- after refusal 9
-pub page-none : (s : State) (k : ℕ) → 1 ≤ k → s.outcome ≡ noSet → noPlanRow ++ replicate (loadRowCount * rowBytes) blank ≡ page_of s k
+pub page-none : (s : State) (k : ℕ) → 1 ≤ k → s.outcome ≡ no_set → no_plan_row ++ replicate (load_row_count * row_bytes) blank ≡ page_of s k
 unfolding page_of
-page-none s k l e = rw (e, rows-blank (shownSet []) k loadRowCount l)
+page-none s k l e = rw (e, rows-blank (shown_set []) k load_row_count l)
 
 -- of a plan whose set is σ
-pub page-plan : (s : State) (k : ℕ) (es : List Entry) (σ : ℕ → ℕ) (v w : ℕ) → s.outcome ≡ planned es → σ ≡ shownSet es → v ≡ worth s.tables σ → w ≡ power s.tables σ
-    → planRow v w ++ loadRows s.tables.loads σ k loadRowCount ≡ page_of s k
+pub page-plan : (s : State) (k : ℕ) (es : List Entry) (σ : ℕ → ℕ) (v w : ℕ) → s.outcome ≡ planned es → σ ≡ shown_set es → v ≡ worth s.tables σ → w ≡ power s.tables σ
+    → plan_row v w ++ load_rows s.tables.loads σ k load_row_count ≡ page_of s k
 unfolding page_of
 page-plan s k es σ v w e q a b = rw (e, a, b, q)
 
@@ -106,12 +106,12 @@ wrote-whole {l} {k} {j} {s} e w =
 
 -- ---- the drawing
 module _ (p : StoredState) (k : ℕ) (page : List ℕ) where
-  pub refused-drawing : (n : ℕ) → n ≡ refusalOf p k (length page) → (n ≡ 0 → ⊥) → drawnOf n page ≡ drawing p k page
+  pub refused-drawing : (n : ℕ) → n ≡ refusal_of p k (length page) → (n ≡ 0 → ⊥) → drawn_of n page ≡ drawing p k page
   unfolding drawing
   refused-drawing zero e d = absurd (d refl)
   refused-drawing (suc n) e d = rw (← e)
 
-  pub done-drawing : (n : ℕ) {drawn : List ℕ} → n ≡ refusalOf p k (length page) → n ≡ 0 → drawn ≡ page_of (state_of p) k → drawnOf n drawn ≡ drawing p k page
+  pub done-drawing : (n : ℕ) {drawn : List ℕ} → n ≡ refusal_of p k (length page) → n ≡ 0 → drawn ≡ page_of (state_of p) k → drawn_of n drawn ≡ drawing p k page
   unfolding drawing
   done-drawing zero e z is = rw (← e, is)
   done-drawing (suc n) e z is = absurd (omega (arith, z))

@@ -14,92 +14,92 @@ use Rattle.lines.specs.Text.{bytes}
 use Rattle.lines.specs.Answers.{Wrote}
 use Rattle.lines.proofs.Wrote.{wrote_none, wrote_then}
 use Rattle.tables.specs.declared.load.Load.{Load}
-use Rattle.tables.specs.Tables.{noLoad}
+use Rattle.tables.specs.Tables.{no_load}
 use Rattle.tables.specs.Limits.{between}
-use Rattle.page.specs.Rows.{rowBytes, blank, digits, filled, blankRow, powerDigits, worthDigits, numberDigits, watts, planRow, noPlanRow, onOff, loadRow, row_of, loadRows}
+use Rattle.page.specs.Rows.{row_bytes, blank, digits, filled, blank_row, power_digits, worth_digits, number_digits, watts, plan_row, no_plan_row, on_off, load_row, row_of, load_rows}
 use Rattle.page.proofs.Digits.{digits-length}
 
 -- ---- lengths
 pub watts-length : (w : ℕ) → length (watts w) ≡ 5
 unfolding watts
-watts-length w = omega (arith, length-append (digits powerDigits w) (bytes "W"), digits-length powerDigits w)
+watts-length w = omega (arith, length-append (digits power_digits w) (bytes "W"), digits-length power_digits w)
 
-pub mark-length : (m : ℕ) → length (onOff m) ≡ 3
+pub mark-length : (m : ℕ) → length (on_off m) ≡ 3
 mark-length zero = refl
 mark-length (suc m) = refl
 
-filled-length : (s : List ℕ) → length s ≤ rowBytes → length (filled s) ≡ rowBytes
+filled-length : (s : List ℕ) → length s ≤ row_bytes → length (filled s) ≡ row_bytes
 unfolding filled
-filled-length s h = omega (arith, length-append s (replicate (rowBytes - length s) blank), length-replicate {A = ℕ} (rowBytes - length s) blank)
+filled-length s h = omega (arith, length-append s (replicate (row_bytes - length s) blank), length-replicate {A = ℕ} (row_bytes - length s) blank)
 
-pub worth-bytes : (v : ℕ) → length (bytes "worth " ++ digits worthDigits v) ≡ 12
-worth-bytes v = omega (arith, length-append (bytes "worth ") (digits worthDigits v), digits-length worthDigits v)
+pub worth-bytes : (v : ℕ) → length (bytes "worth " ++ digits worth_digits v) ≡ 12
+worth-bytes v = omega (arith, length-append (bytes "worth ") (digits worth_digits v), digits-length worth_digits v)
 
-pub mark-bytes : (k m : ℕ) → length (digits numberDigits k ++ (blank ∷ onOff m)) ≡ 7
-mark-bytes k m = omega (arith, length-append (digits numberDigits k) (blank ∷ onOff m), digits-length numberDigits k, mark-length m)
+pub mark-bytes : (k m : ℕ) → length (digits number_digits k ++ (blank ∷ on_off m)) ≡ 7
+mark-bytes k m = omega (arith, length-append (digits number_digits k) (blank ∷ on_off m), digits-length number_digits k, mark-length m)
 
-pub plan-bytes : (v w : ℕ) → length (bytes "worth " ++ digits worthDigits v ++ watts w) ≡ 17
+pub plan-bytes : (v w : ℕ) → length (bytes "worth " ++ digits worth_digits v ++ watts w) ≡ 17
 plan-bytes v w =
-    omega (arith, length-append (bytes "worth " ++ digits worthDigits v) (watts w), worth-bytes v, watts-length w)
+    omega (arith, length-append (bytes "worth " ++ digits worth_digits v) (watts w), worth-bytes v, watts-length w)
 
-pub load-bytes : (k m w : ℕ) → length (digits numberDigits k ++ (blank ∷ onOff m) ++ watts w) ≡ 12
+pub load-bytes : (k m w : ℕ) → length (digits number_digits k ++ (blank ∷ on_off m) ++ watts w) ≡ 12
 load-bytes k m w =
-    omega (arith, length-append (digits numberDigits k ++ (blank ∷ onOff m)) (watts w), mark-bytes k m, watts-length w)
+    omega (arith, length-append (digits number_digits k ++ (blank ∷ on_off m)) (watts w), mark-bytes k m, watts-length w)
 
-pub plan-length : (v w : ℕ) → length (planRow v w) ≡ rowBytes
-unfolding planRow
-plan-length v w = filled-length (bytes "worth " ++ digits worthDigits v ++ watts w) (omega (arith, plan-bytes v w))
+pub plan-length : (v w : ℕ) → length (plan_row v w) ≡ row_bytes
+unfolding plan_row
+plan-length v w = filled-length (bytes "worth " ++ digits worth_digits v ++ watts w) (omega (arith, plan-bytes v w))
 
-pub no-plan-length : length noPlanRow ≡ rowBytes
-unfolding noPlanRow
+pub no-plan-length : length no_plan_row ≡ row_bytes
+unfolding no_plan_row
 no-plan-length = filled-length (bytes "no plan") (omega arith)
 
-blank-length : length blankRow ≡ rowBytes
+blank-length : length blank_row ≡ row_bytes
 blank-length = filled-length [] (omega arith)
 
-load-length : (k m w : ℕ) → length (loadRow k m w) ≡ rowBytes
-unfolding loadRow
-load-length k m w = filled-length (digits numberDigits k ++ (blank ∷ onOff m) ++ watts w) (omega (arith, load-bytes k m w))
+load-length : (k m w : ℕ) → length (load_row k m w) ≡ row_bytes
+unfolding load_row
+load-length k m w = filled-length (digits number_digits k ++ (blank ∷ on_off m) ++ watts w) (omega (arith, load-bytes k m w))
 
 -- ---- the row of a load, or a blank one
-pub row-there : (ls : List Load) (σ : ℕ → ℕ) (k : ℕ) → 1 ≤ k → k ≤ length ls → row_of ls σ k ≡ loadRow k (σ k) (get_or ls (k - 1) noLoad).power
+pub row-there : (ls : List Load) (σ : ℕ → ℕ) (k : ℕ) → 1 ≤ k → k ≤ length ls → row_of ls σ k ≡ load_row k (σ k) (get_or ls (k - 1) no_load).power
 unfolding row_of
 row-there ls σ k l h = rw (le-leb 1 k l, le-leb k (length ls) h)
 
-pub row-missing : (ls : List Load) (σ : ℕ → ℕ) (k : ℕ) → length ls < k → row_of ls σ k ≡ blankRow
+pub row-missing : (ls : List Load) (σ : ℕ → ℕ) (k : ℕ) → length ls < k → row_of ls σ k ≡ blank_row
 unfolding row_of
 row-missing ls σ k h = rw (lt-leb k (length ls) h, and-false (leb 1 k))
 
-pub row-length : (ls : List Load) (σ : ℕ → ℕ) (k : ℕ) → length (row_of ls σ k) ≡ rowBytes
+pub row-length : (ls : List Load) (σ : ℕ → ℕ) (k : ℕ) → length (row_of ls σ k) ≡ row_bytes
 unfolding row_of
 row-length ls σ k = go (between 1 (length ls) k)
   where
-    go : (b : Bool) → length (pick b (loadRow k (σ k) (get_or ls (k - 1) noLoad).power) blankRow) ≡ rowBytes
-    go true = load-length k (σ k) (get_or ls (k - 1) noLoad).power
+    go : (b : Bool) → length (pick b (load_row k (σ k) (get_or ls (k - 1) no_load).power) blank_row) ≡ row_bytes
+    go true = load-length k (σ k) (get_or ls (k - 1) no_load).power
     go false = blank-length
 
 module _ (ls : List Load) (σ : ℕ → ℕ) (k : ℕ) where
-  pub rows_none : loadRows ls σ k 0 ≡ []
-  unfolding loadRows
+  pub rows_none : load_rows ls σ k 0 ≡ []
+  unfolding load_rows
   rows_none = refl
 
-  pub rows_more : (n : ℕ) → loadRows ls σ k (n + 1) ≡ loadRows ls σ k n ++ row_of ls σ (k + n)
-  unfolding loadRows
+  pub rows_more : (n : ℕ) → load_rows ls σ k (n + 1) ≡ load_rows ls σ k n ++ row_of ls σ (k + n)
+  unfolding load_rows
   rows_more n = rw (add-one n)
 
-  pub rows-length : (n : ℕ) → length (loadRows ls σ k n) ≡ n * rowBytes
-  unfolding loadRows
+  pub rows-length : (n : ℕ) → length (load_rows ls σ k n) ≡ n * row_bytes
+  unfolding load_rows
   rows-length zero = refl
-  rows-length (suc n) = omega (arith, length-append (loadRows ls σ k n) (row_of ls σ (k + n)), rows-length n, row-length ls σ (k + n))
+  rows-length (suc n) = omega (arith, length-append (load_rows ls σ k n) (row_of ls σ (k + n)), rows-length n, row-length ls σ (k + n))
 
 -- after refusal 9 all of them are blank
-pub rows-blank : (σ : ℕ → ℕ) (k n : ℕ) → 1 ≤ k → loadRows [] σ k n ≡ replicate (n * rowBytes) blank
-unfolding loadRows filled
+pub rows-blank : (σ : ℕ → ℕ) (k n : ℕ) → 1 ≤ k → load_rows [] σ k n ≡ replicate (n * row_bytes) blank
+unfolding load_rows filled
 rows-blank σ k zero h = refl
 rows-blank σ k (suc n) h =
-    let e : n * rowBytes + rowBytes ≡ suc n * rowBytes = omega arith in
-    ap (λ (s : List ℕ). s ++ row_of [] σ (k + n)) (rows-blank σ k n h) ∙ ap (λ (s : List ℕ). replicate (n * rowBytes) blank ++ s) (row-missing [] σ (k + n) (omega arith))
-    ∙ replicate-append-replicate (n * rowBytes) rowBytes blank ∙ ap (λ (m : ℕ). replicate m blank) e
+    let e : n * row_bytes + row_bytes ≡ suc n * row_bytes = omega arith in
+    ap (λ (s : List ℕ). s ++ row_of [] σ (k + n)) (rows-blank σ k n h) ∙ ap (λ (s : List ℕ). replicate (n * row_bytes) blank ++ s) (row-missing [] σ (k + n) (omega arith))
+    ∙ replicate-append-replicate (n * row_bytes) row_bytes blank ∙ ap (λ (m : ℕ). replicate m blank) e
 
 -- ---- written piece by piece
 pub blanks-none : (l : List ℕ) (at : ℕ) → Wrote l l at at (replicate (at - at) blank)
@@ -111,8 +111,8 @@ blanks-more {l} {m} {k} {at} {i} {j} h w v =
     rw (sym e, sym (replicate-append-replicate (i - at) 1 blank)) (wrote_then w v)
 
 -- a row's text, and the blanks up to its end
-pub wrote-filled : {l m k : List ℕ} {at i j : ℕ} {s : List ℕ} → length s ≤ rowBytes → Wrote l m at i s → Wrote m k i j (replicate (at + rowBytes - i) blank) → Wrote l k at j (filled s)
+pub wrote-filled : {l m k : List ℕ} {at i j : ℕ} {s : List ℕ} → length s ≤ row_bytes → Wrote l m at i s → Wrote m k i j (replicate (at + row_bytes - i) blank) → Wrote l k at j (filled s)
 unfolding filled
 wrote-filled {l} {m} {k} {at} {i} {j} {s} h w v =
-    let e : at + rowBytes - i ≡ rowBytes - length s = omega (arith, w.end) in
+    let e : at + row_bytes - i ≡ row_bytes - length s = omega (arith, w.end) in
     wrote_then w (rw e at v)

@@ -4,25 +4,25 @@ use Rattle.std.specs.Prelude.{ℕ, zero, suc, ◌+◌, ◌*◌, ◌-◌, ◌/◌
 use Rattle.lists.specs.Tests.{pick}
 use Rattle.lines.specs.Text.{bytes, nought}
 use Rattle.tables.specs.declared.load.Load.{Load}
-use Rattle.tables.specs.Tables.{noLoad}
+use Rattle.tables.specs.Tables.{no_load}
 use Rattle.tables.specs.Limits.{between}
 
 -- "8 rows of 20 ASCII bytes"
-abbrev pub rowCount : ℕ
-rowCount = 8
+abbrev pub row_count : ℕ
+row_count = 8
 
-abbrev pub rowBytes : ℕ
-rowBytes = 20
+abbrev pub row_bytes : ℕ
+row_bytes = 20
 
-abbrev pub pageBytes : ℕ
-pageBytes = rowCount * rowBytes
+abbrev pub page_bytes : ℕ
+page_bytes = row_count * row_bytes
 
 -- "Rows two to eight show loads"
-abbrev pub loadRowCount : ℕ
-loadRowCount = rowCount - 1
+abbrev pub load_row_count : ℕ
+load_row_count = row_count - 1
 
-abbrev pub isAscii : ℕ → Bool
-isAscii b = ltb b 128
+abbrev pub is_ascii : ℕ → Bool
+is_ascii b = ltb b 128
 
 abbrev pub blank : ℕ
 blank = 32
@@ -34,46 +34,46 @@ digits (suc k) n = digits k (n / 10) ++ ((nought + n % 10) ∷ [])
 
 -- ".. rows with blanks"
 unfoldable pub filled : List ℕ → List ℕ
-filled s = s ++ replicate (rowBytes - length s) blank
+filled s = s ++ replicate (row_bytes - length s) blank
 
-abbrev pub blankRow : List ℕ
-blankRow = filled []
+abbrev pub blank_row : List ℕ
+blank_row = filled []
 
-abbrev pub worthDigits : ℕ
-worthDigits = 6
+abbrev pub worth_digits : ℕ
+worth_digits = 6
 
-abbrev pub powerDigits : ℕ
-powerDigits = 3
+abbrev pub power_digits : ℕ
+power_digits = 3
 
-abbrev pub numberDigits : ℕ
-numberDigits = 3
+abbrev pub number_digits : ℕ
+number_digits = 3
 
 -- "a blank, three digits of power and `W`"
 unfoldable pub watts : ℕ → List ℕ
-watts w = blank ∷ digits powerDigits w ++ bytes "W"
+watts w = blank ∷ digits power_digits w ++ bytes "W"
 
 -- "Row one is `worth `, five digits, a blank, three digits of power and `W`"; "the page's worth six digits" of request Ten
-unfoldable pub planRow : (worth power : ℕ) → List ℕ
-planRow v w = filled (bytes "worth " ++ digits worthDigits v ++ watts w)
+unfoldable pub plan_row : (worth power : ℕ) → List ℕ
+plan_row v w = filled (bytes "worth " ++ digits worth_digits v ++ watts w)
 
 -- ".. or `no plan` after refusal 9"
-unfoldable pub noPlanRow : List ℕ
-noPlanRow = filled (bytes "no plan")
+unfoldable pub no_plan_row : List ℕ
+no_plan_row = filled (bytes "no plan")
 
 -- "`on ` or `off`"
-abbrev pub onOff : (mark : ℕ) → List ℕ
-onOff zero = bytes "off"
-onOff (suc m) = bytes "on "
+abbrev pub on_off : (mark : ℕ) → List ℕ
+on_off zero = bytes "off"
+on_off (suc m) = bytes "on "
 
 -- "the number in three digits, a blank, `on ` or `off`, a blank, the load's own power, on or off, in three digits and `W`"
-unfoldable pub loadRow : (number mark power : ℕ) → List ℕ
-loadRow k m w = filled (digits numberDigits k ++ (blank ∷ onOff m) ++ watts w)
+unfoldable pub load_row : (number mark power : ℕ) → List ℕ
+load_row k m w = filled (digits number_digits k ++ (blank ∷ on_off m) ++ watts w)
 
 -- the row of load k, with its mark in the set σ; "missing loads .. are blank rows"
 unfoldable pub row_of : List Load → (σ : ℕ → ℕ) → (k : ℕ) → List ℕ
-row_of ls σ k = pick (between 1 (length ls) k) (loadRow k (σ k) (get_or ls (k - 1) noLoad).power) blankRow
+row_of ls σ k = pick (between 1 (length ls) k) (load_row k (σ k) (get_or ls (k - 1) no_load).power) blank_row
 
 -- the rows of n loads from load k on
-unfoldable pub loadRows : List Load → (σ : ℕ → ℕ) → (k n : ℕ) → List ℕ
-loadRows ls σ k zero = []
-loadRows ls σ k (suc n) = loadRows ls σ k n ++ row_of ls σ (k + n)
+unfoldable pub load_rows : List Load → (σ : ℕ → ℕ) → (k n : ℕ) → List ℕ
+load_rows ls σ k zero = []
+load_rows ls σ k (suc n) = load_rows ls σ k n ++ row_of ls σ (k + n)

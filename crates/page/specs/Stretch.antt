@@ -7,11 +7,11 @@ use Rattle.lists.specs.Tests.{pick}
 use Rattle.lines.specs.Text.{same}
 use Rattle.page.specs.declared.stretch.Rows.{Rows}
 use Rattle.page.specs.declared.stretch.Part.{Part}
-use Rattle.page.specs.Rows.{rowCount, rowBytes, pageBytes}
+use Rattle.page.specs.Rows.{row_count, row_bytes, page_bytes}
 
 -- row i of a page, the topmost being row 0
 unfoldable pub row_at : List ℕ → (i : ℕ) → List ℕ
-row_at page i = take rowBytes (drop (i * rowBytes) page)
+row_at page i = take row_bytes (drop (i * row_bytes) page)
 
 abbrev pub differs : (glass drawn : List ℕ) → (i : ℕ) → Bool
 differs g d i = not (same (row_at g i) (row_at d i))
@@ -33,15 +33,15 @@ passing p n = record { first = pick (eqb (end_of p n) 0) 0 (first_of p n); end =
 abbrev pub no_rows : Rows
 no_rows = record { first = 0; end = 0 }
 
-abbrev pub isPage : List ℕ → Bool
-isPage s = eqb (length s) pageBytes
+abbrev pub is_page : List ℕ → Bool
+is_page s = eqb (length s) page_bytes
 
 unfoldable pub differing : (glass drawn : List ℕ) → Rows
-differing g d = pick (isPage g && isPage d) (passing (differs g d) rowCount) no_rows
+differing g d = pick (is_page g && is_page d) (passing (differs g d) row_count) no_rows
 
 -- where it lies in the drawn page: whole rows
 unfoldable pub place : (glass drawn : List ℕ) → Part
-place g d = let r = differing g d in record { start = r.first * rowBytes; count = (r.end - r.first) * rowBytes }
+place g d = let r = differing g d in record { start = r.first * row_bytes; count = (r.end - r.first) * row_bytes }
 
 -- "hands back the stretch of the drawn page"
 unfoldable pub stretch : (glass drawn : List ℕ) → List ℕ

@@ -1,7 +1,7 @@
 // Drawing the latest plan of a planner.
 ghost use Rattle.std.specs.Prelude.{◌≡◌, length};
-ghost use Rattle.planner.specs.Planner.{held, stateIn};
-ghost use Rattle.page.specs.Drawing.{page_of, refusalOf, drawnOf, drawing, Drawable};
+ghost use Rattle.planner.specs.Planner.{held, state_in};
+ghost use Rattle.page.specs.Drawing.{page_of, refusal_of, drawn_of, drawing, Drawable};
 
 use crate::PAGE_BYTES;
 use crate::rows::{put_blanks, put_loads, put_no_plan, put_plan};
@@ -12,7 +12,7 @@ use tables::refusal::{NO_PLAN, NOT_A_PAGE, OUT_OF_RANGE, UNUSABLE};
 
 // What refuses a drawing, the page first; 0 where nothing does.
 fn refusal(planner: Planner, load: usize, bytes: usize) -> u8
-    ensures number { result ≡ refusalOf (held planner) load bytes }
+    ensures number { result ≡ refusal_of (held planner) load bytes }
     ensures drawn { result ≡ 0 → Drawable planner load bytes }
 {
     if bytes != PAGE_BYTES {
@@ -33,7 +33,7 @@ fn refusal(planner: Planner, load: usize, bytes: usize) -> u8
 // The page of a planner whose plan is current.
 fn draw_rows(planner: Planner, load: usize, page: &mut [u8])
     requires { Drawable planner load (length page.old) }
-    ensures { page.new ≡ page_of (stateIn planner) load }
+    ensures { page.new ≡ page_of (state_in planner) load }
 {
     if planner.outcome.status == NO_SET {
         let next = put_no_plan(&mut *page, 0);
@@ -50,7 +50,7 @@ fn draw_rows(planner: Planner, load: usize, page: &mut [u8])
 
 // Draws the page of a planner from a load on: the number of the refusal, which leaves the page as it was, or 0.
 pub fn draw(planner: Planner, load: usize, page: &mut [u8]) -> u8
-    ensures { drawnOf result page.new ≡ drawing (held planner) load page.old }
+    ensures { drawn_of result page.new ≡ drawing (held planner) load page.old }
 {
     let number = refusal(planner, load, page.len());
     if number != 0 {

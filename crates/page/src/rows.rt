@@ -2,12 +2,12 @@
 // values.
 ghost use Rattle.std.specs.Prelude.{◌≡◌, ◌+◌, ◌*◌, ◌-◌, ◌%◌, ◌≤◌, ◌<◌, length, replicate};
 ghost use Rattle.lists.specs.Argmax.{guard};
-ghost use Rattle.marks.specs.Sets.{markIn};
+ghost use Rattle.marks.specs.Sets.{mark_in};
 ghost use Rattle.lines.specs.Text.{nought};
 ghost use Rattle.lines.specs.Answers.{Wrote};
-ghost use Rattle.tables.specs.Limits.{maxLoads};
-ghost use Rattle.tables.specs.Stored.{loadsOf};
-ghost use Rattle.page.specs.Rows.{rowBytes, loadRowCount, blank, digits, watts, onOff, planRow, noPlanRow, loadRow, row_of, loadRows};
+ghost use Rattle.tables.specs.Limits.{max_loads};
+ghost use Rattle.tables.specs.Stored.{loads_of};
+ghost use Rattle.page.specs.Rows.{row_bytes, load_row_count, blank, digits, watts, on_off, plan_row, no_plan_row, load_row, row_of, load_rows};
 
 use crate::{ROW_BYTES, ROW_COUNT};
 use lines::NOUGHT;
@@ -70,8 +70,8 @@ fn put_watts(page: &mut [u8], at: usize, power: u32) -> usize
 
 // Row one of a plan.
 pub(crate) fn put_plan(page: &mut [u8], at: usize, worth: u32, power: u32) -> usize
-    requires { at + rowBytes ≤ length page.old }
-    ensures { Wrote page.old page.new at result (planRow worth power) }
+    requires { at + row_bytes ≤ length page.old }
+    ensures { Wrote page.old page.new at result (plan_row worth power) }
 {
     let a = put_text(&mut *page, at, b"worth ");
     let b = put_digits(&mut *page, a, WORTH_DIGITS, worth);
@@ -81,8 +81,8 @@ pub(crate) fn put_plan(page: &mut [u8], at: usize, worth: u32, power: u32) -> us
 
 // Row one after refusal 9.
 pub(crate) fn put_no_plan(page: &mut [u8], at: usize) -> usize
-    requires { at + rowBytes ≤ length page.old }
-    ensures { Wrote page.old page.new at result noPlanRow }
+    requires { at + row_bytes ≤ length page.old }
+    ensures { Wrote page.old page.new at result no_plan_row }
 {
     let a = put_text(&mut *page, at, b"no plan");
     put_blanks(&mut *page, a, at + ROW_BYTES)
@@ -91,7 +91,7 @@ pub(crate) fn put_no_plan(page: &mut [u8], at: usize) -> usize
 // The mark of a load, in a word.
 fn put_mark(page: &mut [u8], at: usize, on: bool) -> usize
     requires { at + 3 ≤ length page.old }
-    ensures { Wrote page.old page.new at result (onOff (guard on 1)) }
+    ensures { Wrote page.old page.new at result (on_off (guard on 1)) }
 {
     if on {
         return put_text(page, at, b"on ");
@@ -101,8 +101,8 @@ fn put_mark(page: &mut [u8], at: usize, on: bool) -> usize
 
 // The row of a load.
 fn put_load(page: &mut [u8], at: usize, number: usize, on: bool, power: u16) -> usize
-    requires { (at + rowBytes ≤ length page.old) × (number ≤ maxLoads) }
-    ensures { Wrote page.old page.new at result (loadRow number (guard on 1) power) }
+    requires { (at + row_bytes ≤ length page.old) × (number ≤ max_loads) }
+    ensures { Wrote page.old page.new at result (load_row number (guard on 1) power) }
 {
     let a = put_digits(&mut *page, at, NUMBER_DIGITS, number as u32);
     let b = put(&mut *page, a, BLANK);
@@ -113,8 +113,8 @@ fn put_load(page: &mut [u8], at: usize, number: usize, on: bool, power: u16) -> 
 
 // The row of this number: blank where there is no such load. (In the archive it is one with its caller, and no list is copied for a row.)
 fn put_row(page: &mut [u8], at: usize, loads: LoadList, set: LoadSet, number: usize) -> usize
-    requires { (at + rowBytes ≤ length page.old) × (1 ≤ number) × (loads.count ≤ maxLoads) }
-    ensures { Wrote page.old page.new at result (row_of (loadsOf loads) (markIn set) number) }
+    requires { (at + row_bytes ≤ length page.old) × (1 ≤ number) × (loads.count ≤ max_loads) }
+    ensures { Wrote page.old page.new at result (row_of (loads_of loads) (mark_in set) number) }
 {
     if loads.count < number {
         return put_blanks(page, at, at + ROW_BYTES);
@@ -131,8 +131,8 @@ pub(crate) fn put_loads(
     set: LoadSet,
     first: usize,
 ) -> usize
-    requires { (at + loadRowCount * rowBytes ≤ length page.old) × (1 ≤ first) × (first ≤ maxLoads) × (loads.count ≤ maxLoads) }
-    ensures { Wrote page.old page.new at result (loadRows (loadsOf loads) (markIn set) first loadRowCount) }
+    requires { (at + load_row_count * row_bytes ≤ length page.old) × (1 ≤ first) × (first ≤ max_loads) × (loads.count ≤ max_loads) }
+    ensures { Wrote page.old page.new at result (load_rows (loads_of loads) (mark_in set) first load_row_count) }
 {
     let mut next = at;
     for i in 0..LOAD_ROW_COUNT {

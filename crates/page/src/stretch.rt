@@ -1,7 +1,7 @@
 // What of a drawn page the glass does not show yet.
 ghost use Rattle.std.specs.Prelude.{◌≡◌, ◌<◌, length};
 ghost use Rattle.lines.specs.Text.{same};
-ghost use Rattle.page.specs.Rows.{rowCount, pageBytes};
+ghost use Rattle.page.specs.Rows.{row_count, page_bytes};
 ghost use Rattle.page.specs.Stretch.{row_at, differing, place, stretch, beginning};
 
 use crate::{PAGE_BYTES, ROW_BYTES, ROW_COUNT};
@@ -23,7 +23,7 @@ pub struct Part {
 
 // Do two pages show the same in this row?
 fn same_row(glass: &[u8], drawn: &[u8], row: usize) -> bool
-    requires { (length glass.now ≡ pageBytes) × (length drawn.now ≡ pageBytes) × (row < rowCount) }
+    requires { (length glass.now ≡ page_bytes) × (length drawn.now ≡ page_bytes) × (row < row_count) }
     ensures { result ≡ same (row_at glass.now row) (row_at drawn.now row) }
 {
     let start = row * ROW_BYTES;

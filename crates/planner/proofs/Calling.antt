@@ -13,12 +13,12 @@ use Rattle.lines.specs.Saved.{saved}
 use Rattle.lines.specs.Answers.{number_of, text_of, Wrote}
 use Rattle.lines.proofs.Wrote.{free_back}
 use Rattle.tables.specs.Refusals as no
-use Rattle.calls.specs.State.{StoredState, storedState, keeps}
-use Rattle.calls.specs.Rows.{Row, bytes_of, causesOf}
+use Rattle.calls.specs.State.{StoredState, stored_state, keeps}
+use Rattle.calls.specs.Rows.{Row, bytes_of, causes_of}
 use Rattle.calls.specs.Causes.{lowest}
-use Rattle.calls.specs.Effects.{stateBy}
-use Rattle.calls.specs.Printing.{text, workAfter}
-use Rattle.calls.specs.Calls.{Call, rowFor, numberFor, answerBy, handled, calledIf, called}
+use Rattle.calls.specs.Effects.{state_by}
+use Rattle.calls.specs.Printing.{text, work_after}
+use Rattle.calls.specs.Calls.{Call, row_for, number_for, answer_by, handled, called_if, called}
 use Rattle.calls.proofs.State.{places, kept-within, kept-stored}
 use Rattle.calls.proofs.Rows.{Right, line-right}
 use Rattle.calls.proofs.Refusals.{past_one, after-number, refused-state}
@@ -27,83 +27,83 @@ use Rattle.calls.proofs.Work.{unsearched}
 use Rattle.calls.proofs.Keeps.{text-fits}
 use Rattle.planner.specs.declared.Planner.{Planner}
 use Rattle.planner.specs.declared.search.Decided.{Decided}
-use Rattle.planner.specs.Planner.{held, stateIn, Lawful}
-use Rattle.runs.specs.Runs.{entriesTo}
-use Rattle.planner.specs.Decided.{decidedBy, decided}
-use Rattle.planner.specs.Calls.{done_of, turnedAway}
+use Rattle.planner.specs.Planner.{held, state_in, Lawful}
+use Rattle.runs.specs.Runs.{entries_to}
+use Rattle.planner.specs.Decided.{decided_by, decided}
+use Rattle.planner.specs.Calls.{done_of, turned_away}
 use Rattle.planner.proofs.Commands.{load-count}
 use Rattle.planner.proofs.Deciding.{answered-number, answered-text}
 
 -- a planner that breaks a limit
-pub broken : (p : Planner) (c : Call) → keeps (held p) ≡ false → done_of (turnedAway p) c.output c.work ≡ called (held p) c
+pub broken : (p : Planner) (c : Call) → keeps (held p) ≡ false → done_of (turned_away p) c.output c.work ≡ called (held p) c
 unfolding called
-broken p c e = ap (λ (b : Bool). calledIf b (held p) c) (sym e)
+broken p c e = ap (λ (b : Bool). called_if b (held p) c) (sym e)
 
 module _ (p : Planner) (h : Lawful p) (c : Call) where
   abbrev r : Row
-  r = rowFor (stateIn p) c
+  r = row_for (state_in p) c
 
-  x : Right (stateIn p) (length c.work) r
-  x = line-right (stateIn p) (length c.work) c.line
+  x : Right (state_in p) (length c.work) r
+  x = line-right (state_in p) (length c.work) c.line
 
-  pub handles : called (held p) c ≡ handled (stateIn p) c
-  handles = ap (λ (x : StoredState). called x c) (kept-stored (held p) h) ∙ called-stored (stateIn p) (kept-within (held p) h) c
+  pub handles : called (held p) c ≡ handled (state_in p) c
+  handles = ap (λ (x : StoredState). called x c) (kept-stored (held p) h) ∙ called-stored (state_in p) (kept-within (held p) h) c
 
   -- with this number
-  numbered : (n : ℕ) → numberFor (stateIn p) c ≡ n → called (held p) c ≡ record { state = storedState (stateBy (stateIn p) n r); reply = answerBy c n r }
+  numbered : (n : ℕ) → number_for (state_in p) c ≡ n → called (held p) c ≡ record { state = stored_state (state_by (state_in p) n r); reply = answer_by c n r }
   numbered n e =
-      let after = after-number (stateIn p) c ∙ ap (λ (i : ℕ). stateBy (stateIn p) i r) e in
-      let answered = answer_at (stateIn p) c n r e refl in
-      handles ∙ (λ i. record { state = storedState (after i); reply = answered i })
+      let after = after-number (state_in p) c ∙ ap (λ (i : ℕ). state_by (state_in p) i r) e in
+      let answered = answer_at (state_in p) c n r e refl in
+      handles ∙ (λ i. record { state = stored_state (after i); reply = answered i })
 
   -- too few free bytes, or a place past the end
-  pub turned : length c.output < c.place + bytes_of r → done_of (turnedAway p) c.output c.work ≡ called (held p) c
+  pub turned : length c.output < c.place + bytes_of r → done_of (turned_away p) c.output c.work ≡ called (held p) c
   unfolding text
   turned less =
       let one = numbered no.unusable (no_room (length c.work) (length c.output) c.place r less) in
-      let state = kept-stored (held p) h ∙ ap storedState (sym (refused-state (stateIn p) no.unusable r (omega arith) refl)) in
+      let state = kept-stored (held p) h ∙ ap stored_state (sym (refused-state (state_in p) no.unusable r (omega arith) refl)) in
       let work = sym (unsearched no.unusable r c.work refl) in
       (λ i. record { state = state i; reply = record { number = no.unusable; count = 0; output = c.output; work = work i } }) ∙ sym one
 
   -- the number of a row where there is room
-  abbrev pub rowNumber : ℕ
-  rowNumber = lowest (causesOf (length c.work) r)
+  abbrev pub row_number : ℕ
+  row_number = lowest (causes_of (length c.work) r)
 
   -- what was decided, and the work after it
-  module _ (d : Decided) (is : d ≡ decided (stateIn p) (length c.work) r) where
-    number_is : number_of d.answer ≡ rowNumber
-    unfolding decidedBy
-    number_is = ap (λ (d : Decided). number_of d.answer) is ∙ answered-number x rowNumber
+  module _ (d : Decided) (is : d ≡ decided (state_in p) (length c.work) r) where
+    number_is : number_of d.answer ≡ row_number
+    unfolding decided_by
+    number_is = ap (λ (d : Decided). number_of d.answer) is ∙ answered-number x row_number
 
     -- the text that is written
-    abbrev pub toWrite : List ℕ
-    toWrite = text_of d.answer (entriesTo d.run p.tables.loads.count) (saved (stateIn p).tables)
+    abbrev pub to_write : List ℕ
+    to_write = text_of d.answer (entries_to d.run p.tables.loads.count) (saved (state_in p).tables)
 
-    text-is : toWrite ≡ text rowNumber r
-    unfolding decidedBy
+    text-is : to_write ≡ text row_number r
+    unfolding decided_by
     text-is =
-        ap (λ (n : ℕ). text_of d.answer (entriesTo d.run n) (saved (stateIn p).tables)) (load-count p h)
-        ∙ ap (λ (d : Decided). text_of d.answer (entriesTo d.run (length (stateIn p).tables.loads)) (saved (stateIn p).tables)) is
-        ∙ answered-text x (kept-within (held p) h) (places p.tables h.tables) rowNumber (λ e. e) (λ e. absurd (omega (arith, e, past_one x (omega (arith, e)))))
+        ap (λ (n : ℕ). text_of d.answer (entries_to d.run n) (saved (state_in p).tables)) (load-count p h)
+        ∙ ap (λ (d : Decided). text_of d.answer (entries_to d.run (length (state_in p).tables.loads)) (saved (state_in p).tables)) is
+        ∙ answered-text x (kept-within (held p) h) (places p.tables h.tables) row_number (λ e. e) (λ e. absurd (omega (arith, e, past_one x (omega (arith, e)))))
 
     -- it fits the free bytes
-    pub text-few : length toWrite ≤ bytes_of r
-    text-few = rw text-is (text-fits (stateIn p) (kept-within (held p) h) (length c.work) rowNumber x (go (eq-zero-or-pos rowNumber)) (λ e. e))
+    pub text-few : length to_write ≤ bytes_of r
+    text-few = rw text-is (text-fits (state_in p) (kept-within (held p) h) (length c.work) row_number x (go (eq-zero-or-pos row_number)) (λ e. e))
       where
-        go : (rowNumber ≡ 0) ⊎ (0 < rowNumber) → rowNumber ≤ no.greatest
+        go : (row_number ≡ 0) ⊎ (0 < row_number) → row_number ≤ no.greatest
         go (inl e) = omega (arith, e)
         go (inr l) = (past_one x l).1
 
     pub written : c.place + bytes_of r ≤ length c.output → (m w : List ℕ) (i n : ℕ) → i ≡ number_of d.answer
-        → Wrote (take (length c.output - c.place) (drop c.place c.output)) m 0 n toWrite
-        → w ≡ workAfter (number_of d.answer) r c.work
+        → Wrote (take (length c.output - c.place) (drop c.place c.output)) m 0 n to_write
+        → w ≡ work_after (number_of d.answer) r c.work
         → done_of (record { planner = d.planner; number = i; count = n }) (put_mid c.place (length c.output - c.place) c.output m) w ≡ called (held p) c
-    unfolding decidedBy
+    unfolding decided_by
     written room m w i n number wrote worked =
         let after = ap (λ (d : Decided). held d.planner) is in
-        let count : n ≡ length (text rowNumber r) = omega (arith, wrote.end, ap length text-is) in
+        let count : n ≡ length (text row_number r) = omega (arith, wrote.end, ap length text-is) in
         let output = free_back c.place c.output m (omega arith) wrote ∙ ap (sets c.output c.place) text-is in
-        let work = worked ∙ ap (λ (i : ℕ). workAfter i r c.work) number_is in
+        let work = worked ∙ ap (λ (i : ℕ). work_after i r c.work) number_is in
         let given = number ∙ number_is in
         (λ j. record { state = after j; reply = record { number = given j; count = count j; output = output j; work = work j } })
-        ∙ sym (numbered rowNumber (roomy (length c.work) (length c.output) c.place r room))
+        ∙ sym (numbered row_number (roomy (length c.work) (length c.output) c.place r room))

@@ -14,5 +14,5 @@ abbrev pub done_of : Called → (output work : List ℕ) → Done
 done_of r o w = record { state = held r.planner; reply = record { number = r.number; count = r.count; output = o; work = w } }
 
 -- "number, 0 bytes", "everything" left
-abbrev pub turnedAway : Planner → Called
-turnedAway p = record { planner = p; number = no.unusable; count = 0 }
+abbrev pub turned_away : Planner → Called
+turned_away p = record { planner = p; number = no.unusable; count = 0 }

@@ -9,8 +9,8 @@ use Rattle.judge.specs.Claims.{CaseOf}
 use Rattle.calls.specs.State.{StoredState, keeps}
 
 -- "a planner handed in that breaks a limit .. (judge: only this)": 1; else the judge's answer on its tables
-unfoldable pub judgedBy : StoredState → List ℕ → Verdict
-judgedBy p ns = pick (keeps p) (judged p.tables ns) LimitBroken
+unfoldable pub judged_by : StoredState → List ℕ → Verdict
+judged_by p ns = pick (keeps p) (judged p.tables ns) LimitBroken
 
 -- the case of each answer
 abbrev pub CaseBy : StoredState → List ℕ → Verdict → Type 0
@@ -22,4 +22,4 @@ CaseBy p ns No = (keeps p ≡ true) × CaseOf p.tables ns No
 
 -- each answer is given exactly in its case
 abbrev pub JudgesExactly : Type 0
-JudgesExactly = (p : StoredState) (ns : List ℕ) (v : Verdict) → (judgedBy p ns ≡ v) ↔ CaseBy p ns v
+JudgesExactly = (p : StoredState) (ns : List ℕ) (v : Verdict) → (judged_by p ns ≡ v) ↔ CaseBy p ns v

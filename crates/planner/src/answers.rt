@@ -1,11 +1,11 @@
 // The text of an answer, in the free part of the output.
 ghost use Rattle.std.specs.Prelude.{◌≡◌, ◌+◌, ◌≤◌, length};
-ghost use Rattle.lines.specs.Answers.{Wrote, entryLines, text_of};
+ghost use Rattle.lines.specs.Answers.{Wrote, entry_lines, text_of};
 ghost use Rattle.lines.specs.Saved.{saved};
-ghost use Rattle.tables.specs.Limits.{maxLoads};
+ghost use Rattle.tables.specs.Limits.{max_loads};
 ghost use Rattle.tables.specs.Stored.{tables_of, Holds};
-ghost use Rattle.runs.specs.Runs.{entriesTo};
-ghost use Rattle.planner.specs.Portions.{outcomeNumber, outcomeText};
+ghost use Rattle.runs.specs.Runs.{entries_to};
+ghost use Rattle.planner.specs.Portions.{outcome_number, outcome_text};
 
 use engine::figures::figures_of;
 use lines::answer::Answer;
@@ -19,8 +19,8 @@ use tables::tables::StoredTables;
 
 // The lines of the first n loads.
 fn write_run(out: &mut [u8], at: usize, run: Run, n: usize) -> usize
-    requires { (n ≤ maxLoads) × (at + length (entryLines (entriesTo run n)) ≤ length out.old) }
-    ensures { Wrote out.old out.new at result (entryLines (entriesTo run n)) }
+    requires { (n ≤ max_loads) × (at + length (entry_lines (entries_to run n)) ≤ length out.old) }
+    ensures { Wrote out.old out.new at result (entry_lines (entries_to run n)) }
 {
     let mut next = at;
     for i in 0..n {
@@ -38,9 +38,9 @@ pub(crate) struct Written {
 
 // The text of what a plan found: its line and those of its loads, or its refusal.
 pub(crate) fn write_outcome(out: &mut [u8], outcome: StoredOutcome, loads: LoadList) -> Written
-    requires { (loads.count ≤ maxLoads) × (length (outcomeText loads outcome) ≤ length out.old) }
-    ensures number { result.number ≡ outcomeNumber outcome }
-    ensures text { Wrote out.old out.new 0 result.count (outcomeText loads outcome) }
+    requires { (loads.count ≤ max_loads) × (length (outcome_text loads outcome) ≤ length out.old) }
+    ensures number { result.number ≡ outcome_number outcome }
+    ensures text { Wrote out.old out.new 0 result.count (outcome_text loads outcome) }
 {
     if outcome.status == NO_SET {
         let count = write_no(out, 0, NONE_FITS as u32);
@@ -59,8 +59,8 @@ pub(crate) fn write_outcome(out: &mut [u8], outcome: StoredOutcome, loads: LoadL
 
 // The text of an answer on tables, with the run of their loads beside it.
 pub(crate) fn write_answer(out: &mut [u8], a: Answer, run: Run, tables: StoredTables) -> usize
-    requires { Holds maxLoads tables × (length (text_of a (entriesTo run tables.loads.count) (saved (tables_of tables))) ≤ length out.old) }
-    ensures { Wrote out.old out.new 0 result (text_of a (entriesTo run tables.loads.count) (saved (tables_of tables))) }
+    requires { Holds max_loads tables × (length (text_of a (entries_to run tables.loads.count) (saved (tables_of tables))) ≤ length out.old) }
+    ensures { Wrote out.old out.new 0 result (text_of a (entries_to run tables.loads.count) (saved (tables_of tables))) }
 {
     let n = tables.loads.count;
     match a {

@@ -3,10 +3,10 @@ ghost use Rattle.std.specs.Prelude.{◌≡◌};
 ghost use Rattle.lines.specs.Saved.{loses};
 ghost use Rattle.calls.specs.Rows.{row};
 ghost use Rattle.calls.specs.Calls.{called};
-ghost use Rattle.calls.specs.Demand1.{bytesFor};
-ghost use Rattle.planner.specs.Planner.{held, stateIn, Lawful};
-ghost use Rattle.planner.specs.Decided.{saveAnswer, unshown, Decides};
-ghost use Rattle.planner.specs.Calls.{call_of, done_of, turnedAway};
+ghost use Rattle.calls.specs.Demand1.{bytes_for};
+ghost use Rattle.planner.specs.Planner.{held, state_in, Lawful};
+ghost use Rattle.planner.specs.Decided.{save_answer, unshown, Decides};
+ghost use Rattle.planner.specs.Calls.{call_of, done_of, turned_away};
 
 use crate::Planner;
 use crate::answers::write_answer;
@@ -35,7 +35,7 @@ pub struct Called {
 
 // The bytes that must be free for the answer to a command.
 fn bytes_for(c: Command) -> usize
-    ensures { result ≡ bytesFor c }
+    ensures { result ≡ bytes_for c }
 {
     match c {
         Command::Change(_) => FREE_BYTES,
@@ -61,7 +61,7 @@ fn loses(form: SaveForm, in_use: bool) -> bool
 
 // What a save in this form is answered, where kinds are in use or not. It changes nothing.
 fn save_answer(form: SaveForm, in_use: bool) -> Answer
-    ensures { result ≡ saveAnswer form in_use }
+    ensures { result ≡ save_answer form in_use }
 {
     if loses(form, in_use) {
         return Answer::Refused {
@@ -84,7 +84,7 @@ impl Planner {
     // What a command answers.
     fn decide(self, c: Command, work: &mut [u32]) -> Decided
         requires { Lawful self }
-        ensures { Decides (stateIn self) (row (stateIn self) c) work.old work.new result }
+        ensures { Decides (state_in self) (row (state_in self) c) work.old work.new result }
     {
         match c {
             Command::Change(change) => changed(self.change(change)),
@@ -100,7 +100,7 @@ impl Planner {
 
     // Nothing is written, and everything is left as it was.
     fn turned_away(self) -> Called
-        ensures { result ≡ turnedAway self }
+        ensures { result ≡ turned_away self }
     {
         Called {
             planner: self,

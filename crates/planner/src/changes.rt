@@ -1,10 +1,10 @@
 // The commands that change the tables: methods that take the planner. What they tell comes to the answer and the next planner in `change`.
 ghost use Rattle.std.specs.Prelude.{◌≡◌, ◌+◌, ◌≤◌};
 ghost use Rattle.lines.specs.declared.Change.TheVariants as to;
-ghost use Rattle.tables.specs.Limits.{between, maxLoads};
+ghost use Rattle.tables.specs.Limits.{between, max_loads};
 ghost use Rattle.calls.specs.Rows.{rule, load, marking, adding, setting};
-ghost use Rattle.planner.specs.Planner.{stateIn, Lawful};
-ghost use Rattle.planner.specs.Changes.{namedRule, namedLoad, told, toldBy, toldFor, settled, changedBy};
+ghost use Rattle.planner.specs.Planner.{state_in, Lawful};
+ghost use Rattle.planner.specs.Changes.{named_rule, named_load, told, told_by, told_for, settled, changed_by};
 
 use crate::Planner;
 use lines::Change;
@@ -38,7 +38,7 @@ struct NamedRule {
 }
 
 fn named_rule(range: RuleRange, from: u32, label: u32, to: u32, kind: u32) -> NamedRule
-    ensures { result ≡ namedRule range (rule from label to kind) }
+    ensures { result ≡ named_rule range (rule from label to kind) }
 {
     let fits = between(1, range.from as usize, from as usize)
         & between(range.low as usize, range.high as usize, label as usize)
@@ -69,8 +69,8 @@ struct NamedLoad {
 }
 
 fn named_load(number: usize, parent: u32, power: u32, worth: u32, kind: u32) -> NamedLoad
-    requires { number ≤ maxLoads + 1 }
-    ensures { result ≡ namedLoad number (load parent power worth kind) }
+    requires { number ≤ max_loads + 1 }
+    ensures { result ≡ named_load number (load parent power worth kind) }
 {
     let p = parent as usize;
     let root = (number == 1) & (p == 0);
@@ -107,14 +107,14 @@ fn told(number: u8, tables: StoredTables) -> Added
 impl Planner {
     fn clear(self) -> Added
         requires { Lawful self }
-        ensures { result ≡ toldFor (stateIn self) to.Clear }
+        ensures { result ≡ told_for (state_in self) to.Clear }
     {
         told(0, StoredTables::fresh())
     }
 
     fn book(self, states: u32, stages: u32) -> Added
         requires { Lawful self }
-        ensures { result ≡ toldFor (stateIn self) (to.Book states stages) }
+        ensures { result ≡ told_for (state_in self) (to.Book states stages) }
     {
         let most = MAX_STATES as usize;
         if !(between(1, most, states as usize) & between(1, most, stages as usize)) {
@@ -126,7 +126,7 @@ impl Planner {
     // A state is marked as a start state, or a stage as an end stage.
     fn mark(self, sort: Sort, number: u32) -> Added
         requires { Lawful self }
-        ensures { result ≡ toldBy (stateIn self) (marking (stateIn self).tables sort number) }
+        ensures { result ≡ told_by (state_in self) (marking (state_in self).tables sort number) }
     {
         let size = self.tables.book.size(sort);
         if !between(1, size as usize, number as usize) {
@@ -137,7 +137,7 @@ impl Planner {
 
     fn add_rule(self, sort: Sort, from: u32, label: u32, to: u32, kind: u32) -> Added
         requires { Lawful self }
-        ensures { result ≡ toldBy (stateIn self) (adding (stateIn self).tables sort (rule from label to kind)) }
+        ensures { result ≡ told_by (state_in self) (adding (state_in self).tables sort (rule from label to kind)) }
     {
         let range = RuleRange::of(sort, self.tables.book.states, self.tables.book.stages);
         let named = named_rule(range, from, label, to, kind);
@@ -149,7 +149,7 @@ impl Planner {
 
     fn load(self, parent: u32, power: u32, worth: u32, kind: u32) -> Added
         requires { Lawful self }
-        ensures { result ≡ toldFor (stateIn self) (to.Load parent power worth kind) }
+        ensures { result ≡ told_for (state_in self) (to.Load parent power worth kind) }
     {
         let named = named_load(self.tables.loads.count + 1, parent, power, worth, kind);
         if !named.fits {
@@ -160,7 +160,7 @@ impl Planner {
 
     fn set_figure(self, figure: Figure, number: u32, value: u32) -> Added
         requires { Lawful self }
-        ensures { result ≡ toldBy (stateIn self) (setting (stateIn self).tables figure number value) }
+        ensures { result ≡ told_by (state_in self) (setting (state_in self).tables figure number value) }
     {
         let there = between(1, self.tables.loads.count, number as usize);
         if !(there & (value <= (figure.most() as u32))) {
@@ -175,7 +175,7 @@ impl Planner {
 
     fn budget(self, watts: u32) -> Added
         requires { Lawful self }
-        ensures { result ≡ toldFor (stateIn self) (to.Budget watts) }
+        ensures { result ≡ told_for (state_in self) (to.Budget watts) }
     {
         if (MAX_BUDGET as u32) < watts {
             return told(OUT_OF_RANGE, self.tables);
@@ -186,7 +186,7 @@ impl Planner {
     // A load without children leaves.
     fn drop_load(self, number: u32) -> Added
         requires { Lawful self }
-        ensures { result ≡ toldFor (stateIn self) (to.Drop number) }
+        ensures { result ≡ told_for (state_in self) (to.Drop number) }
     {
         let k = number as usize;
         if !between(1, self.tables.loads.count, k) {
@@ -201,7 +201,7 @@ impl Planner {
     // What a change tells.
     fn made(self, c: Change) -> Added
         requires { Lawful self }
-        ensures { result ≡ toldFor (stateIn self) c }
+        ensures { result ≡ told_for (state_in self) c }
     {
         match c {
             Change::Clear => self.clear(),
@@ -243,7 +243,7 @@ impl Planner {
     // What a change answers, and the next planner.
     pub(crate) fn change(self, c: Change) -> Changed
         requires { Lawful self }
-        ensures { result ≡ changedBy (stateIn self) c }
+        ensures { result ≡ changed_by (state_in self) c }
     {
         let made = self.made(c);
         let tables = made.tables;

@@ -2,7 +2,7 @@
 ghost use Rattle.std.specs.Prelude.{◌≡◌, true};
 ghost use Rattle.calls.specs.State.{keeps};
 ghost use Rattle.planner.specs.Planner.{held, fresh, Lawful};
-ghost use Rattle.planner.specs.Verdict.{judgedBy};
+ghost use Rattle.planner.specs.Verdict.{judged_by};
 
 use crate::search::cells_of;
 use judge::Verdict;
@@ -52,7 +52,7 @@ impl Planner {
 
     // Are these numbers, three for each load, a run?
     pub fn judge(self, run: &[u32]) -> Verdict
-        ensures { result ≡ judgedBy (held self) run.now }
+        ensures { result ≡ judged_by (held self) run.now }
     {
         if !self.keeps_limits() {
             return Verdict::LimitBroken;

@@ -2,8 +2,8 @@
 ghost use Rattle.std.specs.Prelude.{◌≡◌};
 ghost use Rattle.lines.specs.declared.Command.TheVariants as line;
 ghost use Rattle.calls.specs.Rows.{row};
-ghost use Rattle.planner.specs.Planner.{stateIn, Lawful};
-ghost use Rattle.planner.specs.Decided.{needAnswer, unshown, Decides};
+ghost use Rattle.planner.specs.Planner.{state_in, Lawful};
+ghost use Rattle.planner.specs.Decided.{need_answer, unshown, Decides};
 
 use crate::Planner;
 use crate::search::{Decided, cells_of, unshown};
@@ -17,7 +17,7 @@ const MAX_NEED: usize = MAX_LOADS * (MAX_WORTH as usize);
 
 // What `need` is answered, by what the cells say.
 fn need_answer(n: Need) -> Answer
-    ensures { result ≡ needAnswer n }
+    ensures { result ≡ need_answer n }
 {
     match n {
         Need::NoneFits => Answer::Refused { number: NONE_FITS },
@@ -30,7 +30,7 @@ impl Planner {
     // What `need` is answered. The planner stays beside it: it comes back once, with whatever answer.
     fn needed(self, worth: u32, work: &mut [u32]) -> Answer
         requires { Lawful self }
-        ensures { Decides (stateIn self) (row (stateIn self) (line.Need worth)) work.old work.new (unshown result self) }
+        ensures { Decides (state_in self) (row (state_in self) (line.Need worth)) work.old work.new (unshown result self) }
     {
         let tables = self.tables;
         if tables.loads.count == 0 {
@@ -53,7 +53,7 @@ impl Planner {
     // The least budget whose plan has that worth. It stores nothing.
     pub(crate) fn need(self, worth: u32, work: &mut [u32]) -> Decided
         requires { Lawful self }
-        ensures { Decides (stateIn self) (row (stateIn self) (line.Need worth)) work.old work.new result }
+        ensures { Decides (state_in self) (row (state_in self) (line.Need worth)) work.old work.new result }
     {
         let answer = self.needed(worth, work);
         unshown(answer, self)

@@ -1,12 +1,12 @@
 // A plan by portions: a call fills some of its cells, and the call after the last of them gives the answer.
 ghost use Rattle.std.specs.Prelude.{◌≡◌, ◌+◌, ◌≤◌, ◌<◌, length};
-ghost use Rattle.lines.specs.Answers.{runBytes};
+ghost use Rattle.lines.specs.Answers.{run_bytes};
 ghost use Rattle.tables.specs.Stored.{tables_of};
 ghost use Rattle.meaning.specs.Cells.{cells_of};
 ghost use Rattle.calls.specs.Causes.{lowest};
-ghost use Rattle.calls.specs.Portions.{planCall, portionCauses, Portions};
-ghost use Rattle.planner.specs.Planner.{held, stateIn, Lawful};
-ghost use Rattle.planner.specs.Portions.{portionOf, portionDone, withFilled, refusedBy, Answered};
+ghost use Rattle.calls.specs.Portions.{plan_call, portion_causes, Portions};
+ghost use Rattle.planner.specs.Planner.{held, state_in, Lawful};
+ghost use Rattle.planner.specs.Portions.{portion_of, portion_done, with_filled, refused_by, Answered};
 
 use crate::Planner;
 use crate::answers::write_outcome;
@@ -32,7 +32,7 @@ impl Planner {
     // The planner with so many cells filled.
     fn with_filled(self, n: usize) -> Planner
         requires { n < 4294967296 }
-        ensures { result ≡ withFilled self n }
+        ensures { result ≡ with_filled self n }
     {
         let mut next = self;
         next.filled = n as u32;
@@ -41,7 +41,7 @@ impl Planner {
 
     // Nothing is written or filled, and everything is left as it was.
     fn portion_refused(self, number: u8) -> Portion
-        ensures { result ≡ refusedBy self number }
+        ensures { result ≡ refused_by self number }
     {
         Portion {
             planner: self,
@@ -54,7 +54,7 @@ impl Planner {
     // What refuses a portion of at most n cells, with so many bytes of output from the place on, and so many cells of work; 0 where nothing does.
     fn portion_refusal(self, n: usize, room: usize, place: usize, cells: usize) -> u8
         requires { Lawful self }
-        ensures { result ≡ lowest (portionCauses (stateIn self) n room place cells) }
+        ensures { result ≡ lowest (portion_causes (state_in self) n room place cells) }
     {
         if room < place {
             return UNUSABLE;
@@ -77,8 +77,8 @@ impl Planner {
     // The answer, when every cell is filled: that of the plan. It is not stored.
     fn portion_answer(self, out: &mut [u8], place: usize, work: &mut [u32]) -> Portion
         requires lawful { Lawful self × (0 < self.tables.loads.count) }
-        requires run_bytes_in_bounds { (place + runBytes ≤ length out.old) × (cells_of (tables_of self.tables) ≤ length work.old) }
-        ensures { Answered self (planCall (portionOf 0 out.old place work.old)) result out.new work.new }
+        requires run_bytes_in_bounds { (place + run_bytes ≤ length out.old) × (cells_of (tables_of self.tables) ≤ length work.old) }
+        ensures { Answered self (plan_call (portion_of 0 out.old place work.old)) result out.new work.new }
     {
         let tables = self.tables;
         let outcome = engine::portion::read_all(tables, work);
@@ -95,7 +95,7 @@ impl Planner {
     // At most n cells of the next plan are filled, from the first that is open on, in the lent work; where none is open, the answer is written from a place
     // in the output on.
     pub fn portion(self, n: usize, out: &mut [u8], place: usize, work: &mut [u32]) -> Portion
-        ensures { Portions (held self) (portionOf n out.old place work.old) (portionDone result out.new work.new) }
+        ensures { Portions (held self) (portion_of n out.old place work.old) (portion_done result out.new work.new) }
     {
         if !self.keeps_limits() {
             return self.portion_refused(UNUSABLE);

@@ -1,12 +1,12 @@
 // The commands that show a run: `plan` and `check`, which search, and `last`.
 ghost use Rattle.std.specs.Prelude.{◌≡◌};
 ghost use Rattle.lines.specs.declared.Command.TheVariants as line;
-ghost use Rattle.tables.specs.Limits.{maxLoads};
+ghost use Rattle.tables.specs.Limits.{max_loads};
 ghost use Rattle.tables.specs.Stored.{tables_of, Holds};
 ghost use Rattle.meaning.specs.Cells.{cells_of};
 ghost use Rattle.calls.specs.Rows.{row};
-ghost use Rattle.planner.specs.Planner.{stateIn, Lawful};
-ghost use Rattle.planner.specs.Decided.{notShown, beside, unshown, decided, Decides};
+ghost use Rattle.planner.specs.Planner.{state_in, Lawful};
+ghost use Rattle.planner.specs.Decided.{not_shown, beside, unshown, decided, Decides};
 
 use crate::Planner;
 use engine::figures::figures_of;
@@ -44,7 +44,7 @@ struct Shown {
 }
 
 fn not_shown(number: u8) -> Shown
-    ensures { result ≡ notShown number }
+    ensures { result ≡ not_shown number }
 {
     Shown {
         answer: Answer::Refused { number },
@@ -54,7 +54,7 @@ fn not_shown(number: u8) -> Shown
 
 // How many cells a plan needs.
 pub(crate) fn cells_of(tables: StoredTables) -> usize
-    requires { Holds maxLoads tables }
+    requires { Holds max_loads tables }
     ensures { result ≡ cells_of (tables_of tables) }
 {
     let across = tables.book.states as usize + tables.book.stages as usize;
@@ -71,7 +71,7 @@ impl Planner {
     // The latest outcome is shown, with the figures of its set.
     pub(crate) fn last(self) -> Decided
         requires { Lawful self }
-        ensures { result ≡ decided (stateIn self) 0 (row (stateIn self) line.Last) }
+        ensures { result ≡ decided (state_in self) 0 (row (state_in self) line.Last) }
     {
         if self.outcome.status == NOTHING {
             return self.refused(NO_PLAN);
@@ -97,7 +97,7 @@ impl Planner {
     // A plan stores its outcome, and shows it as `last` does.
     pub(crate) fn plan(self, work: &mut [u32]) -> Decided
         requires { Lawful self }
-        ensures { Decides (stateIn self) (row (stateIn self) line.Plan) work.old work.new result }
+        ensures { Decides (state_in self) (row (state_in self) line.Plan) work.old work.new result }
     {
         let tables = self.tables;
         if tables.loads.count == 0 {
@@ -118,7 +118,7 @@ impl Planner {
     // What the check of a set is answered. The planner stays beside it: it comes back once, with whatever answer.
     fn checked(self, set: LoadSet, count: usize) -> Shown
         requires { Lawful self }
-        ensures { beside self result ≡ decided (stateIn self) 0 (row (stateIn self) (line.Check set count)) }
+        ensures { beside self result ≡ decided (state_in self) 0 (row (state_in self) (line.Check set count)) }
     {
         let tables = self.tables;
         if tables.loads.count == 0 {
@@ -140,7 +140,7 @@ impl Planner {
 
     pub(crate) fn check(self, set: LoadSet, count: usize) -> Decided
         requires { Lawful self }
-        ensures { result ≡ decided (stateIn self) 0 (row (stateIn self) (line.Check set count)) }
+        ensures { result ≡ decided (state_in self) 0 (row (state_in self) (line.Check set count)) }
     {
         let found = self.checked(set, count);
         let answer = found.answer;

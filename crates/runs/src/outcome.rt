@@ -1,8 +1,8 @@
 // The outcome of a plan as the planner keeps it, and the test of one that is handed in.
 ghost use Rattle.std.specs.Prelude.{◌≡◌, ◌≤◌};
-ghost use Rattle.tables.specs.Limits.{maxLoads};
-ghost use Rattle.runs.specs.Outcome.{figuresIn, heldRange, usedBy, keepsOutcome};
-ghost use Rattle.runs.specs.Places.{figuresKeep};
+ghost use Rattle.tables.specs.Limits.{max_loads};
+ghost use Rattle.runs.specs.Outcome.{figures_in, held_range, used_by, keeps_outcome};
+ghost use Rattle.runs.specs.Places.{figures_keep};
 
 use crate::run::Run;
 use tables::entry::Entry;
@@ -37,7 +37,7 @@ pub struct RunRange {
 impl RunRange {
     // That of the runs of these tables.
     pub fn of(t: StoredTables) -> RunRange
-        ensures { result ≡ heldRange t }
+        ensures { result ≡ held_range t }
     {
         RunRange {
             loads: t.loads.count,
@@ -49,7 +49,7 @@ impl RunRange {
 
     // Are the figures of an entry in range? The root has row rule 0, a later load one that is in the book.
     fn holds(self, e: Entry) -> bool
-        ensures { result ≡ figuresIn self e }
+        ensures { result ≡ figures_in self e }
     {
         let state = e.state as usize;
         let rule = e.rule as usize;
@@ -65,8 +65,8 @@ impl RunRange {
 impl Run {
     // Are the figures of the first n loads in range?
     fn figures_keep(self, range: RunRange, n: usize) -> bool
-        requires { n ≤ maxLoads }
-        ensures { result ≡ figuresKeep range self n }
+        requires { n ≤ max_loads }
+        ensures { result ≡ figures_keep range self n }
     {
         let mut kept = true;
         for i in 0..n {
@@ -85,14 +85,14 @@ impl StoredOutcome {
 
     // How many places of the run are in use: one for each load, where there is a plan.
     fn used(self, loads: usize) -> usize
-        ensures { result ≡ usedBy loads self.status }
+        ensures { result ≡ used_by loads self.status }
     {
         if PLANNED <= self.status { loads } else { 0 }
     }
 
     // Are its figures in range, and its unused places 0?
     pub fn keeps_limits(self, range: RunRange) -> bool
-        ensures { result ≡ keepsOutcome range self }
+        ensures { result ≡ keeps_outcome range self }
     {
         let used = self.used(range.loads);
         if MAX_LOADS < used {

@@ -1,9 +1,9 @@
 // A run with the set of its loads.
 ghost use Rattle.std.specs.Prelude.{◌≡◌, ◌≤◌, ◌<◌};
-ghost use Rattle.marks.specs.Sets.{markIn};
-ghost use Rattle.tables.specs.Limits.{maxLoads};
-ghost use Rattle.runs.specs.Runs.{entry_at, withEntry};
-ghost use Rattle.runs.specs.Places.{freeFrom};
+ghost use Rattle.marks.specs.Sets.{mark_in};
+ghost use Rattle.tables.specs.Limits.{max_loads};
+ghost use Rattle.runs.specs.Runs.{entry_at, with_entry};
+ghost use Rattle.runs.specs.Places.{free_from};
 
 use marks::LoadSet;
 use tables::entry::Entry;
@@ -21,7 +21,7 @@ pub struct Run {
 
 // The mark of a load in a set.
 fn mark_in(set: LoadSet, number: usize) -> u8
-    ensures { result ≡ markIn set number }
+    ensures { result ≡ mark_in set number }
 {
     if set.has(number) { 1 } else { 0 }
 }
@@ -36,7 +36,7 @@ impl Run {
 
     // The entry of the load at place i.
     pub fn entry(self, i: usize) -> Entry
-        requires { i < maxLoads }
+        requires { i < max_loads }
         ensures { result ≡ entry_at self i }
     {
         Entry {
@@ -50,7 +50,7 @@ impl Run {
 
     // Do all places from place n on hold 0?
     pub(crate) fn free_from(self, n: usize) -> bool
-        ensures { result ≡ freeFrom n self }
+        ensures { result ≡ free_from n self }
     {
         let mut free = true;
         for i in 0..MAX_LOADS {
@@ -62,8 +62,8 @@ impl Run {
 
     // The run with the line of a load.
     pub fn with(self, e: Entry) -> Run
-        requires { (0 < e.number) × (e.number ≤ maxLoads) }
-        ensures { result ≡ withEntry self e }
+        requires { (0 < e.number) × (e.number ≤ max_loads) }
+        ensures { result ≡ with_entry self e }
     {
         let number = e.number as usize;
         let at = number - 1;

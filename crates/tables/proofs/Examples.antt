@@ -5,21 +5,21 @@ use mathlib.Core.Path.{◌≡◌, refl}
 use mathlib.Core.Bool.{true, false}
 use mathlib.Core.List.{List, [], ◌∷◌, map}
 use lib.ListN.{set}
-use Rattle.lists.specs.Tests.{some, every, everyFrom, distinct}
+use Rattle.lists.specs.Tests.{some, every, every_from, distinct}
 use Rattle.lists.specs.Arrays.{laid}
 use Rattle.lists.specs.Places.{limited}
 use Rattle.tables.specs.declared.tables.StoredTables.{StoredTables}
 use Rattle.tables.specs.Tables.{Transition, Load, Tables, fresh}
-use Rattle.tables.specs.Limits.{ruleIn, sameRule, sortIn, bookIn, loadIn, maxLoads, loadsIn, limits}
-use Rattle.tables.specs.Stored.{storedBook, stored, bookOf, tables_of, zeroRule, zeroLoad, keepsLimits}
-use Rattle.tables.specs.Changes.{hasChildren, remaining}
-use Rattle.tables.specs.Operations.{putLoads}
+use Rattle.tables.specs.Limits.{rule_in, same_rule, sort_in, book_in, load_in, max_loads, loads_in, limits}
+use Rattle.tables.specs.Stored.{stored_book, stored, book_of, tables_of, zero_rule, zero_load, keeps_limits}
+use Rattle.tables.specs.Changes.{has_children, remaining}
+use Rattle.tables.specs.Operations.{put_loads}
 
-ruleOf : (kind : ℕ) → ℕ → ℕ → ℕ → Transition
-ruleOf k a b d = record { from = a; label = b; to = d; kind = k }
+rule_of : (kind : ℕ) → ℕ → ℕ → ℕ → Transition
+rule_of k a b d = record { from = a; label = b; to = d; kind = k }
 
 rule : ℕ → ℕ → ℕ → Transition
-rule = ruleOf 0
+rule = rule_of 0
 
 load_of : (kind : ℕ) → ℕ → ℕ → ℕ → Load
 load_of k p w v = record { parent = p; kind = k; power = w; worth = v }
@@ -30,14 +30,14 @@ load = load_of 0
 -- S, G, start marks, end marks, load rules, row rules, loads, budget
 tables : (states stages starts ends : ℕ) → List Transition → List Transition → List Load → ℕ → Tables
 tables s g a e rs ws ls b = record {
-  book = record { states = s; stages = g; starts = record { 0 = a }; ends = record { 0 = e }; loadRules = rs; rowRules = ws };
+  book = record { states = s; stages = g; starts = record { 0 = a }; ends = record { 0 = e }; load_rules = rs; row_rules = ws };
   loads = ls;
   budget = b;
-  places = maxLoads;
+  places = max_loads;
 }
 
 lawful : Tables
-lawful = tables 2 1 3 1 (rule 1 0 1 ∷ rule 2 1 1 ∷ ruleOf 3 2 1 1 ∷ []) (rule 1 2 1 ∷ []) (load 0 500 0 ∷ load 1 0 1000 ∷ load_of 3 2 1 1 ∷ []) 500
+lawful = tables 2 1 3 1 (rule 1 0 1 ∷ rule 2 1 1 ∷ rule_of 3 2 1 1 ∷ []) (rule 1 2 1 ∷ []) (load 0 500 0 ∷ load 1 0 1000 ∷ load_of 3 2 1 1 ∷ []) 500
 
 -- each differs from tables that keep the limits in one thing
 broken : List Tables
@@ -51,9 +51,9 @@ broken =
     ∷ tables 2 1 0 0 (rule 1 0 2 ∷ []) [] [] 0
     ∷ tables 2 1 0 0 [] (rule 1 0 1 ∷ []) [] 0
     ∷ tables 2 1 0 0 (rule 1 0 1 ∷ rule 2 1 1 ∷ rule 1 0 1 ∷ []) [] [] 0
-    ∷ tables 2 1 0 0 (ruleOf 4 1 0 1 ∷ []) [] [] 0
-    ∷ tables 2 1 0 0 (ruleOf 1 1 0 1 ∷ rule 1 0 1 ∷ ruleOf 1 1 0 1 ∷ []) [] [] 0
-    ∷ tables 2 1 0 0 [] (ruleOf 1 1 1 1 ∷ []) [] 0
+    ∷ tables 2 1 0 0 (rule_of 4 1 0 1 ∷ []) [] [] 0
+    ∷ tables 2 1 0 0 (rule_of 1 1 0 1 ∷ rule 1 0 1 ∷ rule_of 1 1 0 1 ∷ []) [] [] 0
+    ∷ tables 2 1 0 0 [] (rule_of 1 1 1 1 ∷ []) [] 0
     ∷ tables 0 0 0 0 [] [] (load 1 0 0 ∷ []) 0
     ∷ tables 0 0 0 0 [] [] (load 0 0 0 ∷ load 0 0 0 ∷ []) 0
     ∷ tables 0 0 0 0 [] [] (load 0 0 0 ∷ load 2 0 0 ∷ []) 0
@@ -63,20 +63,20 @@ broken =
     ∷ tables 0 0 0 0 [] [] [] 501
     ∷ []
 
-lawful-kept : map limits (fresh maxLoads ∷ lawful ∷ []) ≡ true ∷ true ∷ []
-unfolding limits bookIn sortIn limited every distinct some everyFrom ruleIn sameRule loadIn loadsIn fresh lawful tables ruleOf rule load_of load
+lawful-kept : map limits (fresh max_loads ∷ lawful ∷ []) ≡ true ∷ true ∷ []
+unfolding limits book_in sort_in limited every distinct some every_from rule_in same_rule load_in loads_in fresh lawful tables rule_of rule load_of load
 lawful-kept = refl
 
 broken-seen : some limits broken ≡ false
-unfolding limits bookIn sortIn limited every distinct some everyFrom ruleIn sameRule loadIn loadsIn broken tables ruleOf rule load_of load
+unfolding limits book_in sort_in limited every distinct some every_from rule_in same_rule load_in loads_in broken tables rule_of rule load_of load
 broken-seen = refl
 
 -- something at an unused place is seen, also at the last
 littered : StoredTables
-littered = putLoads (stored lawful) (record { items = set (stored lawful).loads.items 63 (load 0 0 1); count = 3 })
+littered = put_loads (stored lawful) (record { items = set (stored lawful).loads.items 63 (load 0 0 1); count = 3 })
 
-litter-seen : map keepsLimits (stored lawful ∷ littered ∷ []) ≡ true ∷ false ∷ []
-unfolding keepsLimits tables_of bookOf stored storedBook laid zeroRule zeroLoad limits bookIn sortIn limited every distinct some everyFrom ruleIn sameRule loadIn loadsIn littered lawful tables ruleOf rule load_of load
+litter-seen : map keeps_limits (stored lawful ∷ littered ∷ []) ≡ true ∷ false ∷ []
+unfolding keeps_limits tables_of book_of stored stored_book laid zero_rule zero_load limits book_in sort_in limited every distinct some every_from rule_in same_rule load_in loads_in littered lawful tables rule_of rule load_of load
 litter-seen = refl
 
 -- ---- loads that leave
@@ -96,6 +96,6 @@ alone : remaining 1 (load 0 9 9 ∷ []) ≡ []
 unfolding remaining
 alone = refl
 
-parents : map (λ k. hasChildren k tree) (1 ∷ 2 ∷ 3 ∷ 4 ∷ 5 ∷ 6 ∷ []) ≡ true ∷ false ∷ true ∷ false ∷ true ∷ false ∷ []
-unfolding hasChildren some tree load_of load
+parents : map (λ k. has_children k tree) (1 ∷ 2 ∷ 3 ∷ 4 ∷ 5 ∷ 6 ∷ []) ≡ true ∷ false ∷ true ∷ false ∷ true ∷ false ∷ []
+unfolding has_children some tree load_of load
 parents = refl

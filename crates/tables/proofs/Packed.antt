@@ -17,9 +17,9 @@ use Rattle.lists.proofs.Arrays.{rest_end, rest-cons}
 use Rattle.tables.specs.declared.rule.RuleRange.{RuleRange}
 use Rattle.tables.specs.declared.rule.Transition.{Transition}
 use Rattle.tables.specs.declared.rule.TransitionList.{TransitionList}
-use Rattle.tables.specs.Tables.{noRule}
-use Rattle.tables.specs.Limits.{sameRule, maxRules}
-use Rattle.tables.specs.Places.{Packed, AllPacked, alone, ruleKeeps, rulePlace}
+use Rattle.tables.specs.Tables.{no_rule}
+use Rattle.tables.specs.Limits.{same_rule, max_rules}
+use Rattle.tables.specs.Places.{Packed, AllPacked, alone, rule_keeps, rule_place}
 
 pub and_yes : (a : Bool) → a && true ≡ a
 and_yes true = refl
@@ -27,52 +27,52 @@ and_yes false = refl
 
 -- ---- two rules, and their numbers
 record Equal (t u : Transition) : Type 0 where
-  pub sameFrom : t.from ≡ u.from
-  pub sameLabel : t.label ≡ u.label
-  pub sameTo : t.to ≡ u.to
-  pub sameKind : t.kind ≡ u.kind
+  pub same_from : t.from ≡ u.from
+  pub same_label : t.label ≡ u.label
+  pub same_to : t.to ≡ u.to
+  pub same_kind : t.kind ≡ u.kind
 
 equal-packed : (t u : Transition) (n m : ℕ) → Packed t n → Packed u m → n ≡ m → Equal t u
 equal-packed t u n m h g e = record {
-  sameFrom = omega (arith, h, g);
-  sameLabel = omega (arith, h, g);
-  sameTo = omega (arith, h, g);
-  sameKind = omega (arith, h, g);
+  same_from = omega (arith, h, g);
+  same_label = omega (arith, h, g);
+  same_to = omega (arith, h, g);
+  same_kind = omega (arith, h, g);
 }
 
 packed-equal : (t u : Transition) (n m : ℕ) → Packed t n → Packed u m → Equal t u → n ≡ m
 packed-equal t u n m h g e = omega (arith, h, g, e)
 
-equal-same : (t u : Transition) → Equal t u → sameRule t u ≡ true
-unfolding sameRule
-equal-same t u e = rw (eq-eqb _ _ e.sameFrom, eq-eqb _ _ e.sameLabel, eq-eqb _ _ e.sameTo, eq-eqb _ _ e.sameKind)
+equal-same : (t u : Transition) → Equal t u → same_rule t u ≡ true
+unfolding same_rule
+equal-same t u e = rw (eq-eqb _ _ e.same_from, eq-eqb _ _ e.same_label, eq-eqb _ _ e.same_to, eq-eqb _ _ e.same_kind)
 
-same-equal : (t u : Transition) → sameRule t u ≡ true → Equal t u
-unfolding sameRule
+same-equal : (t u : Transition) → same_rule t u ≡ true → Equal t u
+unfolding same_rule
 same-equal t u h =
     let k = and_left (eqb t.from u.from && eqb t.label u.label && eqb t.to u.to) (eqb t.kind u.kind) h in
     let o = and_left (eqb t.from u.from && eqb t.label u.label) (eqb t.to u.to) k in
     record {
-      sameFrom = eqb-true _ _ (and_left (eqb t.from u.from) (eqb t.label u.label) o);
-      sameLabel = eqb-true _ _ (and_right (eqb t.from u.from) (eqb t.label u.label) o);
-      sameTo = eqb-true _ _ (and_right (eqb t.from u.from && eqb t.label u.label) (eqb t.to u.to) k);
-      sameKind = eqb-true _ _ (and_right (eqb t.from u.from && eqb t.label u.label && eqb t.to u.to) (eqb t.kind u.kind) h);
+      same_from = eqb-true _ _ (and_left (eqb t.from u.from) (eqb t.label u.label) o);
+      same_label = eqb-true _ _ (and_right (eqb t.from u.from) (eqb t.label u.label) o);
+      same_to = eqb-true _ _ (and_right (eqb t.from u.from && eqb t.label u.label) (eqb t.to u.to) k);
+      same_kind = eqb-true _ _ (and_right (eqb t.from u.from && eqb t.label u.label && eqb t.to u.to) (eqb t.kind u.kind) h);
     }
 
-same-packed : (t u : Transition) (n m : ℕ) → Packed t n → Packed u m → eqb n m ≡ sameRule t u
+same-packed : (t u : Transition) (n m : ℕ) → Packed t n → Packed u m → eqb n m ≡ same_rule t u
 same-packed t u n m h g =
-    same_test (eqb n m) (sameRule t u)
+    same_test (eqb n m) (same_rule t u)
     (λ e. equal-same t u (equal-packed t u n m h g (eqb-true n m e)))
     (λ e. eq-eqb n m (packed-equal t u n m h g (same-equal t u e)))
 
 -- ---- a loop that packs
-pub packed_none : {ts : List Transition} {ns : List ℕ} → length ns ≡ maxRules → AllPacked ts ns 0
+pub packed_none : {ts : List Transition} {ns : List ℕ} → length ns ≡ max_rules → AllPacked ts ns 0
 packed_none e = record { whole = e; each = λ j l. absurd (not-suc-le-zero l) }
 
-pub packed_more : {ts : List Transition} {ns : List ℕ} {i v : ℕ} → AllPacked ts ns i → i < maxRules → Packed (get_or ts i noRule) v → AllPacked ts (set ns i v) (i + 1)
+pub packed_more : {ts : List Transition} {ns : List ℕ} {i v : ℕ} → AllPacked ts ns i → i < max_rules → Packed (get_or ts i no_rule) v → AllPacked ts (set ns i v) (i + 1)
 packed_more {ts} {ns} {i} {v} h l g = record {
   whole = length-set ns i v ∙ h.whole;
-  each = below_more (λ j. Packed (get_or ts j noRule) (get_or (set ns i v) j 0)) i
+  each = below_more (λ j. Packed (get_or ts j no_rule) (get_or (set ns i v) j 0)) i
       (λ j b. rw (get_or-set_other ns i j v 0 (λ q. absurd (omega arith))) (h.each j b))
       (rw (get_or-set_same ns i v 0 (omega (arith, h.whole))) g);
 }
@@ -93,18 +93,18 @@ some-agree p q d e (x ∷ xs) (y ∷ ys) l h (suc k) zero =
 some-agree p q d e (x ∷ xs) (y ∷ ys) l h (suc k) (suc s) = some-agree p q d e xs ys (omega arith) (λ j b. h (suc j) (omega arith)) k s
 
 -- the test of the rule at place i
-pub rule-at : (m : RuleRange) (l : TransitionList) (ns : List ℕ) (i : ℕ) → length l.items ≡ maxRules → AllPacked l.items ns maxRules → i < maxRules
-    → {a r : Bool} → a ≡ alone ns l.count i → r ≡ ruleKeeps m (ltb i l.count) a (get_or l.items i noRule) → r ≡ rulePlace m l i
-unfolding rulePlace alone
-rule-at m l ns i long all b e h = h ∙ ap (λ x. ruleKeeps m (ltb i l.count) x t) (e ∙ ap not agree)
+pub rule-at : (m : RuleRange) (l : TransitionList) (ns : List ℕ) (i : ℕ) → length l.items ≡ max_rules → AllPacked l.items ns max_rules → i < max_rules
+    → {a r : Bool} → a ≡ alone ns l.count i → r ≡ rule_keeps m (ltb i l.count) a (get_or l.items i no_rule) → r ≡ rule_place m l i
+unfolding rule_place alone
+rule-at m l ns i long all b e h = h ∙ ap (λ x. rule_keeps m (ltb i l.count) x t) (e ∙ ap not agree)
   where
     t : Transition
-    t = get_or l.items i noRule
+    t = get_or l.items i no_rule
 
-    agree : some (eqb (get_or ns i 0)) (rest ns l.count (i + 1)) ≡ some (sameRule t) (rest l.items l.count (i + 1))
+    agree : some (eqb (get_or ns i 0)) (rest ns l.count (i + 1)) ≡ some (same_rule t) (rest l.items l.count (i + 1))
     agree =
-        some-agree (eqb (get_or ns i 0)) (sameRule t) 0 noRule ns l.items (all.whole ∙ sym long)
-        (λ j c. same-packed t (get_or l.items j noRule) (get_or ns i 0) (get_or ns j 0) (all.each i b) (all.each j (omega (arith, all.whole)))) l.count (i + 1)
+        some-agree (eqb (get_or ns i 0)) (same_rule t) 0 no_rule ns l.items (all.whole ∙ sym long)
+        (λ j c. same-packed t (get_or l.items j no_rule) (get_or ns i 0) (get_or ns j 0) (all.each i b) (all.each j (omega (arith, all.whole)))) l.count (i + 1)
 
 -- ---- a loop that looks for the number n further on: what it has found, with what is left from place j on, decides
 pub record Decides (n : ℕ) (ns : List ℕ) (k j : ℕ) (found result : Bool) : Type 0 where

@@ -16,11 +16,11 @@ use Rattle.tables.specs.declared.rule.TransitionList.{TransitionList}
 use Rattle.tables.specs.declared.load.LoadList.{LoadList}
 use Rattle.tables.specs.declared.tables.StoredBook.{StoredBook}
 use Rattle.tables.specs.declared.tables.StoredTables.{StoredTables}
-use Rattle.tables.specs.Tables.{Sort, Load, noRule, noLoad}
-use Rattle.tables.specs.Limits.{sizeIn, marksIn, ruleIn, sameRule, ruleRange, rulesIn, maxRules, sortIn, bookIn, parent_in, maxPower, maxWorth, maxKind, loadIn, mostPlaces, loadsIn, budgetIn, limits}
-use Rattle.tables.specs.Stored.{heldSize, heldMarks, heldRules, rulesOf, loadsOf, places_of, bookOf, tables_of, zeroRule, zeroLoad, rulesFree, loadsFree, keepsLimits}
+use Rattle.tables.specs.Tables.{Sort, Load, no_rule, no_load}
+use Rattle.tables.specs.Limits.{size_in, marks_in, rule_in, same_rule, rule_range, rules_in, max_rules, sort_in, book_in, parent_in, max_power, max_worth, max_kind, load_in, most_places, loads_in, budget_in, limits}
+use Rattle.tables.specs.Stored.{held_size, held_marks, held_rules, rules_of, loads_of, places_of, book_of, tables_of, zero_rule, zero_load, rules_free, loads_free, keeps_limits}
 use Rattle.tables.proofs.Packed.{and_yes}
-use Rattle.tables.specs.Places.{rulePlace, ruleKeeps, loadKeeps, loadPlace, rulesHeld, loadsHeld, sortHeld, bookHeld}
+use Rattle.tables.specs.Places.{rule_place, rule_keeps, load_keeps, load_place, rules_held, loads_held, sort_held, book_held}
 
 -- ---- a load: the root has parent 0, a later load a smaller number
 below_suc : (a n : ℕ) → ltb a (suc n) ≡ leb a n
@@ -33,32 +33,32 @@ parent-in (suc zero) (suc p) = rw (ne_eqb (suc p) 0 (λ e. omega arith), le-ltb 
 parent-in (suc (suc k)) p = rw (ne_eqb (suc (suc k)) 1 (λ e. omega arith), below_suc p (suc k))
 
 pub load-range : (k : ℕ) (l : Load)
-    → ((eqb k 1 && eqb l.parent 0) || (leb 1 l.parent && ltb l.parent k)) && leb l.power maxPower && leb l.worth maxWorth && leb l.kind maxKind ≡ loadIn k l
-unfolding loadIn
+    → ((eqb k 1 && eqb l.parent 0) || (leb 1 l.parent && ltb l.parent k)) && leb l.power max_power && leb l.worth max_worth && leb l.kind max_kind ≡ load_in k l
+unfolding load_in
 load-range k l = rw (parent-in k l.parent)
 
 -- ---- lists
-rules-placed : (m : RuleRange) (l : TransitionList) → length l.items ≡ maxRules
-    → all_below (rulePlace m l) maxRules && leb l.count maxRules ≡ rulesHeld m l
-unfolding rulePlace ruleKeeps rulesHeld
-rules-placed m l e = places-limited noRule zeroRule maxRules l.count l.items e (ruleIn m) sameRule
+rules-placed : (m : RuleRange) (l : TransitionList) → length l.items ≡ max_rules
+    → all_below (rule_place m l) max_rules && leb l.count max_rules ≡ rules_held m l
+unfolding rule_place rule_keeps rules_held
+rules-placed m l e = places-limited no_rule zero_rule max_rules l.count l.items e (rule_in m) same_rule
 
 -- the code tests the count first
-pub rules-few : (m : RuleRange) (l : TransitionList) → length l.items ≡ maxRules → l.count ≤ maxRules → all_below (rulePlace m l) maxRules ≡ rulesHeld m l
-rules-few m l e h = sym (and_yes _) ∙ (ap (λ b. all_below (rulePlace m l) maxRules && b) (sym (le-leb l.count maxRules h)) ∙ rules-placed m l e)
+pub rules-few : (m : RuleRange) (l : TransitionList) → length l.items ≡ max_rules → l.count ≤ max_rules → all_below (rule_place m l) max_rules ≡ rules_held m l
+rules-few m l e h = sym (and_yes _) ∙ (ap (λ b. all_below (rule_place m l) max_rules && b) (sym (le-leb l.count max_rules h)) ∙ rules-placed m l e)
 
-pub rules-many : (m : RuleRange) (l : TransitionList) → maxRules < l.count → false ≡ rulesHeld m l
-unfolding rulesHeld
-rules-many m l h = rw (lt-leb l.count maxRules h)
+pub rules-many : (m : RuleRange) (l : TransitionList) → max_rules < l.count → false ≡ rules_held m l
+unfolding rules_held
+rules-many m l h = rw (lt-leb l.count max_rules h)
 
 -- the code's i + 1 is the number of the load at place i
-pub load_at : (l : LoadList) (i : ℕ) {r : Bool} → r ≡ loadKeeps (ltb i l.count) (i + 1) (get_or l.items i noLoad) → r ≡ loadPlace l i
-unfolding loadPlace
-load_at l i h = h ∙ ap (λ k. loadKeeps (ltb i l.count) k (get_or l.items i noLoad)) (add-one i)
+pub load_at : (l : LoadList) (i : ℕ) {r : Bool} → r ≡ load_keeps (ltb i l.count) (i + 1) (get_or l.items i no_load) → r ≡ load_place l i
+unfolding load_place
+load_at l i h = h ∙ ap (λ k. load_keeps (ltb i l.count) k (get_or l.items i no_load)) (add-one i)
 
-pub loads-placed : (l : LoadList) → all_below (loadPlace l) (places_of l) && leb l.count (places_of l) ≡ loadsHeld l
-unfolding loadPlace loadKeeps loadsHeld loadsIn
-loads-placed l = places-numbered noLoad zeroLoad (places_of l) l.count l.items refl loadIn
+pub loads-placed : (l : LoadList) → all_below (load_place l) (places_of l) && leb l.count (places_of l) ≡ loads_held l
+unfolding load_place load_keeps loads_held loads_in
+loads-placed l = places-numbered no_load zero_load (places_of l) l.count l.items refl load_in
 
 -- ---- the book, and the tables
 sort-order : (a r x : Bool) → a && (r && x) ≡ r && (a && x)
@@ -66,10 +66,10 @@ sort-order false r x = sym (and-false r)
 sort-order true r x = refl
 
 pub sort-placed : (k : Sort) (b : StoredBook)
-    → marksIn (heldSize b k) (heldMarks b k) && rulesHeld (ruleRange b.states b.stages k) (heldRules b k) ≡ sortHeld k b
-unfolding rulesHeld sortHeld bookOf sortIn
-sort-placed sort.Load b = sort-order (marksIn b.states b.starts) (rulesFree b.load_rules) (rulesIn (ruleRange b.states b.stages sort.Load) (rulesOf b.load_rules))
-sort-placed sort.Row b = sort-order (marksIn b.stages b.ends) (rulesFree b.row_rules) (rulesIn (ruleRange b.states b.stages sort.Row) (rulesOf b.row_rules))
+    → marks_in (held_size b k) (held_marks b k) && rules_held (rule_range b.states b.stages k) (held_rules b k) ≡ sort_held k b
+unfolding rules_held sort_held book_of sort_in
+sort-placed sort.Load b = sort-order (marks_in b.states b.starts) (rules_free b.load_rules) (rules_in (rule_range b.states b.stages sort.Load) (rules_of b.load_rules))
+sort-placed sort.Row b = sort-order (marks_in b.stages b.ends) (rules_free b.row_rules) (rules_in (rule_range b.states b.stages sort.Row) (rules_of b.row_rules))
 
 book-order : (a r x s y : Bool) → a && (r && x) && (s && y) ≡ r && s && (a && x && y)
 book-order false r x s y = sym (and-false (r && s))
@@ -77,10 +77,10 @@ book-order true false x s y = refl
 book-order true true false s y = sym (and-false s)
 book-order true true true s y = refl
 
-pub book-placed : (b : StoredBook) → sizeIn b.states b.stages && sortHeld sort.Load b && sortHeld sort.Row b ≡ bookHeld b
-unfolding sortHeld bookHeld bookIn bookOf
+pub book-placed : (b : StoredBook) → size_in b.states b.stages && sort_held sort.Load b && sort_held sort.Row b ≡ book_held b
+unfolding sort_held book_held book_in book_of
 book-placed b =
-    book-order (sizeIn b.states b.stages) (rulesFree b.load_rules) (sortIn sort.Load (bookOf b)) (rulesFree b.row_rules) (sortIn sort.Row (bookOf b))
+    book-order (size_in b.states b.stages) (rules_free b.load_rules) (sort_in sort.Load (book_of b)) (rules_free b.row_rules) (sort_in sort.Row (book_of b))
 
 tables-order : (r b q l d : Bool) → (r && b) && (q && l) && d ≡ r && q && (b && l && d && true)
 tables-order false b q l d = refl
@@ -90,9 +90,9 @@ tables-order true true true false d = refl
 tables-order true true true true false = refl
 tables-order true true true true true = refl
 
-pub tables-placed : (s : StoredTables) → places_of s.loads ≤ mostPlaces → bookHeld s.book && loadsHeld s.loads && budgetIn s.budget ≡ keepsLimits s
-unfolding bookHeld loadsHeld keepsLimits limits tables_of
+pub tables-placed : (s : StoredTables) → places_of s.loads ≤ most_places → book_held s.book && loads_held s.loads && budget_in s.budget ≡ keeps_limits s
+unfolding book_held loads_held keeps_limits limits tables_of
 tables-placed s h =
-    rw (le-leb (places_of s.loads) mostPlaces h)
-    (tables-order (rulesFree s.book.load_rules && rulesFree s.book.row_rules) (bookIn (bookOf s.book)) (loadsFree s.loads)
-    (loadsIn (places_of s.loads) (loadsOf s.loads)) (budgetIn s.budget))
+    rw (le-leb (places_of s.loads) most_places h)
+    (tables-order (rules_free s.book.load_rules && rules_free s.book.row_rules) (book_in (book_of s.book)) (loads_free s.loads)
+    (loads_in (places_of s.loads) (loads_of s.loads)) (budget_in s.budget))

@@ -9,24 +9,24 @@ use lib.ListN.{get_or}
 use Rattle.lists.specs.Tests.{some}
 use Rattle.lists.proofs.Bools.{or_left, or_right}
 use Rattle.lists.proofs.Tests.{none-at}
-use Rattle.tables.specs.Tables.{Transition, Load, Tables, noRule, noLoad}
-use Rattle.tables.specs.Kinds.{ruleKinded, loadKinded, hasKinds}
+use Rattle.tables.specs.Tables.{Transition, Load, Tables, no_rule, no_load}
+use Rattle.tables.specs.Kinds.{rule_kinded, load_kinded, has_kinds}
 
-pub no-kinds : (t : Tables) → hasKinds t ≡ false → (some ruleKinded t.book.loadRules ≡ false) × (some loadKinded t.loads ≡ false)
-unfolding hasKinds
+pub no-kinds : (t : Tables) → has_kinds t ≡ false → (some rule_kinded t.book.load_rules ≡ false) × (some load_kinded t.loads ≡ false)
+unfolding has_kinds
 no-kinds t h =
-    let a = some ruleKinded t.book.loadRules in
-    let b = some loadKinded t.loads in
+    let a = some rule_kinded t.book.load_rules in
+    let b = some load_kinded t.loads in
     (or_left a b h, or_right a b h)
 
-pub rule-plain : (rs : List Transition) → some ruleKinded rs ≡ false → (j : ℕ) → (get_or rs j noRule).kind ≡ 0
-unfolding ruleKinded
-rule-plain rs h j = omega (arith, ltb-false 0 (get_or rs j noRule).kind (none-at ruleKinded noRule refl rs h j))
+pub rule-plain : (rs : List Transition) → some rule_kinded rs ≡ false → (j : ℕ) → (get_or rs j no_rule).kind ≡ 0
+unfolding rule_kinded
+rule-plain rs h j = omega (arith, ltb-false 0 (get_or rs j no_rule).kind (none-at rule_kinded no_rule refl rs h j))
 
-pub load-plain : (l : Load) → loadKinded l ≡ false → l.kind ≡ 0
-unfolding loadKinded
+pub load-plain : (l : Load) → load_kinded l ≡ false → l.kind ≡ 0
+unfolding load_kinded
 load-plain l h = omega (arith, ltb-false 0 l.kind h)
 
-pub loads-plain : (ls : List Load) → some loadKinded ls ≡ false → (j : ℕ) → (get_or ls j noLoad).kind ≡ 0
-unfolding loadKinded
-loads-plain ls h j = load-plain (get_or ls j noLoad) (none-at loadKinded noLoad refl ls h j)
+pub loads-plain : (ls : List Load) → some load_kinded ls ≡ false → (j : ℕ) → (get_or ls j no_load).kind ≡ 0
+unfolding load_kinded
+loads-plain ls h j = load-plain (get_or ls j no_load) (none-at load_kinded no_load refl ls h j)

@@ -8,12 +8,12 @@ use Rattle.tables.specs.Tables.{Transition, Load, Tables}
 abbrev pub kinded : (kind : ℕ) → Bool
 kinded k = ltb 0 k
 
-unfoldable pub ruleKinded : Transition → Bool
-ruleKinded r = kinded r.kind
+unfoldable pub rule_kinded : Transition → Bool
+rule_kinded r = kinded r.kind
 
-unfoldable pub loadKinded : Load → Bool
-loadKinded l = kinded l.kind
+unfoldable pub load_kinded : Load → Bool
+load_kinded l = kinded l.kind
 
 -- "some load or load rule"
-unfoldable pub hasKinds : Tables → Bool
-hasKinds t = some ruleKinded t.book.loadRules || some loadKinded t.loads
+unfoldable pub has_kinds : Tables → Bool
+has_kinds t = some rule_kinded t.book.load_rules || some load_kinded t.loads

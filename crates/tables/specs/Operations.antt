@@ -17,20 +17,20 @@ use Rattle.tables.specs.declared.tables.StoredBook.{StoredBook}
 use Rattle.tables.specs.declared.tables.StoredTables.{StoredTables}
 use Rattle.tables.specs.declared.tables.Added.{Added}
 use Rattle.tables.specs.Refusals as no
-use Rattle.tables.specs.Tables.{Sort, Transition, Load, noLoad, emptyBook}
-use Rattle.tables.specs.Limits.{maxRules, sameRule}
-use Rattle.tables.specs.Stored.{heldMarks, heldRules, rulesOf, loadsOf, places_of, storedBook}
-use Rattle.tables.specs.Changes.{withFigure, reparented}
+use Rattle.tables.specs.Tables.{Sort, Transition, Load, no_load, empty_book}
+use Rattle.tables.specs.Limits.{max_rules, same_rule}
+use Rattle.tables.specs.Stored.{held_marks, held_rules, rules_of, loads_of, places_of, stored_book}
+use Rattle.tables.specs.Changes.{with_figure, reparented}
 
 -- "64 loads or 32 rules of that sort already", 128 loads with request Ten: 6; "the same rule already in the book": 7; else 0
-abbrev pub addingNumber : (isFull isThere : Bool) → ℕ
-addingNumber isFull isThere = pick isFull no.full (pick isThere no.sameRule 0)
+abbrev pub adding_number : (is_full is_there : Bool) → ℕ
+adding_number is_full is_there = pick is_full no.full (pick is_there no.same_rule 0)
 
-unfoldable pub ruleNumber : List Transition → Transition → ℕ
-ruleNumber rs r = addingNumber (leb maxRules (length rs)) (some (sameRule r) rs)
+unfoldable pub rule_number : List Transition → Transition → ℕ
+rule_number rs r = adding_number (leb max_rules (length rs)) (some (same_rule r) rs)
 
-unfoldable pub loadNumber : (places : ℕ) → List Load → ℕ
-loadNumber n ls = addingNumber (leb n (length ls)) false
+unfoldable pub load_number : (places : ℕ) → List Load → ℕ
+load_number n ls = adding_number (leb n (length ls)) false
 
 -- what is new where the number is 0, else what was
 abbrev pub accepted : {A : Type 0} → ℕ → A → A → A
@@ -40,67 +40,67 @@ accepted (suc n) new old = old
 -- ---- a list in an array: one more at the next place, another figure of one, or one fewer
 unfoldable pub appended : TransitionList → Transition → Appended
 appended l r =
-    let n = ruleNumber (rulesOf l) r in
+    let n = rule_number (rules_of l) r in
     record { number = n; list = accepted n (record { items = set l.items l.count r; count = l.count + 1 }) l }
 
-unfoldable pub loadAppended : LoadList → Load → LoadsAppended
-loadAppended l x =
-    let n = loadNumber (places_of l) (loadsOf l) in
+unfoldable pub load_appended : LoadList → Load → LoadsAppended
+load_appended l x =
+    let n = load_number (places_of l) (loads_of l) in
     record { number = n; list = accepted n (record { items = set l.items l.count x; count = l.count + 1 }) l }
 
 -- load k is at place k - 1; a number outside 1 to 128 reads an unused place, and changes nothing
-unfoldable pub loadAt : LoadList → (number : ℕ) → Load
-loadAt l k = pick (within (places_of l) k) (get_or l.items (k - 1) noLoad) noLoad
+unfoldable pub load_at : LoadList → (number : ℕ) → Load
+load_at l k = pick (within (places_of l) k) (get_or l.items (k - 1) no_load) no_load
 
-unfoldable pub loadReplaced : LoadList → (number : ℕ) → Load → LoadList
-loadReplaced l k x = pick (within (places_of l) k) (record { items = set l.items (k - 1) x; count = l.count }) l
+unfoldable pub load_replaced : LoadList → (number : ℕ) → Load → LoadList
+load_replaced l k x = pick (within (places_of l) k) (record { items = set l.items (k - 1) x; count = l.count }) l
 
-unfoldable pub figureSet : LoadList → Figure → (number value : ℕ) → LoadList
-figureSet l f k x = loadReplaced l k (withFigure f (loadAt l k) x)
+unfoldable pub figure_set : LoadList → Figure → (number value : ℕ) → LoadList
+figure_set l f k x = load_replaced l k (with_figure f (load_at l k) x)
 
 -- load k leaves: each later load comes one place down, with its parent's new number, and the last place is free. A number of no load changes
 -- nothing.
-abbrev pub movedDown : (k : ℕ) → List Load → List Load
-movedDown k items = map (reparented k) (drop k items) ++ (noLoad ∷ [])
+abbrev pub moved_down : (k : ℕ) → List Load → List Load
+moved_down k items = map (reparented k) (drop k items) ++ (no_load ∷ [])
 
-unfoldable pub loadRemoved : LoadList → (number : ℕ) → LoadList
-loadRemoved l k =
-    pick (within (places_of l) k && leb k l.count) (record { items = take (k - 1) l.items ++ movedDown k l.items; count = l.count - 1 }) l
+unfoldable pub load_removed : LoadList → (number : ℕ) → LoadList
+load_removed l k =
+    pick (within (places_of l) k && leb k l.count) (record { items = take (k - 1) l.items ++ moved_down k l.items; count = l.count - 1 }) l
 
 -- ---- tables in a planner, with a part anew
-abbrev pub putBook : StoredTables → StoredBook → StoredTables
-putBook s b = record { book = b; loads = s.loads; budget = s.budget }
+abbrev pub put_book : StoredTables → StoredBook → StoredTables
+put_book s b = record { book = b; loads = s.loads; budget = s.budget }
 
-abbrev pub putLoads : StoredTables → LoadList → StoredTables
-putLoads s l = record { book = s.book; loads = l; budget = s.budget }
+abbrev pub put_loads : StoredTables → LoadList → StoredTables
+put_loads s l = record { book = s.book; loads = l; budget = s.budget }
 
-abbrev pub putMarks : Sort → StoredBook → Marks → StoredBook
-putMarks sort.Load b m = record { states = b.states; stages = b.stages; starts = m; ends = b.ends; load_rules = b.load_rules; row_rules = b.row_rules }
-putMarks sort.Row b m = record { states = b.states; stages = b.stages; starts = b.starts; ends = m; load_rules = b.load_rules; row_rules = b.row_rules }
+abbrev pub put_marks : Sort → StoredBook → Marks → StoredBook
+put_marks sort.Load b m = record { states = b.states; stages = b.stages; starts = m; ends = b.ends; load_rules = b.load_rules; row_rules = b.row_rules }
+put_marks sort.Row b m = record { states = b.states; stages = b.stages; starts = b.starts; ends = m; load_rules = b.load_rules; row_rules = b.row_rules }
 
-abbrev pub putRules : Sort → StoredBook → TransitionList → StoredBook
-putRules sort.Load b l = record { states = b.states; stages = b.stages; starts = b.starts; ends = b.ends; load_rules = l; row_rules = b.row_rules }
-putRules sort.Row b l = record { states = b.states; stages = b.stages; starts = b.starts; ends = b.ends; load_rules = b.load_rules; row_rules = l }
+abbrev pub put_rules : Sort → StoredBook → TransitionList → StoredBook
+put_rules sort.Load b l = record { states = b.states; stages = b.stages; starts = b.starts; ends = b.ends; load_rules = l; row_rules = b.row_rules }
+put_rules sort.Row b l = record { states = b.states; stages = b.stages; starts = b.starts; ends = b.ends; load_rules = b.load_rules; row_rules = l }
 
 -- ---- the operations
-unfoldable pub bookBegun : StoredTables → (states stages : ℕ) → StoredTables
-bookBegun s q g = putBook s (storedBook (emptyBook q g))
+unfoldable pub book_begun : StoredTables → (states stages : ℕ) → StoredTables
+book_begun s q g = put_book s (stored_book (empty_book q g))
 
-unfoldable pub markSet : StoredTables → Sort → (number : ℕ) → StoredTables
-markSet s k q = putBook s (putMarks k s.book (marked (heldMarks s.book k) q))
+unfoldable pub mark_set : StoredTables → Sort → (number : ℕ) → StoredTables
+mark_set s k q = put_book s (put_marks k s.book (marked (held_marks s.book k) q))
 
-unfoldable pub ruleAdded : StoredTables → Sort → Transition → Added
-ruleAdded s k r =
-    let a = appended (heldRules s.book k) r in record { number = a.number; tables = putBook s (putRules k s.book a.list) }
+unfoldable pub rule_added : StoredTables → Sort → Transition → Added
+rule_added s k r =
+    let a = appended (held_rules s.book k) r in record { number = a.number; tables = put_book s (put_rules k s.book a.list) }
 
-unfoldable pub loadAdded : StoredTables → Load → Added
-loadAdded s x = let a = loadAppended s.loads x in record { number = a.number; tables = putLoads s a.list }
+unfoldable pub load_added : StoredTables → Load → Added
+load_added s x = let a = load_appended s.loads x in record { number = a.number; tables = put_loads s a.list }
 
-unfoldable pub figureChanged : StoredTables → Figure → (number value : ℕ) → StoredTables
-figureChanged s f k x = putLoads s (figureSet s.loads f k x)
+unfoldable pub figure_changed : StoredTables → Figure → (number value : ℕ) → StoredTables
+figure_changed s f k x = put_loads s (figure_set s.loads f k x)
 
-unfoldable pub loadDropped : StoredTables → (number : ℕ) → StoredTables
-loadDropped s k = putLoads s (loadRemoved s.loads k)
+unfoldable pub load_dropped : StoredTables → (number : ℕ) → StoredTables
+load_dropped s k = put_loads s (load_removed s.loads k)
 
-unfoldable pub budgetChanged : StoredTables → ℕ → StoredTables
-budgetChanged s w = record { book = s.book; loads = s.loads; budget = w }
+unfoldable pub budget_changed : StoredTables → ℕ → StoredTables
+budget_changed s w = record { book = s.book; loads = s.loads; budget = w }

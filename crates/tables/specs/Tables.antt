@@ -16,8 +16,8 @@ pub record Book : Type 0 where
   pub stages : ℕ
   pub starts : Marks
   pub ends : Marks
-  pub loadRules : List Transition
-  pub rowRules : List Transition
+  pub load_rules : List Transition
+  pub row_rules : List Transition
 
 -- "A state belongs to a load, a stage to a place in a row of children." What a book has of either sort: how many states or stages, the start
 -- states or the end stages, the load rules or the row rules.
@@ -25,13 +25,13 @@ abbrev pub size_for : Book → Sort → ℕ
 size_for b sort.Load = b.states
 size_for b sort.Row = b.stages
 
-abbrev pub marksFor : Book → Sort → Marks
-marksFor b sort.Load = b.starts
-marksFor b sort.Row = b.ends
+abbrev pub marks_for : Book → Sort → Marks
+marks_for b sort.Load = b.starts
+marks_for b sort.Row = b.ends
 
-abbrev pub rulesFor : Book → Sort → List Transition
-rulesFor b sort.Load = b.loadRules
-rulesFor b sort.Row = b.rowRules
+abbrev pub rules_for : Book → Sort → List Transition
+rules_for b sort.Load = b.load_rules
+rules_for b sort.Row = b.row_rules
 
 -- the loads are "numbered 1 to 64 in order of entry", to 128 with request Ten of paper 02: that is `places`, the limit of loads, which no line changes
 pub record Tables : Type 0 where
@@ -41,16 +41,16 @@ pub record Tables : Type 0 where
   pub places : ℕ
 
 -- what an unused place holds
-abbrev pub noRule : Transition
-noRule = record { from = 0; label = 0; to = 0; kind = 0 }
+abbrev pub no_rule : Transition
+no_rule = record { from = 0; label = 0; to = 0; kind = 0 }
 
-abbrev pub noLoad : Load
-noLoad = record { parent = 0; kind = 0; power = 0; worth = 0 }
+abbrev pub no_load : Load
+no_load = record { parent = 0; kind = 0; power = 0; worth = 0 }
 
 -- "new book: no rules, no marks"
-abbrev pub emptyBook : (states stages : ℕ) → Book
-emptyBook s g = record { states = s; stages = g; starts = record { 0 = 0 }; ends = record { 0 = 0 }; loadRules = []; rowRules = [] }
+abbrev pub empty_book : (states stages : ℕ) → Book
+empty_book s g = record { states = s; stages = g; starts = record { 0 = 0 }; ends = record { 0 = 0 }; load_rules = []; row_rules = [] }
 
 -- "A fresh planner has 0 states and stages, no rules, no loads and budget 0."
 unfoldable pub fresh : (places : ℕ) → Tables
-fresh n = record { book = emptyBook 0 0; loads = []; budget = 0; places = n }
+fresh n = record { book = empty_book 0 0; loads = []; budget = 0; places = n }

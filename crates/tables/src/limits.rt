@@ -1,8 +1,8 @@
 // The test of tables that are handed in: do they keep the limits?
 ghost use Rattle.std.specs.Prelude.{◌≤◌, ◌<◌, ◌≡◌, true, ◌↔◌, length};
-ghost use Rattle.tables.specs.Limits.{sizeIn, marksIn, maxRules, maxLoads};
-ghost use Rattle.tables.specs.Stored.{keepsLimits, Holds};
-ghost use Rattle.tables.specs.Places.{Packed, AllPacked, alone, ruleKeeps, rulesHeld, loadKeeps, loadsHeld, sortHeld, bookHeld};
+ghost use Rattle.tables.specs.Limits.{size_in, marks_in, max_rules, max_loads};
+ghost use Rattle.tables.specs.Stored.{keeps_limits, Holds};
+ghost use Rattle.tables.specs.Places.{Packed, AllPacked, alone, rule_keeps, rules_held, load_keeps, loads_held, sort_held, book_held};
 
 use crate::load::{Load, LoadList, MAX_LOADS};
 use crate::rule::{MAX_RULES, RuleRange, Sort, Transition, TransitionList};
@@ -18,7 +18,7 @@ const BYTE: u32 = 256;
 
 // Do marks stand only on the numbers up to n?
 pub(crate) fn marks_in(n: u8, m: Marks) -> bool
-    ensures { result ≡ marksIn n m }
+    ensures { result ≡ marks_in n m }
 {
     if MAX_STATES <= n {
         return true;
@@ -28,7 +28,7 @@ pub(crate) fn marks_in(n: u8, m: Marks) -> bool
 
 // Are there 1 to 8 states and stages, or none of either?
 pub(crate) fn size_in(states: u8, stages: u8) -> bool
-    ensures { result ≡ sizeIn states stages }
+    ensures { result ≡ size_in states stages }
 {
     let none = (states == 0) & (stages == 0);
     let some_states = (1 <= states) & (states <= MAX_STATES);
@@ -48,7 +48,7 @@ impl Transition {
 
     // In use it is in range and alone, unused it holds 0.
     fn keeps(self, range: RuleRange, used: bool, alone: bool) -> bool
-        ensures { result ≡ ruleKeeps range used alone self }
+        ensures { result ≡ rule_keeps range used alone self }
     {
         (used & (range.holds(self) & alone)) | (!used & self.is_zero())
     }
@@ -56,7 +56,7 @@ impl Transition {
 
 // Is the rule at place i not there again further on, among the first `count`?
 fn alone_at(packed: &[u32; MAX_RULES], count: usize, i: usize) -> bool
-    requires { (i < maxRules) × (count ≤ maxRules) × (length packed.now ≡ maxRules) }
+    requires { (i < max_rules) × (count ≤ max_rules) × (length packed.now ≡ max_rules) }
     ensures { result ≡ alone packed.now count i }
 {
     let rule = packed[i];
@@ -71,7 +71,7 @@ fn alone_at(packed: &[u32; MAX_RULES], count: usize, i: usize) -> bool
 impl TransitionList {
     // The rules of all places, each packed, so that they can be lent: no list is copied for each rule.
     fn packed(self) -> [u32; MAX_RULES]
-        ensures { AllPacked self.items result maxRules }
+        ensures { AllPacked self.items result max_rules }
     {
         let mut packed = [0u32; MAX_RULES];
         for i in 0..MAX_RULES {
@@ -82,7 +82,7 @@ impl TransitionList {
     }
 
     pub(crate) fn keeps_limits(self, range: RuleRange) -> bool
-        ensures { result ≡ rulesHeld range self }
+        ensures { result ≡ rules_held range self }
     {
         if MAX_RULES < self.count {
             return false;
@@ -101,7 +101,7 @@ impl TransitionList {
 impl Load {
     // In use it is in range for its number, unused it holds 0.
     fn keeps(self, used: bool, number: usize) -> bool
-        ensures { result ≡ loadKeeps used number self }
+        ensures { result ≡ load_keeps used number self }
     {
         (used & self.in_range(number)) | (!used & self.is_zero())
     }
@@ -109,7 +109,7 @@ impl Load {
 
 impl LoadList {
     pub(crate) fn keeps_limits(self) -> bool
-        ensures { result ≡ loadsHeld self }
+        ensures { result ≡ loads_held self }
     {
         let mut kept = true;
         for i in 0..MAX_LOADS {
@@ -123,7 +123,7 @@ impl LoadList {
 impl StoredBook {
     // Do the marks and the rules of this sort keep the limits?
     fn sort_keeps(self, sort: Sort) -> bool
-        ensures { result ≡ sortHeld sort self }
+        ensures { result ≡ sort_held sort self }
     {
         let range = RuleRange::of(sort, self.states, self.stages);
         let rules = self.rules(sort);
@@ -131,7 +131,7 @@ impl StoredBook {
     }
 
     pub(crate) fn keeps_limits(self) -> bool
-        ensures { result ≡ bookHeld self }
+        ensures { result ≡ book_held self }
     {
         size_in(self.states, self.stages) & self.sort_keeps(Sort::Load) & self.sort_keeps(Sort::Row)
     }
@@ -140,8 +140,8 @@ impl StoredBook {
 impl StoredTables {
     // Exactly if these are tables that keep the limits, laid out, with 0 at every unused place.
     pub fn keeps_limits(self) -> bool
-        ensures equation { result ≡ keepsLimits self }
-        ensures exactly { (result ≡ true) ↔ Holds maxLoads self }
+        ensures equation { result ≡ keeps_limits self }
+        ensures exactly { (result ≡ true) ↔ Holds max_loads self }
     {
         self.book.keeps_limits() & self.loads.keeps_limits() & (self.budget <= MAX_BUDGET)
     }

@@ -1,11 +1,11 @@
 // Loads, and the list of them.
 ghost use Rattle.std.specs.Prelude.{◌≡◌};
 ghost use Rattle.lists.specs.Tests.{some};
-ghost use Rattle.tables.specs.Limits.{loadIn, most_of};
-ghost use Rattle.tables.specs.Stored.{loadsOf, zeroLoad};
-ghost use Rattle.tables.specs.Kinds.{loadKinded};
-ghost use Rattle.tables.specs.Changes.{withFigure, isChild, hasChildren, reparented};
-ghost use Rattle.tables.specs.Operations.{loadAppended, loadAt, loadReplaced, figureSet, loadRemoved};
+ghost use Rattle.tables.specs.Limits.{load_in, most_of};
+ghost use Rattle.tables.specs.Stored.{loads_of, zero_load};
+ghost use Rattle.tables.specs.Kinds.{load_kinded};
+ghost use Rattle.tables.specs.Changes.{with_figure, is_child, has_children, reparented};
+ghost use Rattle.tables.specs.Operations.{load_appended, load_at, load_replaced, figure_set, load_removed};
 
 use crate::refusal::FULL;
 
@@ -71,14 +71,14 @@ impl Load {
     };
 
     pub(crate) fn is_zero(self) -> bool
-        ensures { result ≡ zeroLoad self }
+        ensures { result ≡ zero_load self }
     {
         (self.parent == 0) & (self.power == 0) & (self.worth == 0) & (self.kind == 0)
     }
 
     // Are the parent and the figures in range for the load of this number? The root has parent 0, a later load a smaller number.
     pub(crate) fn in_range(self, number: usize) -> bool
-        ensures { result ≡ loadIn number self }
+        ensures { result ≡ load_in number self }
     {
         let parent = self.parent as usize;
         let root = (number == 1) & (parent == 0);
@@ -90,14 +90,14 @@ impl Load {
     }
 
     pub(crate) fn has_kind(self) -> bool
-        ensures { result ≡ loadKinded self }
+        ensures { result ≡ load_kinded self }
     {
         0 < self.kind
     }
 
     // The load with another figure.
     pub(crate) fn with_figure(self, figure: Figure, value: u16) -> Load
-        ensures { result ≡ withFigure figure self value }
+        ensures { result ≡ with_figure figure self value }
     {
         match figure {
             Figure::Power => Load {
@@ -117,7 +117,7 @@ impl Load {
 
     // Is it a child of the load of this number?
     pub(crate) fn is_child(self, number: usize) -> bool
-        ensures { result ≡ isChild number self }
+        ensures { result ≡ is_child number self }
     {
         self.parent as usize == number
     }
@@ -146,7 +146,7 @@ impl LoadList {
 
     // The list with l at its end, unless it is full.
     pub(crate) fn append(self, l: Load) -> LoadsAppended
-        ensures { result ≡ loadAppended self l }
+        ensures { result ≡ load_appended self l }
     {
         let count = self.count;
         if MAX_LOADS <= count {
@@ -166,7 +166,7 @@ impl LoadList {
 
     // The load of this number. A number outside 1 to 128 gives what an unused place holds.
     pub fn load(self, number: usize) -> Load
-        ensures { result ≡ loadAt self number }
+        ensures { result ≡ load_at self number }
     {
         if number == 0 {
             return Load::NONE;
@@ -179,7 +179,7 @@ impl LoadList {
 
     // The list with another load of this number. A number outside 1 to 128 changes nothing.
     pub(crate) fn replace(self, number: usize, load: Load) -> LoadList
-        ensures { result ≡ loadReplaced self number load }
+        ensures { result ≡ load_replaced self number load }
     {
         if number == 0 {
             return self;
@@ -193,7 +193,7 @@ impl LoadList {
     }
 
     pub(crate) fn set_figure(self, figure: Figure, number: usize, value: u16) -> LoadList
-        ensures { result ≡ figureSet self figure number value }
+        ensures { result ≡ figure_set self figure number value }
     {
         let load = self.load(number);
         self.replace(number, load.with_figure(figure, value))
@@ -201,7 +201,7 @@ impl LoadList {
 
     // Is some load a child of the load of this number?
     pub fn has_children(self, number: usize) -> bool
-        ensures { result ≡ hasChildren number (loadsOf self) }
+        ensures { result ≡ has_children number (loads_of self) }
     {
         for i in 0..MAX_LOADS {
             if self.count <= i {
@@ -217,7 +217,7 @@ impl LoadList {
 
     // Has some load a kind other than 0?
     pub(crate) fn has_kinds(self) -> bool
-        ensures { result ≡ some loadKinded (loadsOf self) }
+        ensures { result ≡ some load_kinded (loads_of self) }
     {
         for place in 0..MAX_LOADS {
             if self.count <= place {
@@ -234,7 +234,7 @@ impl LoadList {
     // The list without the load of this number. Each later load comes one place down, and the last place is free. A number of no load changes
     // nothing.
     pub(crate) fn remove(self, number: usize) -> LoadList
-        ensures { result ≡ loadRemoved self number }
+        ensures { result ≡ load_removed self number }
     {
         if number == 0 {
             return self;

@@ -2,9 +2,9 @@
 ghost use Rattle.std.specs.Prelude.{◌≡◌};
 ghost use Rattle.lists.specs.Tests.{some};
 ghost use Rattle.lists.specs.Arrays.{rest};
-ghost use Rattle.tables.specs.Limits.{ruleIn, ruleRange, sameRule};
-ghost use Rattle.tables.specs.Stored.{rulesOf, zeroRule};
-ghost use Rattle.tables.specs.Kinds.{ruleKinded};
+ghost use Rattle.tables.specs.Limits.{rule_in, rule_range, same_rule};
+ghost use Rattle.tables.specs.Stored.{rules_of, zero_rule};
+ghost use Rattle.tables.specs.Kinds.{rule_kinded};
 ghost use Rattle.tables.specs.Operations.{appended};
 
 use crate::load::MAX_KIND;
@@ -66,7 +66,7 @@ impl Transition {
     };
 
     pub(crate) fn same(self, other: Transition) -> bool
-        ensures { result ≡ sameRule self other }
+        ensures { result ≡ same_rule self other }
     {
         (self.from == other.from)
             & (self.label == other.label)
@@ -75,13 +75,13 @@ impl Transition {
     }
 
     pub(crate) fn is_zero(self) -> bool
-        ensures { result ≡ zeroRule self }
+        ensures { result ≡ zero_rule self }
     {
         (self.from == 0) & (self.label == 0) & (self.to == 0) & (self.kind == 0)
     }
 
     pub(crate) fn has_kind(self) -> bool
-        ensures { result ≡ ruleKinded self }
+        ensures { result ≡ rule_kinded self }
     {
         0 < self.kind
     }
@@ -90,7 +90,7 @@ impl Transition {
 impl RuleRange {
     // A load rule is state, mark 0 or 1, stage and kind; a row rule is stage, state, next stage, and has no kind.
     pub fn of(sort: Sort, states: u8, stages: u8) -> RuleRange
-        ensures { result ≡ ruleRange states stages sort }
+        ensures { result ≡ rule_range states stages sort }
     {
         match sort {
             Sort::Load => RuleRange {
@@ -112,7 +112,7 @@ impl RuleRange {
 
     // Is each number of t in its range?
     pub(crate) fn holds(self, t: Transition) -> bool
-        ensures { result ≡ ruleIn self t }
+        ensures { result ≡ rule_in self t }
     {
         let from = (1 <= t.from) & (t.from <= self.from);
         let label = (self.low <= t.label) & (t.label <= self.high);
@@ -129,7 +129,7 @@ impl TransitionList {
 
     // Is the rule t in the list, from place `start` on?
     pub(crate) fn found_from(self, t: Transition, start: usize) -> bool
-        ensures { result ≡ some (sameRule t) (rest self.items self.count start) }
+        ensures { result ≡ some (same_rule t) (rest self.items self.count start) }
     {
         for i in start..MAX_RULES {
             if self.count <= i {
@@ -145,7 +145,7 @@ impl TransitionList {
 
     // Has some rule a kind other than 0?
     pub(crate) fn has_kinds(self) -> bool
-        ensures { result ≡ some ruleKinded (rulesOf self) }
+        ensures { result ≡ some rule_kinded (rules_of self) }
     {
         for place in 0..MAX_RULES {
             if self.count <= place {

@@ -1,10 +1,10 @@
 // The tables as the planner holds them, and the changes that the commands make.
 ghost use Rattle.std.specs.Prelude.{◌≡◌};
-ghost use Rattle.tables.specs.Tables.{fresh, emptyBook};
-ghost use Rattle.tables.specs.Limits.{maxLoads};
-ghost use Rattle.tables.specs.Stored.{storedBook, stored, tables_of, heldSize, heldMarks, heldRules};
-ghost use Rattle.tables.specs.Kinds.{hasKinds};
-ghost use Rattle.tables.specs.Operations.{putBook, putLoads, putMarks, putRules, bookBegun, markSet, ruleAdded, loadAdded, figureChanged, loadDropped, budgetChanged};
+ghost use Rattle.tables.specs.Tables.{fresh, empty_book};
+ghost use Rattle.tables.specs.Limits.{max_loads};
+ghost use Rattle.tables.specs.Stored.{stored_book, stored, tables_of, held_size, held_marks, held_rules};
+ghost use Rattle.tables.specs.Kinds.{has_kinds};
+ghost use Rattle.tables.specs.Operations.{put_book, put_loads, put_marks, put_rules, book_begun, mark_set, rule_added, load_added, figure_changed, load_dropped, budget_changed};
 
 use crate::load::{Figure, Load, LoadList};
 use crate::rule::{Sort, Transition, TransitionList};
@@ -41,7 +41,7 @@ pub struct Added {
 impl StoredBook {
     // A book with no rules and no marks.
     pub(crate) fn empty(states: u8, stages: u8) -> StoredBook
-        ensures { result ≡ storedBook (emptyBook states stages) }
+        ensures { result ≡ stored_book (empty_book states stages) }
     {
         StoredBook {
             states,
@@ -55,7 +55,7 @@ impl StoredBook {
 
     // How many states, or stages.
     pub fn size(self, sort: Sort) -> u8
-        ensures { result ≡ heldSize self sort }
+        ensures { result ≡ held_size self sort }
     {
         match sort {
             Sort::Load => self.states,
@@ -65,7 +65,7 @@ impl StoredBook {
 
     // The start states, or the end stages.
     pub(crate) fn marks(self, sort: Sort) -> Marks
-        ensures { result ≡ heldMarks self sort }
+        ensures { result ≡ held_marks self sort }
     {
         match sort {
             Sort::Load => self.starts,
@@ -75,7 +75,7 @@ impl StoredBook {
 
     // The load rules, or the row rules.
     pub(crate) fn rules(self, sort: Sort) -> TransitionList
-        ensures { result ≡ heldRules self sort }
+        ensures { result ≡ held_rules self sort }
     {
         match sort {
             Sort::Load => self.load_rules,
@@ -84,7 +84,7 @@ impl StoredBook {
     }
 
     fn with_marks(self, sort: Sort, marks: Marks) -> StoredBook
-        ensures { result ≡ putMarks sort self marks }
+        ensures { result ≡ put_marks sort self marks }
     {
         let mut next = self;
         match sort {
@@ -99,7 +99,7 @@ impl StoredBook {
     }
 
     fn with_rules(self, sort: Sort, rules: TransitionList) -> StoredBook
-        ensures { result ≡ putRules sort self rules }
+        ensures { result ≡ put_rules sort self rules }
     {
         let mut next = self;
         match sort {
@@ -117,7 +117,7 @@ impl StoredBook {
 impl StoredTables {
     // The tables of a fresh planner.
     pub fn fresh() -> StoredTables
-        ensures { result ≡ stored (fresh maxLoads) }
+        ensures { result ≡ stored (fresh max_loads) }
     {
         StoredTables {
             book: StoredBook::empty(0, 0),
@@ -128,13 +128,13 @@ impl StoredTables {
 
     // Has some load or load rule a kind other than 0?
     pub fn has_kinds(self) -> bool
-        ensures { result ≡ hasKinds (tables_of self) }
+        ensures { result ≡ has_kinds (tables_of self) }
     {
         self.book.load_rules.has_kinds() | self.loads.has_kinds()
     }
 
     fn with_book(self, book: StoredBook) -> StoredTables
-        ensures { result ≡ putBook self book }
+        ensures { result ≡ put_book self book }
     {
         let mut next = self;
         next.book = book;
@@ -142,7 +142,7 @@ impl StoredTables {
     }
 
     fn with_loads(self, loads: LoadList) -> StoredTables
-        ensures { result ≡ putLoads self loads }
+        ensures { result ≡ put_loads self loads }
     {
         let mut next = self;
         next.loads = loads;
@@ -151,14 +151,14 @@ impl StoredTables {
 
     // A new book: no rules, no marks. Loads and budget stay.
     pub fn new_book(self, states: u8, stages: u8) -> StoredTables
-        ensures { result ≡ bookBegun self states stages }
+        ensures { result ≡ book_begun self states stages }
     {
         self.with_book(StoredBook::empty(states, stages))
     }
 
     // One more start state, or end stage.
     pub fn mark(self, sort: Sort, number: usize) -> StoredTables
-        ensures { result ≡ markSet self sort number }
+        ensures { result ≡ mark_set self sort number }
     {
         let book = self.book;
         let marks = book.marks(sort);
@@ -167,7 +167,7 @@ impl StoredTables {
 
     // One more load rule, or row rule.
     pub fn add_rule(self, sort: Sort, t: Transition) -> Added
-        ensures { result ≡ ruleAdded self sort t }
+        ensures { result ≡ rule_added self sort t }
     {
         let book = self.book;
         let rules = book.rules(sort);
@@ -180,7 +180,7 @@ impl StoredTables {
     }
 
     pub fn add_load(self, l: Load) -> Added
-        ensures { result ≡ loadAdded self l }
+        ensures { result ≡ load_added self l }
     {
         let a = self.loads.append(l);
         let list = a.list;
@@ -192,20 +192,20 @@ impl StoredTables {
 
     // Another figure of the load of this number.
     pub fn set_figure(self, figure: Figure, number: usize, value: u16) -> StoredTables
-        ensures { result ≡ figureChanged self figure number value }
+        ensures { result ≡ figure_changed self figure number value }
     {
         self.with_loads(self.loads.set_figure(figure, number, value))
     }
 
     // The tables without the load of this number. A number of no load changes nothing.
     pub fn drop_load(self, number: usize) -> StoredTables
-        ensures { result ≡ loadDropped self number }
+        ensures { result ≡ load_dropped self number }
     {
         self.with_loads(self.loads.remove(number))
     }
 
     pub fn set_budget(self, watts: u16) -> StoredTables
-        ensures { result ≡ budgetChanged self watts }
+        ensures { result ≡ budget_changed self watts }
     {
         let mut next = self;
         next.budget = watts;

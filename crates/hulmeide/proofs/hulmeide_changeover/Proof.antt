@@ -42,7 +42,7 @@ use Rattle.planner.specs.contracts.Planner as T
 use Rattle.planner.proofs.Planner.TheLaws as T'
 use Rattle.changeover.specs.declared.order.Step.{Step}
 use Rattle.changeover.specs.declared.order.Switched.{Switched}
-use Rattle.changeover.specs.Changeover.{changedTo, changeover}
+use Rattle.changeover.specs.Changeover.{changed_to, changeover}
 use Rattle.changeover.specs.contracts.order.Step as E
 use Rattle.changeover.specs.contracts.order.Switched as R
 use Rattle.changeover.proofs.order.Switched.TheLaws as R'
@@ -98,7 +98,7 @@ module _ {M : Type 1} {𝓤 : Ura M} (𝓛 : Logic 𝓤) (at_mem : Memory → SP
 
   -- what the callee ensures: its clause, and the last list of which it speaks
   abbrev Promised : Switched → List Step → Type 0
-  Promised r l = changedTo r.number r.count l ≡ changeover (held p) old.now new.now list.now
+  Promised r l = changed_to r.number r.count l ≡ changeover (held p) old.now new.now list.now
 
   abbrev Ensured : Switched → SProp 𝓤
   Ensured r = ensured 𝓛 callee.ended (callee.clauses 𝓛 at_mem run) (κ₁, (κ₂, (κ₃, tt))) (p, lent) tt r

@@ -41,7 +41,7 @@ use Rattle.planner.specs.Planner.{held}
 use Rattle.planner.specs.declared.Planner.{Planner}
 use Rattle.planner.specs.contracts.Planner as T
 use Rattle.planner.proofs.Planner.TheLaws as T'
-use Rattle.page.specs.Drawing.{drawnOf, drawing}
+use Rattle.page.specs.Drawing.{drawn_of, drawing}
 use Rattle.walks.proofs.Steps.{mach, has, slice, sized, at_place, spelled, returned, freed, by-walk}
 use Rattle.hulmeide.specs.contracts.draw_page as callee
 use Rattle.hulmeide.proofs.draw_page.Symbol as callee-def
@@ -93,7 +93,7 @@ module _ {M : Type 1} {𝓤 : Ura M} (𝓛 : Logic 𝓤) (at_mem : Memory → SP
 
   -- what the callee ensures: its clause, and the last page of which it speaks
   abbrev Promised : ℕ → List ℕ → Type 0
-  Promised r s = drawnOf r s ≡ drawing (held p) k page.now
+  Promised r s = drawn_of r s ≡ drawing (held p) k page.now
 
   abbrev Ensured : ℕ → SProp 𝓤
   Ensured r = ensured 𝓛 callee.ended (callee.clauses 𝓛 at_mem run) (κ', tt) (p, lent) tt r

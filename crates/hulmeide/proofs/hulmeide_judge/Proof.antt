@@ -37,11 +37,11 @@ use denote.Triple.Table.{cited}
 use denote.Triple.Walked.{says, Stays, stay_dropped, walk_of, Goes-dropped, ends_at, walked}
 use denote.Exit.{yes}
 use Rattle.planner.specs.Planner.{held}
-use Rattle.planner.specs.Verdict.{judgedBy}
+use Rattle.planner.specs.Verdict.{judged_by}
 use Rattle.planner.specs.declared.Planner.{Planner}
 use Rattle.planner.specs.contracts.Planner as T
 use Rattle.planner.proofs.Planner.TheLaws as T'
-use Rattle.hulmeide.specs.Verdict.{verdictNumber}
+use Rattle.hulmeide.specs.Verdict.{verdict_number}
 use Rattle.walks.proofs.Steps.{mach, has, slice, sized, at_place, spelled, returned, freed, by-walk}
 use Rattle.hulmeide.specs.contracts.judge_run as callee
 use Rattle.hulmeide.proofs.judge_run.Symbol as callee-def
@@ -71,7 +71,7 @@ module _ {M : Type 1} {𝓤 : Ura M} (𝓛 : Logic 𝓤) (at_mem : Memory → SP
   at = (vptr b o ∷ [], (slice ns ∷ [], tt))
 
   abbrev answer : ℕ
-  answer = verdictNumber (judgedBy (held p) ns.now)
+  answer = verdict_number (judged_by (held p) ns.now)
 
   abbrev Post : Val → SProp 𝓤
   Post = (walk_of 𝓛 f.ended stayed (f.clauses 𝓛 at_mem run)).post (((κ, (κ', tt)), (q, (q', tt)), tt, x, at), tt)

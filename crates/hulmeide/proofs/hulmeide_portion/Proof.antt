@@ -15,8 +15,8 @@ use Rattle.planner.specs.contracts.Planner as T
 use Rattle.planner.proofs.Planner.TheLaws as T'
 use Rattle.calls.specs.Portions.{Portions}
 use Rattle.planner.specs.Planner.{held}
-use Rattle.planner.specs.Portions.{portionOf}
-use Rattle.hulmeide.specs.Calls.{portionDone}
+use Rattle.planner.specs.Portions.{portion_of}
+use Rattle.hulmeide.specs.Calls.{portion_done}
 use Rattle.hulmeide.specs.declared.Filled.{Filled}
 use Rattle.hulmeide.specs.declared.Portion.{Portion}
 use Rattle.hulmeide.specs.contracts.Portion as R
@@ -50,7 +50,7 @@ abbrev answer : Pair T.the_type R.the_type
 answer = record { name = (B.the_type).name; D = Filled; state = λ r. r.planner; told = λ r. r.portion; one = (B.the_type).to_one }
 
 abbrev Promised : Planner → (most : ℕ) (out : List ℕ) (place : ℕ) (work : List ℕ) → Planner → Portion → (out work : List ℕ) → Type 0
-Promised p n o place w p' r o' w' = Portions (held p) (portionOf n o place w) (portionDone p' r o' w')
+Promised p n o place w p' r o' w' = Portions (held p) (portion_of n o place w) (portion_done p' r o' w')
 
 pub hulmeide-portion-spec : {M : Type 1} → stated.statement M
 unfolding code.routine

@@ -10,12 +10,12 @@ use Rattle.judge.specs.declared.Verdict.{Verdict}
 use Rattle.judge.specs.declared.Verdict.TheVariants.{LimitBroken, NoLoads, NotThree, Yes, No}
 use Rattle.judge.specs.Verdict.{number_of}
 use Rattle.judge.specs.contracts.Verdict as T
-use Rattle.hulmeide.specs.Verdict.{verdictNumber}
+use Rattle.hulmeide.specs.Verdict.{verdict_number}
 use Rattle.hulmeide.proofs.number_of.Statement.{statement}
 use Rattle.hulmeide.proofs.number_of.Tie as tie
 
 -- no has the tag 4
-own : (v : Verdict) → OneOf (0 ∷ 1 ∷ 2 ∷ 3 ∷ []) (tag_of T.the_type v) → number_of v ≡ verdictNumber v
+own : (v : Verdict) → OneOf (0 ∷ 1 ∷ 2 ∷ 3 ∷ []) (tag_of T.the_type v) → number_of v ≡ verdict_number v
 own LimitBroken k = refl
 own NoLoads k = refl
 own NotThree k = refl

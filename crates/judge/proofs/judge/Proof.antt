@@ -7,8 +7,8 @@ use borrow.Author.Tests.{not-true, not-false}
 use lib.ListN.{length}
 use Rattle.lists.specs.Tests.{pick}
 use Rattle.lists.proofs.Arrays.{of_map}
-use Rattle.tables.specs.Limits.{maxLoads}
-use Rattle.tables.specs.Stored.{tables_of, keepsLimits}
+use Rattle.tables.specs.Limits.{max_loads}
+use Rattle.tables.specs.Stored.{tables_of, keeps_limits}
 use Rattle.judge.specs.declared.Verdict.TheVariants.{Yes, No}
 use Rattle.judge.specs.Verdict.{judged}
 use Rattle.tables.proofs.Kept.{kept, few-loads}
@@ -17,7 +17,7 @@ use Rattle.judge.proofs.judge.Statement.{statement}
 use Rattle.judge.proofs.judge.Tie as tie
 
 -- past the first test: the tables keep the limits, and as many loads are held as are counted
-keeps : (c : tie.Else1) → keepsLimits c.before.before.before.args.t ≡ true
+keeps : (c : tie.Else1) → keeps_limits c.before.before.before.args.t ≡ true
 keeps c = sym c.before.keeps-limits.ensures.0 ∙ not-false c.before.keeps-limits.result c.if1.false
 
 counted : (c : tie.Else1) → length (tables_of c.before.before.before.args.t).loads ≡ c.before.before.before.args.t.loads.count
@@ -34,7 +34,7 @@ returns-2 c =
     no-loads a.t a.run.now (keeps c.before) (counted c.before ∙ c.if2.true)
 
 mul-if3 : tie.Need-overflow-mul-if3
-mul-if3 c = let t = c.before.before.before.before.args.t in omega (arith, few-loads maxLoads t (search (rules, of_map)) (kept t (keeps c.before)))
+mul-if3 c = let t = c.before.before.before.before.args.t in omega (arith, few-loads max_loads t (search (rules, of_map)) (kept t (keeps c.before)))
 
 returns-3 : tie.Need-returns-3
 returns-3 c =

@@ -6,8 +6,8 @@ use borrow.Author.Rules.{rules}
 use borrow.Author.Tests.{not-true, not-false}
 use lib.ListN.{length, get_or}
 use Rattle.lists.proofs.Arrays.{of_map}
-use Rattle.tables.specs.Limits.{maxLoads}
-use Rattle.tables.specs.Stored.{bookOf, tables_of}
+use Rattle.tables.specs.Limits.{max_loads}
+use Rattle.tables.specs.Stored.{book_of, tables_of}
 use Rattle.tables.proofs.Kept.{kept, few-loads}
 use Rattle.meaning.specs.Judge.{starts}
 use Rattle.judge.specs.Verdict.{proposed}
@@ -21,7 +21,7 @@ some-load s = omega (arith, (kept s.args.t s.requires.0).counted)
 
 -- what the first test looks at
 start-at : (c : tie.After-is-start) → (let a = c.before.before.before.args in starts (tables_of a.t).book (get_or a.run.now 0 0)) ≡ c.is-start.result
-unfolding tables_of bookOf
+unfolding tables_of book_of
 start-at c = sym c.is-start.ensures
 
 returns : tie.Need-returns
@@ -40,7 +40,7 @@ returns-2 c =
 branch-runs-requires : tie.Need-branch-runs-requires
 branch-runs-requires c κs =
     let s = c.before.before.before.before.before.before.before.before in
-    (omega arith, s.requires.1, few-loads maxLoads s.args.t (search (rules, of_map)) (kept s.args.t s.requires.0))
+    (omega arith, s.requires.1, few-loads max_loads s.args.t (search (rules, of_map)) (kept s.args.t s.requires.0))
 
 returns-3 : tie.Need-returns-3
 returns-3 c =

@@ -7,8 +7,8 @@ use mathlib.Core.List.{List, [], ◌∷◌, ◌++◌}
 use borrow.Author.Rules.{rules}
 use lib.Dec.{lit≤}
 use lib.ListN.{length, take, replicate}
-use Rattle.calls.specs.Rows.{mostBytes}
-use Rattle.calls.specs.Program.{Carried, afterChunk, afterChunks, started, lentCells}
+use Rattle.calls.specs.Rows.{most_bytes}
+use Rattle.calls.specs.Program.{Carried, after_chunk, after_chunks, started, lent_cells}
 use Rattle.calls.proofs.Program.{chunks-more}
 use Rattle.planner.specs.declared.Planner.{Planner}
 use Rattle.planner.specs.Planner.{fresh}
@@ -23,12 +23,12 @@ invariant-loop chunk₀ line₀ out₀ work₀ session₀ turns₀ chunk line ou
 abbrev decreases-loop : tie.decreases-loop
 decreases-loop chunk₀ line₀ out₀ work₀ session₀ turns₀ chunk line out work session turns = turns
 
-ran-none : (p : Planner) → p ≡ fresh → Ran (record { left = left_of p (replicate mostBytes 0) (replicate lentCells 0); begun = [] })
-unfolding afterChunks
-ran-none p e = record { chunks = []; taken = ap (λ (p : Planner). record { left = left_of p (replicate mostBytes 0) (replicate lentCells 0); begun = [] }) e }
+ran-none : (p : Planner) → p ≡ fresh → Ran (record { left = left_of p (replicate most_bytes 0) (replicate lent_cells 0); begun = [] })
+unfolding after_chunks
+ran-none p e = record { chunks = []; taken = ap (λ (p : Planner). record { left = left_of p (replicate most_bytes 0) (replicate lent_cells 0); begun = [] }) e }
 
 ran-more : {x y : Carried} {b : List ℕ} → Ran x → Stepped x y b → Ran y
-ran-more {b} r s = record { chunks = r.chunks ++ (take s.count b ∷ []); taken = s.taken ∙ ap (λ (x : Carried). afterChunk x (take s.count b)) r.taken ∙ sym (chunks-more r.chunks (started lentCells) (take s.count b)) }
+ran-more {b} r s = record { chunks = r.chunks ++ (take s.count b ∷ []); taken = s.taken ∙ ap (λ (x : Carried). after_chunk x (take s.count b)) r.taken ∙ sym (chunks-more r.chunks (started lent_cells) (take s.count b)) }
 
 fresh-requires : tie.Need-fresh-requires invariant-loop decreases-loop
 fresh-requires c κs = search rules

@@ -11,7 +11,7 @@ use Rattle.io.specs.Counts.{clamp_len}
 use native.Mathlib.Omega.{arith}
 use borrow.Author.Rules.{rules}
 use borrow.Author.Tests.{le-ltb}
-use Rattle.calls.specs.Program.{afterChunk}
+use Rattle.calls.specs.Program.{after_chunk}
 use Rattle.calls.proofs.Program.{chunk-none}
 use Rattle.load_planner.specs.Session.{carried_of}
 use Rattle.load_planner.proofs.Turns.{closed}
@@ -29,7 +29,7 @@ returns c =
     let s = b.args in
     let x = carried_of s.s s.line.now s.out.now s.work.now in
     let failed : lt_z s.got (pos 0) ≡ true = ap (λ (z : ℤ). lt_z z (pos 0)) (sym (to_z-of_z w64 s.got b.ranges.got)) ∙ c.before.before.if1.true in (
-      λ e. sym (chunk-none x) ∙ ap (λ (n : ℕ). afterChunk x (take n s.chunk.now)) (sym (none_read s.got failed (length s.chunk.now))),
+      λ e. sym (chunk-none x) ∙ ap (λ (n : ℕ). after_chunk x (take n s.chunk.now)) (sym (none_read s.got failed (length s.chunk.now))),
       ((λ z. closed c.before.before.if1.true (rw z)), b.requires),
     )
 
@@ -47,7 +47,7 @@ returns-4 c =
     let b = k.before.before.before.before in
     let s = b.args in (
       λ e. c.take_Chunk.ensures.0 e
-          ∙ ap (λ (n : ℕ). afterChunk (carried_of s.s s.line.now s.out.now s.work.now) (take n s.chunk.now))
+          ∙ ap (λ (n : ℕ). after_chunk (carried_of s.s s.line.now s.out.now s.work.now) (take n s.chunk.now))
           (k.count.ensures.1 ∙ ap (λ (g : ℤ). clamp_len g (length s.chunk.now)) (to_z-of_z w64 s.got b.ranges.got)),
       ((λ z. absurd (k.before.if3.false (rw z))), c.take_Chunk.ensures.1),
     )

@@ -4,17 +4,17 @@ use mathlib.Core.Path.{◌≡◌, sym, ap, ◌∙◌}
 use mathlib.Core.Logic.{⊎_elim}
 use native.Mathlib.Omega.{arith}
 use borrow.Author.Rules.{rules}
-use Rattle.meaning.specs.Cell.{powerLimit, ◌⊕◌}
+use Rattle.meaning.specs.Cell.{power_limit, ◌⊕◌}
 use Rattle.meaning.proofs.Cell.{⊕-left, ⊕-right, ⊕-over, ⊕-both}
 use Rattle.meaning.proofs.Bound.{empty-⊕}
 use Rattle.cells.proofs.Numbers.{empty-is}
 use Rattle.cells.proofs.cell.join.Statement.{statement}
 use Rattle.cells.proofs.cell.join.Tie as tie
 
-alone : (x y : ℕ) → x ≡ powerLimit → y ≡ x ⊕ y
+alone : (x y : ℕ) → x ≡ power_limit → y ≡ x ⊕ y
 alone x y e = sym (empty-⊕ y) ∙ ap (λ z. z ⊕ y) (sym empty-is ∙ sym e)
 
-sums : (x y r : ℕ) → (x ≡ 0 → ⊥) → (y ≡ 0 → ⊥) → r ≡ x + y - powerLimit → r ≡ x ⊕ y
+sums : (x y r : ℕ) → (x ≡ 0 → ⊥) → (y ≡ 0 → ⊥) → r ≡ x + y - power_limit → r ≡ x ⊕ y
 sums x y r h k e = e ∙ sym (⊕-both x y h k)
 
 none : (x y r : ℕ) → y ≡ 0 → r ≡ 0 → r ≡ x ⊕ y

@@ -7,7 +7,7 @@ use native.Mathlib.Omega.{arith}
 use borrow.Author.Rules.{rules}
 use lib.ListN.{length}
 use Rattle.cells.specs.declared.problem.Shape.{Shape}
-use Rattle.cells.specs.Work.{place_of, cellsNeeded, Ready}
+use Rattle.cells.specs.Work.{place_of, cells_needed, Ready}
 use Rattle.cells.specs.Stretch.{FilledBy}
 use Rattle.cells.proofs.Filling.{across-pos, load_lt, index-lt, allowance-lt, place_at, filled_none, filled-then, worked-filled}
 use Rattle.cells.proofs.fill.fill.Statement.{statement}
@@ -23,8 +23,8 @@ ready : (sh : Shape) (w v : List ℕ) → Ready sh w → length v ≡ length w �
 ready sh w v r e = record { sane = r.sane; room = omega (arith, r.room) }
 
 -- a turn: the cell to be filled, how far its stretch goes, and what is filled then
-module _ (sh : Shape) (i to end : ℕ) (l : i < to) (m : to ≤ cellsNeeded sh) (z : end ≡ min (sh.budget + 1) (to - (i - i % (sh.budget + 1)))) where
-  inside : i < cellsNeeded sh
+module _ (sh : Shape) (i to end : ℕ) (l : i < to) (m : to ≤ cells_needed sh) (z : end ≡ min (sh.budget + 1) (to - (i - i % (sh.budget + 1)))) where
+  inside : i < cells_needed sh
   inside = omega arith
 
   short : i % (sh.budget + 1) < end

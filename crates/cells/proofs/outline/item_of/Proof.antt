@@ -8,10 +8,10 @@ use borrow.Author.Rules.{rules}
 use lib.Dec.{eqb}
 use Rattle.lists.specs.Argmax.{guard}
 use Rattle.marks.specs.declared.LoadSet.{LoadSet}
-use Rattle.marks.specs.Sets.{hasLoad}
+use Rattle.marks.specs.Sets.{has_load}
 use Rattle.tables.specs.declared.load.Load.{Load}
 use Rattle.meaning.specs.Forest.{Item, planned, checked}
-use Rattle.cells.specs.Problem.{itemsIf, anyMark, item_of}
+use Rattle.cells.specs.Problem.{items_if, any_mark, item_of}
 use Rattle.cells.proofs.outline.item_of.Statement.{statement}
 use Rattle.cells.proofs.outline.item_of.Tie as tie
 
@@ -28,16 +28,16 @@ module _ (x : Bool) (set : LoadSet) (k : ℕ) (l : Load) where
   marked true = refl
   marked false = refl
 
-  fixed : x ≡ true → (b : Bool) → b ≡ hasLoad set k → (t : Bool) → b ≡ t → (m : ℕ) → m ≡ guard t 1 → held 0 0 m ≡ itemsIf x set k l
+  fixed : x ≡ true → (b : Bool) → b ≡ has_load set k → (t : Bool) → b ≡ t → (m : ℕ) → m ≡ guard t 1 → held 0 0 m ≡ items_if x set k l
   fixed f b h t e m u =
-      ap (held 0 0) (u ∙ ap (λ (y : Bool). guard y 1) (sym e ∙ h)) ∙ marked (hasLoad set k) ∙ ap (λ (y : Bool). itemsIf y set k l) (sym f)
+      ap (held 0 0) (u ∙ ap (λ (y : Bool). guard y 1) (sym e ∙ h)) ∙ marked (has_load set k) ∙ ap (λ (y : Bool). items_if y set k l) (sym f)
 
   -- .. or by its kind alone
-  unmarked : held l.power l.worth anyMark ≡ planned k l
+  unmarked : held l.power l.worth any_mark ≡ planned k l
   unmarked = λ i. record { power = l.power; worth = l.worth; kind = l.kind; serves = λ t. true-right (eqb t.kind l.kind) i }
 
-  free : x ≡ false → held l.power l.worth anyMark ≡ itemsIf x set k l
-  free f = unmarked ∙ ap (λ (y : Bool). itemsIf y set k l) (sym f)
+  free : x ≡ false → held l.power l.worth any_mark ≡ items_if x set k l
+  free f = unmarked ∙ ap (λ (y : Bool). items_if y set k l) (sym f)
 
 returns : tie.Need-returns
 returns c =

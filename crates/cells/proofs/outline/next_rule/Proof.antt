@@ -6,19 +6,19 @@ use mathlib.Core.Logic.{◌⊎◌, inl, inr}
 use native.Mathlib.Nat.{eq-or-lt_of_le}
 use native.Mathlib.Omega.{arith}
 use Rattle.cells.specs.declared.outline.Rules.{Rules}
-use Rattle.cells.specs.Outline.{ruleIn}
+use Rattle.cells.specs.Outline.{rule_in}
 use Rattle.cells.proofs.outline.next_rule.Statement.{statement}
 use Rattle.cells.proofs.outline.next_rule.Tie as tie
 
 -- the rules from j below i are passed
 abbrev Passed : List ℕ → Rules → (j i : ℕ) → Type 0
-Passed o r j i = (m : ℕ) → j ≤ m → m < i → (ruleIn o r.at m).from ≡ r.from → ⊥
+Passed o r j i = (m : ℕ) → j ≤ m → m < i → (rule_in o r.at m).from ≡ r.from → ⊥
 
-passed-more : (o : List ℕ) (r : Rules) (j i : ℕ) → Passed o r j i → ((ruleIn o r.at i).from ≡ r.from → ⊥) → Passed o r j (i + 1)
+passed-more : (o : List ℕ) (r : Rules) (j i : ℕ) → Passed o r j i → ((rule_in o r.at i).from ≡ r.from → ⊥) → Passed o r j (i + 1)
 passed-more o r j i h n m l k = go (eq-or-lt_of_le (omega arith))
   where
-    go : (m ≡ i) ⊎ (m < i) → (ruleIn o r.at m).from ≡ r.from → ⊥
-    go (inl e) f = n (sym (ap (λ (x : ℕ). (ruleIn o r.at x).from) e) ∙ f)
+    go : (m ≡ i) ⊎ (m < i) → (rule_in o r.at m).from ≡ r.from → ⊥
+    go (inl e) f = n (sym (ap (λ (x : ℕ). (rule_in o r.at x).from) e) ∙ f)
     go (inr b) f = h m l b f
 
 abbrev invariant-loop : tie.invariant-loop

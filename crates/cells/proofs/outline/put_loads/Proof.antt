@@ -10,13 +10,13 @@ use Rattle.marks.specs.declared.LoadSet.{LoadSet}
 use Rattle.tables.specs.declared.load.Load.{Load}
 use Rattle.tables.specs.declared.load.LoadList.{LoadList}
 use Rattle.tables.specs.declared.tables.StoredBook.{StoredBook}
-use Rattle.tables.specs.Tables.{noLoad}
-use Rattle.tables.specs.Limits.{maxLoads, maxWorth}
-use Rattle.meaning.specs.Cell.{powerLimit}
+use Rattle.tables.specs.Tables.{no_load}
+use Rattle.tables.specs.Limits.{max_loads, max_worth}
+use Rattle.meaning.specs.Cell.{power_limit}
 use Rattle.cells.specs.declared.problem.Problem.{Problem}
 use Rattle.cells.specs.declared.problem.StoredItem.{StoredItem}
-use Rattle.cells.specs.Problem.{itemsFor, item_of, LoadsIn}
-use Rattle.cells.specs.Outline.{outlineSize, withLoad, LoadsPut}
+use Rattle.cells.specs.Problem.{items_for, item_of, LoadsIn}
+use Rattle.cells.specs.Outline.{outline_size, with_load, LoadsPut}
 use Rattle.cells.proofs.Tables.{load_at}
 use Rattle.cells.proofs.Strips.{zeros}
 use Rattle.cells.proofs.Outlining.{zeros-long, loads-none, loads-more}
@@ -35,27 +35,27 @@ abbrev decreases-loop : tie.decreases-loop
 decreases-loop o₀ loads fixed σ i₀ o i = i
 
 -- the zeros at the start
-zero-at : (o : List ℕ) → o ≡ replicate outlineSize 0 → (m : ℕ) → get_or o m 0 ≡ 0
-zero-at o e m = ap (λ (x : List ℕ). get_or x m 0) e ∙ zeros outlineSize m
+zero-at : (o : List ℕ) → o ≡ replicate outline_size 0 → (m : ℕ) → get_or o m 0 ≡ 0
+zero-at o e m = ap (λ (x : List ℕ). get_or x m 0) e ∙ zeros outline_size m
 
 -- a load as its place in the array holds it
 module _ (l : LoadList) (ok : LoadsIn l) (j : ℕ) (h : j < l.count) where
-  figures : ((get_or l.items j noLoad).power < powerLimit) × ((get_or l.items j noLoad).worth ≤ maxWorth)
-  figures = subst (λ (x : Load). (x.power < powerLimit) × (x.worth ≤ maxWorth)) (load_at l j h) (ok.powers j, ok.worths j)
+  figures : ((get_or l.items j no_load).power < power_limit) × ((get_or l.items j no_load).worth ≤ max_worth)
+  figures = subst (λ (x : Load). (x.power < power_limit) × (x.worth ≤ max_worth)) (load_at l j h) (ok.powers j, ok.worths j)
 
-  under : (get_or l.items j noLoad).parent ≤ j
+  under : (get_or l.items j no_load).parent ≤ j
   under = subst (λ (x : Load). x.parent ≤ j) (load_at l j h) (ok.parents j)
 
 -- a turn, as the code numbers the loads
-turn : (p : Problem) → LoadsIn p.tables.loads → p.tables.loads.count ≤ maxLoads → {z o : List ℕ} (j : ℕ) → j < p.tables.loads.count
-    → length o ≡ outlineSize → LoadsPut p z (suc j) o → (i : StoredItem) → item_of i ≡ itemsFor p (j + 1) (get_or p.tables.loads.items j noLoad)
-    → i.power < powerLimit → i.worth ≤ maxWorth → LoadsPut p z j (withLoad o (j + 1) (get_or p.tables.loads.items j noLoad).parent i)
+turn : (p : Problem) → LoadsIn p.tables.loads → p.tables.loads.count ≤ max_loads → {z o : List ℕ} (j : ℕ) → j < p.tables.loads.count
+    → length o ≡ outline_size → LoadsPut p z (suc j) o → (i : StoredItem) → item_of i ≡ items_for p (j + 1) (get_or p.tables.loads.items j no_load)
+    → i.power < power_limit → i.worth ≤ max_worth → LoadsPut p z j (with_load o (j + 1) (get_or p.tables.loads.items j no_load).parent i)
 turn p ok few {z} {o} j h n put i e a b =
     let f = load_at p.tables.loads j h in
-    subst (λ x. LoadsPut p z j (withLoad o x (get_or p.tables.loads.items j noLoad).parent i)) (sym (add-one j))
-    (subst (λ (x : Load). LoadsPut p z j (withLoad o (suc j) x.parent i)) f
+    subst (λ x. LoadsPut p z j (with_load o x (get_or p.tables.loads.items j no_load).parent i)) (sym (add-one j))
+    (subst (λ (x : Load). LoadsPut p z j (with_load o (suc j) x.parent i)) f
     (loads-more p ok few j n put h i
-    (e ∙ ap (λ x. itemsFor p x (get_or p.tables.loads.items j noLoad)) (add-one j) ∙ ap (itemsFor p (suc j)) (sym f)) a b))
+    (e ∙ ap (λ x. items_for p x (get_or p.tables.loads.items j no_load)) (add-one j) ∙ ap (items_for p (suc j)) (sym f)) a b))
 
 loop-holds : tie.Need-loop-init invariant-loop decreases-loop
 loop-holds c =

@@ -3,19 +3,19 @@ use mathlib.Core.Path.{◌≡◌, sym, ◌∙◌}
 use native.Mathlib.Omega.{arith}
 use borrow.Author.Rules.{rules}
 use lib.ListN.{length, length-set}
-use Rattle.cells.specs.Outline.{outlineSize}
+use Rattle.cells.specs.Outline.{outline_size}
 use Rattle.cells.proofs.Outlining.{zeros-long, outline-whole}
 use Rattle.cells.proofs.outline.put_outline.Statement.{statement}
 use Rattle.cells.proofs.outline.put_outline.Tie as tie
 
 -- the outline keeps its length
-long : (c : tie.After-o) → length c.before.put-loads.new.0 ≡ outlineSize
+long : (c : tie.After-o) → length c.before.put-loads.new.0 ≡ outline_size
 long c = c.o.given ∙ zeros-long _ c.before.before.before.before.before.before.before.before.requires.1
 
-long-2 : (c : tie.After-o2) → length c.before.put-rules.new.0 ≡ outlineSize
+long-2 : (c : tie.After-o2) → length c.before.put-rules.new.0 ≡ outline_size
 long-2 c = c.o2.given ∙ long c.before.before.before.before
 
-long-3 : (c : tie.After-o3) → length c.before.put-rules2.new.0 ≡ outlineSize
+long-3 : (c : tie.After-o3) → length c.before.put-rules2.new.0 ≡ outline_size
 long-3 c = c.o3.given ∙ long-2 c.before.before.before.before
 
 put-rules-requires : tie.Need-put-rules-requires

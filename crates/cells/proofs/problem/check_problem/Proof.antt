@@ -5,7 +5,7 @@ use mathlib.Core.Bool.{true}
 use borrow.Author.Rules.{rules}
 use Rattle.lists.proofs.Arrays.{of_map}
 use Rattle.tables.specs.declared.rule.Sort.TheVariants as sort
-use Rattle.tables.specs.Limits.{maxLoads}
+use Rattle.tables.specs.Limits.{max_loads}
 use Rattle.tables.specs.Stored.{places_of, Lengths}
 use Rattle.cells.proofs.Lawful.{lawful}
 use Rattle.cells.proofs.problem.check_problem.Statement.{statement}
@@ -14,7 +14,7 @@ use Rattle.cells.proofs.problem.check_problem.Tie as tie
 lengths : (c : tie.Start) → Lengths c.args.tables
 lengths c = record { rules = elim [ sort.Load ↦ search (rules, of_map) | sort.Row ↦ search (rules, of_map) ] }
 
-placed : (c : tie.Start) → places_of c.args.tables.loads ≡ maxLoads
+placed : (c : tie.Start) → places_of c.args.tables.loads ≡ max_loads
 placed c = search (rules, of_map)
 
 returns : tie.Need-returns

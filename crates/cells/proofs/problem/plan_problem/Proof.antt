@@ -4,9 +4,9 @@ use mathlib.Core.Bool.{false}
 use native.Mathlib.Nat.{le_refl}
 use borrow.Author.Rules.{rules}
 use Rattle.lists.proofs.Arrays.{of_map}
-use Rattle.marks.specs.Sets.{noLoads}
+use Rattle.marks.specs.Sets.{no_loads}
 use Rattle.tables.specs.declared.rule.Sort.TheVariants as sort
-use Rattle.tables.specs.Limits.{maxLoads}
+use Rattle.tables.specs.Limits.{max_loads}
 use Rattle.tables.specs.Stored.{places_of, Lengths}
 use Rattle.cells.proofs.Lawful.{lawful}
 use Rattle.cells.proofs.problem.plan_problem.Statement.{statement}
@@ -15,11 +15,11 @@ use Rattle.cells.proofs.problem.plan_problem.Tie as tie
 lengths : (c : tie.Start) → Lengths c.args.tables
 lengths c = record { rules = elim [ sort.Load ↦ search (rules, of_map) | sort.Row ↦ search (rules, of_map) ] }
 
-placed : (c : tie.Start) → places_of c.args.tables.loads ≡ maxLoads
+placed : (c : tie.Start) → places_of c.args.tables.loads ≡ max_loads
 placed c = search (rules, of_map)
 
 returns : tie.Need-returns
-returns c = let s = c.args in (refl, lawful s.tables c.requires (lengths c) (placed c) s.tables.budget (le_refl _) false noLoads)
+returns c = let s = c.args in (refl, lawful s.tables c.requires (lengths c) (placed c) s.tables.budget (le_refl _) false no_loads)
 
 pub plan-problem-spec : {M : Type 1} → statement M
 plan-problem-spec = tie.close (tie.spec returns)

@@ -4,24 +4,24 @@ use mathlib.Core.Path.{◌≡◌, sym, ap, ◌∙◌}
 use mathlib.Core.Bool.{Bool, true, false}
 use mathlib.Core.List.{List}
 use borrow.Author.Rules.{rules}
-use Rattle.meaning.specs.Best.{loadReach, rowReach}
+use Rattle.meaning.specs.Best.{load_reach, row_reach}
 use Rattle.cells.specs.declared.problem.Shape.{Shape}
 use Rattle.cells.specs.declared.outline.Lead.{Lead}
 use Rattle.cells.specs.declared.outline.Joint.{Joint}
 use Rattle.cells.specs.Problem.{item_of}
-use Rattle.cells.specs.Work.{heldBranch, heldRow}
-use Rattle.cells.specs.Stretch.{leading, reachIf, reachOf}
+use Rattle.cells.specs.Work.{held_branch, held_row}
+use Rattle.cells.specs.Stretch.{leading, reach_if, reach_of}
 use Rattle.cells.proofs.Strips.{raised-none, raised-agree}
 use Rattle.cells.proofs.Served.{unserved, ruled}
 use Rattle.cells.proofs.stretch.by_rule.Statement.{statement}
 use Rattle.cells.proofs.stretch.by_rule.Tie as tie
 
 module _ (sh : Shape) (w : List ℕ) (t : Joint) (x : Lead) (a : ℕ) where
-  of_row : t.branch ≡ true → rowReach (heldBranch sh w t.load) (heldRow sh w t.rest) a (leading x) ≡ reachOf sh w t a (leading x)
-  of_row e = ap (λ (b : Bool). reachIf b sh w t a (leading x)) (sym e)
+  of_row : t.branch ≡ true → row_reach (held_branch sh w t.load) (held_row sh w t.rest) a (leading x) ≡ reach_of sh w t a (leading x)
+  of_row e = ap (λ (b : Bool). reach_if b sh w t a (leading x)) (sym e)
 
-  of-load : t.branch ≡ false → loadReach (item_of t.item) (heldRow sh w t.rest) a (leading x) ≡ reachOf sh w t a (leading x)
-  of-load e = ap (λ (b : Bool). reachIf b sh w t a (leading x)) (sym e)
+  of-load : t.branch ≡ false → load_reach (item_of t.item) (held_row sh w t.rest) a (leading x) ≡ reach_of sh w t a (leading x)
+  of-load e = ap (λ (b : Bool). reach_if b sh w t a (leading x)) (sym e)
 
 raise-split-requires : tie.Need-raise-split-requires
 raise-split-requires c κs =
@@ -60,7 +60,7 @@ returns-2 c =
     let e = v.before.if1.false in
     let s = v.before.before.before.before.args in
     λ h. raised-agree f.lift-row.ensures _
-    (λ a l m. ruled s.t.item (leading s.lead) (heldRow s.sh s.work.now s.t.rest) _ v.serves.ensures o.before.before.if2.true _ _
+    (λ a l m. ruled s.t.item (leading s.lead) (held_row s.sh s.work.now s.t.rest) _ v.serves.ensures o.before.before.if2.true _ _
     o.before.draw-of.ensures o.own_of_lem.ensures.0 a
     ∙ of-load s.sh s.work.now s.t s.lead a e)
 
@@ -71,7 +71,7 @@ returns-3 c =
     let s = v.before.before.before.before.args in
     λ h. raised-none _ _ _ _
     (λ a l m. sym (of-load s.sh s.work.now s.t s.lead a e)
-    ∙ unserved s.t.item (leading s.lead) (heldRow s.sh s.work.now s.t.rest) _ v.serves.ensures c.if2.false a)
+    ∙ unserved s.t.item (leading s.lead) (held_row s.sh s.work.now s.t.rest) _ v.serves.ensures c.if2.false a)
 
 pub by-rule-spec : {M : Type 1} → statement M
 by-rule-spec =

@@ -7,11 +7,11 @@ use native.Mathlib.Omega.{arith}
 use borrow.Author.Rules.{rules}
 use lib.Dec.{leb}
 use Rattle.lists.specs.Argmax.{guard}
-use Rattle.marks.specs.Bits.{hasMark}
+use Rattle.marks.specs.Bits.{has_mark}
 use Rattle.meaning.specs.Cell.{empty}
 use Rattle.meaning.proofs.Cell.{⊕-right}
 use Rattle.cells.specs.declared.problem.Shape.{Shape}
-use Rattle.cells.specs.Work.{place_of, cellsFrom, heldRow}
+use Rattle.cells.specs.Work.{place_of, cells_from, held_row}
 use Rattle.cells.specs.Strip.{moved, Raised}
 use Rattle.cells.proofs.Strips.{raised-none}
 use Rattle.cells.proofs.Places.{place-room, row-none, row-some}
@@ -24,19 +24,19 @@ guard-zero false = refl
 
 module _ (sh : Shape) (w s t : List ℕ) (k g shift own from to : ℕ) where
   abbrev Goal : List ℕ → Type 0
-  Goal t = Raised s t from to (moved shift own (heldRow sh w k g))
+  Goal t = Raised s t from to (moved shift own (held_row sh w k g))
 
-  flat-row : k ≡ 0 → (b : Bool) → b ≡ hasMark sh.ends.0 g → b ≡ true → Raised s t from to (moved shift own (λ _. empty)) → Goal t
+  flat-row : k ≡ 0 → (b : Bool) → b ≡ has_mark sh.ends.0 g → b ≡ true → Raised s t from to (moved shift own (λ _. empty)) → Goal t
   flat-row e b h q r =
       subst (λ f. Raised s t from to (moved shift own f)) (sym (row-none sh w k g e b h ∙ ap (λ (x : Bool). λ (c : ℕ). guard x empty) q)) r
 
-  no_row : k ≡ 0 → (b : Bool) → b ≡ hasMark sh.ends.0 g → b ≡ false → Goal s
+  no_row : k ≡ 0 → (b : Bool) → b ≡ has_mark sh.ends.0 g → b ≡ false → Goal s
   no_row e b h q =
       subst (λ f. Raised s s from to (moved shift own f)) (sym (row-none sh w k g e b h ∙ ap (λ (x : Bool). λ (c : ℕ). guard x empty) q))
       (raised-none s from to (moved shift own (λ c. 0)) (λ a l m. ap (guard (leb shift a)) (⊕-right own 0 refl) ∙ guard-zero (leb shift a)))
 
-  held-row : (k ≡ 0 → ⊥) → (at : ℕ) → at ≡ place_of sh k (sh.states + (g - 1)) → Raised s t from to (moved shift own (cellsFrom w at)) → Goal t
-  held-row e at h r = subst (λ f. Raised s t from to (moved shift own f)) (ap (cellsFrom w) h ∙ sym (row-some sh w k g e)) r
+  held-row : (k ≡ 0 → ⊥) → (at : ℕ) → at ≡ place_of sh k (sh.states + (g - 1)) → Raised s t from to (moved shift own (cells_from w at)) → Goal t
+  held-row e at h r = subst (λ f. Raised s t from to (moved shift own f)) (ap (cells_from w) h ∙ sym (row-some sh w k g e)) r
 
 returns : tie.Need-returns
 returns c =

@@ -4,8 +4,8 @@ use mathlib.Core.Path.{◌≡◌, refl, ◌∙◌, subst}
 use native.Mathlib.Omega.{arith}
 use borrow.Author.Rules.{rules}
 use lib.ListN.{length}
-use Rattle.cells.specs.Outline.{ruleIn}
-use Rattle.cells.specs.Stretch.{reachOf, Sound}
+use Rattle.cells.specs.Outline.{rule_in}
+use Rattle.cells.specs.Stretch.{reach_of, Sound}
 use Rattle.cells.proofs.Strips.{raised-agree, raised-start}
 use Rattle.cells.proofs.Served.{reach-leading, fits-leading}
 use Rattle.cells.proofs.Rules.{term, Ruled, strip-passed, strip-raised}
@@ -14,8 +14,8 @@ use Rattle.cells.proofs.stretch.raise.Tie as tie
 
 abbrev invariant-loop : tie.invariant-loop
 invariant-loop sh o t r work strip₀ s j₀ strip j =
-    (j ≤ r.count) × (length strip ≡ length strip₀) × (j < r.count → (ruleIn o r.at j).from ≡ r.from)
-    × (Sound sh work t s.to → Ruled o r (reachOf sh work t) strip₀ strip s.from s.to j)
+    (j ≤ r.count) × (length strip ≡ length strip₀) × (j < r.count → (rule_in o r.at j).from ≡ r.from)
+    × (Sound sh work t s.to → Ruled o r (reach_of sh work t) strip₀ strip s.from s.to j)
 
 abbrev decreases-loop : tie.decreases-loop
 decreases-loop sh o t r work strip₀ s j₀ strip j = r.count - j
@@ -27,7 +27,7 @@ loop-holds c =
       n.high,
       refl,
       n.found,
-      λ h. strip-passed s.o.now s.r (reachOf s.sh s.work.now s.t) (raised-start (λ a. term s.o.now s.r (reachOf s.sh s.work.now s.t a)) _ _ _) n,
+      λ h. strip-passed s.o.now s.r (reach_of s.sh s.work.now s.t) (raised-start (λ a. term s.o.now s.r (reach_of s.sh s.work.now s.t a)) _ _ _) n,
     )
 
 lead-of-requires : tie.Need-lead-of-requires invariant-loop decreases-loop
@@ -67,7 +67,7 @@ loop-again c =
     let t = l.before in
     let e = t.before.before.loop in
     let s = t.before.before.before.before.before.before.before.args in
-    let reach = reachOf s.sh s.work.now s.t in (
+    let reach = reach_of s.sh s.work.now s.t in (
       n.high,
       c.before.before.strip.given ∙ e.invariant.1,
       n.found,
@@ -82,7 +82,7 @@ returns c =
     let e = c.before.before.loop in
     let s = c.before.before.before.before.before.before.before.args in
     let d : e.j ≡ s.r.count = omega (arith, e.invariant.0, c.if1.false) in
-    λ h. subst (λ i. Ruled s.o.now s.r (reachOf s.sh s.work.now s.t) s.strip.now e.strip s.s.from s.s.to i) d (e.invariant.3 h)
+    λ h. subst (λ i. Ruled s.o.now s.r (reach_of s.sh s.work.now s.t) s.strip.now e.strip s.s.from s.s.to i) d (e.invariant.3 h)
 
 pub raise-spec : {M : Type 1} → statement M
 raise-spec =

@@ -6,12 +6,12 @@ use mathlib.Core.List.{List}
 use native.Mathlib.Omega.{arith}
 use borrow.Author.Rules.{rules}
 use Rattle.lists.specs.Argmax.{guard}
-use Rattle.marks.specs.Bits.{hasMark}
-use Rattle.meaning.specs.Cell.{powerLimit, empty}
+use Rattle.marks.specs.Bits.{has_mark}
+use Rattle.meaning.specs.Cell.{power_limit, empty}
 use Rattle.meaning.specs.Best.{shares}
 use Rattle.meaning.proofs.Bound.{empty-⊕}
 use Rattle.cells.specs.declared.problem.Shape.{Shape}
-use Rattle.cells.specs.Work.{place_of, cellsFrom, heldRow, heldBranch}
+use Rattle.cells.specs.Work.{place_of, cells_from, held_row, held_branch}
 use Rattle.cells.specs.Strip.{moved, Raised, Rising}
 use Rattle.cells.proofs.Numbers.{empty-is}
 use Rattle.cells.proofs.Strips.{raised-none, raised-agree, moved_at}
@@ -24,23 +24,23 @@ module _ (sh : Shape) (w s t : List ℕ) (k q n h from to x : ℕ) (px : x ≡ p
   abbrev Goal : (ℕ → ℕ) → (ℕ → ℕ) → List ℕ → Type 0
   Goal f g t = Rising f to → Rising g to → Raised s t from to (λ a. (shares f g a).value)
 
-  alone : n ≡ 0 → (b : Bool) → b ≡ hasMark sh.ends.0 h → b ≡ true → Raised s t from to (moved 0 powerLimit (cellsFrom w x))
-      → Goal (heldBranch sh w k q) (heldRow sh w n h) t
+  alone : n ≡ 0 → (b : Bool) → b ≡ has_mark sh.ends.0 h → b ≡ true → Raised s t from to (moved 0 power_limit (cells_from w x))
+      → Goal (held_branch sh w k q) (held_row sh w n h) t
   alone e b p v r =
-      subst (λ g. Goal (heldBranch sh w k q) g t) (sym (row-none sh w n h e b p ∙ ap (λ (z : Bool). λ (c : ℕ). guard z empty) v))
-      (λ f g. raised-agree (subst (λ o. Raised s t from to (moved 0 o (cellsFrom w x))) empty-is r) _ (λ a l m. moved_at 0 empty (cellsFrom w x) a (omega arith) ∙ empty-⊕ _
-      ∙ ap (λ y. cellsFrom w y (a - 0)) px ∙ ap (heldBranch sh w k q) (omega arith) ∙ sym (share-last (heldBranch sh w k q) to f a m)))
+      subst (λ g. Goal (held_branch sh w k q) g t) (sym (row-none sh w n h e b p ∙ ap (λ (z : Bool). λ (c : ℕ). guard z empty) v))
+      (λ f g. raised-agree (subst (λ o. Raised s t from to (moved 0 o (cells_from w x))) empty-is r) _ (λ a l m. moved_at 0 empty (cells_from w x) a (omega arith) ∙ empty-⊕ _
+      ∙ ap (λ y. cells_from w y (a - 0)) px ∙ ap (held_branch sh w k q) (omega arith) ∙ sym (share-last (held_branch sh w k q) to f a m)))
 
-  none : n ≡ 0 → (b : Bool) → b ≡ hasMark sh.ends.0 h → b ≡ false → Goal (heldBranch sh w k q) (heldRow sh w n h) s
+  none : n ≡ 0 → (b : Bool) → b ≡ has_mark sh.ends.0 h → b ≡ false → Goal (held_branch sh w k q) (held_row sh w n h) s
   none e b p v =
-      subst (λ g. Goal (heldBranch sh w k q) g s) (sym (row-none sh w n h e b p ∙ ap (λ (z : Bool). λ (c : ℕ). guard z empty) v))
-      (λ f g. raised-none s from to _ (λ a l m. share-none (heldBranch sh w k q) a))
+      subst (λ g. Goal (held_branch sh w k q) g s) (sym (row-none sh w n h e b p ∙ ap (λ (z : Bool). λ (c : ℕ). guard z empty) v))
+      (λ f g. raised-none s from to _ (λ a l m. share-none (held_branch sh w k q) a))
 
   both : (n ≡ 0 → ⊥) → (y : ℕ) → y ≡ place_of sh n (sh.states + (h - 1))
-      → Goal (cellsFrom w x) (cellsFrom w y) t → Goal (heldBranch sh w k q) (heldRow sh w n h) t
+      → Goal (cells_from w x) (cells_from w y) t → Goal (held_branch sh w k q) (held_row sh w n h) t
   both e y py r =
-      subst (λ g. Goal (heldBranch sh w k q) g t) (ap (cellsFrom w) py ∙ sym (row-some sh w n h e))
-      (subst (λ f. Goal f (cellsFrom w y) t) (ap (cellsFrom w) px) r)
+      subst (λ g. Goal (held_branch sh w k q) g t) (ap (cells_from w) py ∙ sym (row-some sh w n h e))
+      (subst (λ f. Goal f (cells_from w y) t) (ap (cells_from w) px) r)
 
 lift-requires : tie.Need-lift-requires
 lift-requires c κs =

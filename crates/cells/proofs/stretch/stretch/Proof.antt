@@ -8,10 +8,10 @@ use lib.ListN.{get_or, length-replicate}
 use Rattle.cells.specs.declared.problem.Shape.{Shape}
 use Rattle.cells.specs.declared.outline.Joint.{Joint}
 use Rattle.cells.specs.declared.outline.Rules.{Rules}
-use Rattle.cells.specs.Outline.{jointIn, rulesIn, bestIn}
+use Rattle.cells.specs.Outline.{joint_in, rules_in, best_in}
 use Rattle.cells.specs.Work.{place_of}
 use Rattle.cells.specs.Strip.{Stored}
-use Rattle.cells.specs.Stretch.{reachOf, Sound, Worked}
+use Rattle.cells.specs.Stretch.{reach_of, Sound, Worked}
 use Rattle.cells.proofs.InRange.{looked-up}
 use Rattle.cells.proofs.Places.{place-room}
 use Rattle.cells.proofs.Strips.{zeros-raised}
@@ -21,14 +21,14 @@ use Rattle.cells.proofs.stretch.stretch.Tie as tie
 module _ (sh : Shape) (o w v s : List ℕ) (k x from to : ℕ) where
   -- the strip holds what the rules r reach from the joint t
   abbrev Holds : Joint → Rules → Type 0
-  Holds t r = Sound sh w t to → (a : ℕ) → from ≤ a → a < to → get_or s a 0 ≡ (bestIn o r (reachOf sh w t a)).value
+  Holds t r = Sound sh w t to → (a : ℕ) → from ≤ a → a < to → get_or s a 0 ≡ (best_in o r (reach_of sh w t a)).value
 
-  worked : (at : ℕ) (t : Joint) (r : Rules) → at ≡ place_of sh k x → t ≡ jointIn sh o k x → r ≡ rulesIn sh o x → Holds t r → Stored w s v at from to
+  worked : (at : ℕ) (t : Joint) (r : Rules) → at ≡ place_of sh k x → t ≡ joint_in sh o k x → r ≡ rules_in sh o x → Holds t r → Stored w s v at from to
       → Worked sh o w v k x from to
   worked at t r ea et er h d = record {
     below = λ i l. d.below i (omega arith);
     above = λ i l. d.above i (omega arith);
-    inside = λ g a l m. ap (λ i. get_or v (i + a) 0) (sym ea) ∙ d.inside a l m ∙ subst (λ t. Holds t (rulesIn sh o x)) et (subst (λ r. Holds t r) er h) g a l m;
+    inside = λ g a l m. ap (λ i. get_or v (i + a) 0) (sym ea) ∙ d.inside a l m ∙ subst (λ t. Holds t (rules_in sh o x)) et (subst (λ r. Holds t r) er h) g a l m;
   }
 
 joint-at-requires : tie.Need-joint-at-requires

@@ -5,7 +5,7 @@ use native.Mathlib.Omega.{arith}
 use borrow.Author.Rules.{rules}
 use lib.ListN.{length, length-set}
 use Rattle.meaning.specs.Cell.{◌⊕◌}
-use Rattle.cells.specs.Work.{cellsFrom}
+use Rattle.cells.specs.Work.{cells_from}
 use Rattle.cells.specs.Strip.{moved}
 use Rattle.cells.proofs.Strips.{Part, part_none, part-more, part-done, joined-le, moved_at, moved_none}
 use Rattle.cells.proofs.strip.lift.Statement.{statement}
@@ -13,7 +13,7 @@ use Rattle.cells.proofs.strip.lift.Tie as tie
 
 abbrev invariant-loop : tie.invariant-loop
 invariant-loop strip₀ cells at shift own from to a₀ strip a =
-    (from ≤ a) × (shift ≤ a) × (length strip ≡ length strip₀) × Part strip₀ strip from a (moved shift own (cellsFrom cells at))
+    (from ≤ a) × (shift ≤ a) × (length strip ≡ length strip₀) × Part strip₀ strip from a (moved shift own (cells_from cells at))
 
 abbrev decreases-loop : tie.decreases-loop
 decreases-loop strip₀ cells at shift own from to a₀ strip a = to - a
@@ -21,7 +21,7 @@ decreases-loop strip₀ cells at shift own from to a₀ strip a = to - a
 loop-holds : tie.Need-loop-init invariant-loop decreases-loop
 loop-holds c =
     let s = c.before.before.before.args in
-    (omega arith, omega arith, refl, part_none _ _ _ _ (λ a l m. moved_none s.shift s.own (cellsFrom s.cells.now s.at) a (omega arith)))
+    (omega arith, omega arith, refl, part_none _ _ _ _ (λ a l m. moved_none s.shift s.own (cells_from s.cells.now s.at) a (omega arith)))
 
 loop-again : tie.Need-loop-preserved invariant-loop decreases-loop
 loop-again c =
@@ -33,7 +33,7 @@ loop-again c =
       omega arith,
       simp length-set l.invariant.2,
       part-more l.invariant.3 _ j.result l.invariant.0 (omega arith) c.raised.ensures
-          (j.ensures ∙ ap (λ z. s.own ⊕ z) h.ensures ∙ sym (moved_at s.shift s.own (cellsFrom s.cells.now s.at) l.a l.invariant.1))
+          (j.ensures ∙ ap (λ z. s.own ⊕ z) h.ensures ∙ sym (moved_at s.shift s.own (cells_from s.cells.now s.at) l.a l.invariant.1))
           (omega (arith, joined-le s.own h.result)),
     )
 

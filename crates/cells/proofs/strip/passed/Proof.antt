@@ -2,14 +2,14 @@
 use Prim.Native.Nat.{◌+◌, ◌-◌}
 use native.Mathlib.Omega.{arith}
 use borrow.Author.Rules.{rules}
-use Rattle.cells.specs.Work.{cellsFrom}
+use Rattle.cells.specs.Work.{cells_from}
 use Rattle.cells.specs.Strip.{Passed}
 use Rattle.cells.proofs.Shares.{passed_none, passed_then, passed-stride}
 use Rattle.cells.proofs.strip.passed.Statement.{statement}
 use Rattle.cells.proofs.strip.passed.Tie as tie
 
 abbrev invariant-loop : tie.invariant-loop
-invariant-loop cells at from last stride to c₀ c = Passed (cellsFrom cells at) last from to c
+invariant-loop cells at from last stride to c₀ c = Passed (cells_from cells at) last from to c
 
 abbrev decreases-loop : tie.decreases-loop
 decreases-loop cells at from last stride to c₀ c = to - c

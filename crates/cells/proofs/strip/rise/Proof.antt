@@ -4,14 +4,14 @@ use mathlib.Core.Path.{◌≡◌, refl, ap}
 use native.Mathlib.Omega.{arith}
 use borrow.Author.Rules.{rules}
 use lib.ListN.{length, length-set}
-use Rattle.cells.specs.Work.{cellsFrom}
+use Rattle.cells.specs.Work.{cells_from}
 use Rattle.cells.proofs.Strips.{Part, part_none, part-more, part-done}
 use Rattle.cells.proofs.strip.rise.Statement.{statement}
 use Rattle.cells.proofs.strip.rise.Tie as tie
 
 abbrev invariant-loop : tie.invariant-loop
 invariant-loop strip₀ cells at shift more from to a₀ strip a =
-    (from ≤ a) × (length strip ≡ length strip₀) × Part strip₀ strip from a (λ b. cellsFrom cells at (b - shift) + more)
+    (from ≤ a) × (length strip ≡ length strip₀) × Part strip₀ strip from a (λ b. cells_from cells at (b - shift) + more)
 
 abbrev decreases-loop : tie.decreases-loop
 decreases-loop strip₀ cells at shift more from to a₀ strip a = to - a

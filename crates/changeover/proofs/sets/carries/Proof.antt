@@ -1,7 +1,7 @@
 -- `carries` meets its contract. Assumes nothing.
 use mathlib.Core.Path.{refl}
 use borrow.Author.Rules.{rules}
-use Rattle.tables.specs.Limits.{maxLoads}
+use Rattle.tables.specs.Limits.{max_loads}
 use Rattle.tables.specs.Stored.{tables_of}
 use Rattle.tables.proofs.Stored.{held-loads}
 use Rattle.changeover.specs.Sets.{carries}
@@ -15,4 +15,4 @@ returns c = rw (c.before.before.before.figures-of.ensures, c.all-fed.ensures) re
 pub carries-spec : {M : Type 1} → statement M
 carries-spec =
     tie.close
-    (tie.spec (λ c κs. held-loads maxLoads c.args.tables c.requires) (λ c. search rules) (λ c κs. held-loads maxLoads c.before.before.before.args.tables c.before.before.before.requires) returns)
+    (tie.spec (λ c κs. held-loads max_loads c.args.tables c.requires) (λ c. search rules) (λ c κs. held-loads max_loads c.before.before.before.args.tables c.before.before.before.requires) returns)

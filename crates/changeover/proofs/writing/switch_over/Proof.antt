@@ -54,9 +54,9 @@ use Rattle.changeover.specs.declared.order.Order.{Order}
 use Rattle.changeover.specs.declared.order.Switched.{Switched}
 use Rattle.planner.specs.declared.Planner.{Planner}
 use Rattle.planner.specs.Planner.{held}
-use Rattle.changeover.specs.Steps.{noStep}
+use Rattle.changeover.specs.Steps.{no_step}
 use Rattle.changeover.specs.Order.{switched}
-use Rattle.changeover.specs.Changeover.{order_of, changedTo, changeover}
+use Rattle.changeover.specs.Changeover.{order_of, changed_to, changeover}
 use Rattle.planner.specs.contracts.Planner as P
 use Rattle.planner.proofs.Planner.TheLaws as P'
 use Rattle.changeover.specs.contracts.order.Order as O
@@ -154,7 +154,7 @@ module _ {M : Type 1} {𝓤 : Ura M} (𝓛 : Logic 𝓤) (at_mem : Memory → SP
   ask-said r = ex_e 𝓤 _ (λ ws. snd∗ 𝓤 (sem 𝓛 (lasts asks.ended (κ₀, (κ₁, tt)) (p, (old, (new, (length list, tt)))) ws)) (fact 𝓤 (Answer r)))
 
   -- ---- at exit
-  exits : (t : Switched) (v : Val) (l : List Step) → changedTo t.number t.count l ≡ changeover (held p) old.now new.now list → length l ≡ length list → Room E.the_row (length list)
+  exits : (t : Switched) (v : Val) (l : List Step) → changed_to t.number t.count l ≡ changeover (held p) old.now new.now list → length l ≡ length list → Room E.the_row (length list)
       → ent 𝓤 (⋆ 𝓛 (‵ ((R.the_row).own_val t (v ∷ [])) ∷ ‵ (fobs γ ((coded_holeys E.the_row).code (heres E.the_row l))) ∷ ‵ (fbor κ (Held E.the_row (length l) b o γ)) ∷ ‵ (flft κ q) ∷ tokens ∷ [])) (Post v)
   exits t v l e len room =
       qed 𝓛 (‵ ((R.the_row).own_val t (v ∷ [])) ∷ ‵ (fobs γ ((coded_holeys E.the_row).code (heres E.the_row l))) ∷ ‵ (fbor κ (Held E.the_row (length l) b o γ)) ∷ ‵ (flft κ q) ∷ tokens ∷ []) ∵
@@ -186,7 +186,7 @@ module _ {M : Type 1} {𝓤 : Ura M} (𝓛 : Logic 𝓤) (at_mem : Memory → SP
     StepEnsured i s = ensured 𝓛 steps.ended (steps.clauses 𝓛 at_mem run) tt (r, (i, tt)) tt s
 
     abbrev IsStep : ℕ → Step → Type 0
-    IsStep i s = s ≡ get_or r.items i noStep
+    IsStep i s = s ≡ get_or r.items i no_step
 
     step-said : (i : ℕ) (s : Step) → ent 𝓤 (StepEnsured i s) (fact 𝓤 (IsStep i s))
     step-said i s = ex_e 𝓤 _ (λ ws. snd∗ 𝓤 (sem 𝓛 (lasts steps.ended tt (r, (i, tt)) ws)) (fact 𝓤 (IsStep i s)))
@@ -260,7 +260,7 @@ module _ {M : Type 1} {𝓤 : Ura M} (𝓛 : Logic 𝓤) (at_mem : Memory → SP
           assigns ! (bin ! (load ! (from ! (stop !)) (look ! 18 refl)) (lit ! tt) (record { fits = small₂ })) (from ! (stop !)) (init ! 10 refl (tt, record { fits = small₂ })) $
           assigns ! (bin ! (load ! (from ! (fld ! refl (stop !))) (look_in ! 22 (sub ! 0 refl (whole !)))) (load ! (from ! (stop !)) (look ! 10 refl)) tt) (from ! (stop !)) (init ! 8 refl (tt, tt)) $
           rewrite ! 8 (λ (at : ℕ). ‵ (fat full_share ty_ptr l₁₁ 0 (vptr b at))) (sym (place_is 2 o i.0)) refl $
-          move ! (3 ∷ []) $ elem_out ! E.the_row (Is E.the_row) (shows 𝓛 E.the_row) (LL.vals E.the_type E'.the_laws) (LL.tells E.the_type E'.the_laws) full_share (w.row i.0) i.0 noStep b o in_row (λ _.
+          move ! (3 ∷ []) $ elem_out ! E.the_row (Is E.the_row) (shows 𝓛 E.the_row) (LL.vals E.the_type E'.the_laws) (LL.tells E.the_type E'.the_laws) full_share (w.row i.0) i.0 no_step b o in_row (λ _.
           -- [the place of the step; what stood there owns; the others; what the step owns; …; what the order owns; the open borrow; …; …; the tokens; _11; …; _0; …]
           assigns ! (of_opd ! (load ! (from ! (stop !)) (look ! 14 refl))) (from ! (hop ! (look ! 10 refl) (stop !))) (store_raw ! 0 refl (typed E.the_type E'.the_laws 𝓛 s (mach E.the_type E'.the_laws s) (subst (Is E.the_row s) (LL.tells E.the_type E'.the_laws s (v ∷ []) is) is))) $
           move ! (1 ∷ []) $ drop ! $ move ! (0 ∷ 2 ∷ 1 ∷ []) $ elem_put ! E.the_row full_share (w.row i.0) i.0 s (mach E.the_type E'.the_laws s ∷ []) b o in_row $
@@ -285,7 +285,7 @@ module _ {M : Type 1} {𝓤 : Ura M} (𝓛 : Logic 𝓤) (at_mem : Memory → SP
           peeks ! R.the_row (Is R.the_row) (shows 𝓛 R.the_row) t (v ∷ []) (λ is. land ! (from ! (stop !)) (init ! 28 refl (typed R.the_type R'.the_laws 𝓛 t v is)) $
           returns ! (look ! 28 refl) $ move ! (28 ∷ 29 ∷ 26 ∷ 27 ∷ 24 ∷ 25 ∷ 22 ∷ 23 ∷ []) $ freed4 ! $ move ! (20 ∷ 21 ∷ 18 ∷ 19 ∷ 16 ∷ 17 ∷ 14 ∷ 15 ∷ []) $ freed4 ! $
           move ! (12 ∷ 13 ∷ []) $ freed ! $ move ! (10 ∷ 11 ∷ []) $ free1 ! $ move ! (8 ∷ 9 ∷ []) $ free1 ! $ move ! (6 ∷ 7 ∷ []) $ free1 ! $ free0 ! $
-          keep ! (0 ∷ 2 ∷ 3 ∷ 4 ∷ 5 ∷ []) $ by ! (exits t v (w.row i.0) (ap (λ (u : Switched). changedTo u.number u.count (w.row i.0)) is-told ∙ ap (λ (k : ℕ). changedTo r.number r.count (w.row k)) all ∙ w.all) (w.long i.0) room)))))
+          keep ! (0 ∷ 2 ∷ 3 ∷ 4 ∷ 5 ∷ []) $ by ! (exits t v (w.row i.0) (ap (λ (u : Switched). changed_to u.number u.count (w.row i.0)) is-told ∙ ap (λ (k : ℕ). changed_to r.number r.count (w.row k)) all ∙ w.all) (w.long i.0) room)))))
 
       turns : (i : Upto) → Sq 𝓛 (At i) (runs C Λ En its.turn-1 (any_q (Turned i)))
       turns i = go (ltb i.0 r.count) refl

@@ -4,7 +4,7 @@ use mathlib.Core.Path.{ap, ◌∙◌}
 use native.Mathlib.Omega.{arith}
 use borrow.Author.Rules.{rules}
 use lib.ListN.{length}
-use Rattle.cells.specs.Work.{cellsFrom}
+use Rattle.cells.specs.Work.{cells_from}
 use Rattle.cells.proofs.Places.{place-room}
 use Rattle.engine.proofs.best.branch_at.Statement.{statement}
 use Rattle.engine.proofs.best.branch_at.Tie as tie
@@ -19,7 +19,7 @@ within c =
 returns : tie.Need-returns
 returns c =
     let s = c.before.before.before.before in
-    (c.held.ensures ∙ ap (λ z. cellsFrom s.args.work.now z s.args.c) c.before.before.place.ensures, omega (arith, c.held.ensures))
+    (c.held.ensures ∙ ap (λ z. cells_from s.args.work.now z s.args.c) c.before.before.place.ensures, omega (arith, c.held.ensures))
 
 pub branch-at-spec : {M : Type 1} → statement M
 branch-at-spec =

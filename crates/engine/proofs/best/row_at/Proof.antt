@@ -7,16 +7,16 @@ use native.Mathlib.Omega.{arith}
 use borrow.Author.Rules.{rules}
 use lib.ListN.{length}
 use Rattle.lists.specs.Argmax.{guard}
-use Rattle.marks.specs.Bits.{hasMark}
-use Rattle.meaning.specs.Cell.{powerLimit}
+use Rattle.marks.specs.Bits.{has_mark}
+use Rattle.meaning.specs.Cell.{power_limit}
 use Rattle.cells.specs.declared.problem.Shape.{Shape}
-use Rattle.cells.specs.Work.{cellsFrom, heldRow}
+use Rattle.cells.specs.Work.{cells_from, held_row}
 use Rattle.cells.proofs.Numbers.{empty-is}
 use Rattle.cells.proofs.Places.{place-room, row-none, row-some}
 use Rattle.engine.proofs.best.row_at.Statement.{statement}
 use Rattle.engine.proofs.best.row_at.Tie as tie
 
-none : (sh : Shape) (w : List ℕ) (k g c : ℕ) → k ≡ 0 → (b : Bool) → b ≡ hasMark sh.ends.0 g → (t : Bool) → b ≡ t → guard t powerLimit ≡ heldRow sh w k g c
+none : (sh : Shape) (w : List ℕ) (k g c : ℕ) → k ≡ 0 → (b : Bool) → b ≡ has_mark sh.ends.0 g → (t : Bool) → b ≡ t → guard t power_limit ≡ held_row sh w k g c
 none sh w k g c e b h t q = ap (guard t) empty-is ∙ ap (λ (f : ℕ → ℕ). f c) (sym (row-none sh w k g e t (sym q ∙ h)))
 
 returns : tie.Need-returns
@@ -40,7 +40,7 @@ returns-3 : tie.Need-returns-3
 returns-3 c =
     let s = c.before.before.before.before.before.before.args in (
       c.held.ensures
-          ∙ ap (λ z. cellsFrom s.work.now z s.c) c.before.before.place.ensures
+          ∙ ap (λ z. cells_from s.work.now z s.c) c.before.before.place.ensures
           ∙ ap (λ (f : ℕ → ℕ). f s.c) (sym (row-some s.sh s.work.now s.k s.g c.before.before.before.before.if1.false)),
       omega (arith, c.held.ensures),
     )

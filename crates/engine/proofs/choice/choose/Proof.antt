@@ -8,26 +8,26 @@ use lib.ListN.{length}
 use Rattle.cells.specs.declared.problem.Shape.{Shape}
 use Rattle.cells.specs.declared.outline.Joint.{Joint}
 use Rattle.cells.specs.declared.outline.Rules.{Rules}
-use Rattle.cells.specs.Outline.{jointIn, rulesIn, bestIn}
-use Rattle.cells.specs.Work.{place_of, cellsFrom}
-use Rattle.cells.specs.Stretch.{reachOf, reached}
+use Rattle.cells.specs.Outline.{joint_in, rules_in, best_in}
+use Rattle.cells.specs.Work.{place_of, cells_from}
+use Rattle.cells.specs.Stretch.{reach_of, reached}
 use Rattle.cells.proofs.InRange.{looked-up}
 use Rattle.cells.proofs.Places.{place-room}
 use Rattle.engine.specs.declared.choice.Choice.{Choice}
-use Rattle.engine.specs.Search.{choiceIn}
+use Rattle.engine.specs.Search.{choice_in}
 use Rattle.engine.proofs.choice.choose.Statement.{statement}
 use Rattle.engine.proofs.choice.choose.Tie as tie
 
 -- what was looked up is used
 module _ (sh : Shape) (o w : List ℕ) (k x c goal : ℕ) (d : Choice) where
   abbrev Chosen : Joint → Rules → Type 0
-  Chosen t r = goal ≡ (bestIn o r (reachOf sh w t c)).value → 0 < goal → d ≡ choiceIn sh o w t r c
+  Chosen t r = goal ≡ (best_in o r (reach_of sh w t c)).value → 0 < goal → d ≡ choice_in sh o w t r c
 
-  used : (t : Joint) (r : Rules) → t ≡ jointIn sh o k x → r ≡ rulesIn sh o x → (at : ℕ) → at ≡ place_of sh k x → goal ≡ cellsFrom w at c → Chosen t r
-      → cellsFrom w (place_of sh k x) c ≡ reached sh o w k x c → 0 < reached sh o w k x c → d ≡ choiceIn sh o w (jointIn sh o k x) (rulesIn sh o x) c
+  used : (t : Joint) (r : Rules) → t ≡ joint_in sh o k x → r ≡ rules_in sh o x → (at : ℕ) → at ≡ place_of sh k x → goal ≡ cells_from w at c → Chosen t r
+      → cells_from w (place_of sh k x) c ≡ reached sh o w k x c → 0 < reached sh o w k x c → d ≡ choice_in sh o w (joint_in sh o k x) (rules_in sh o x) c
   used t r et er at ea eg h e pos =
-      let q = eg ∙ ap (λ i. cellsFrom w i c) ea ∙ e in
-      subst (λ t. Chosen t (rulesIn sh o x)) et (subst (λ r. Chosen t r) er h) q (omega (arith, q, pos))
+      let q = eg ∙ ap (λ i. cells_from w i c) ea ∙ e in
+      subst (λ t. Chosen t (rules_in sh o x)) et (subst (λ r. Chosen t r) er h) q (omega (arith, q, pos))
 
 joint-at-requires : tie.Need-joint-at-requires
 joint-at-requires c κs = let s = c.before.before in (s.requires.0.1.long, omega (arith, s.requires.1.1, s.requires.0.0.sane.loads))

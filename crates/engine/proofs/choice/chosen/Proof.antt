@@ -13,8 +13,8 @@ use Rattle.cells.specs.declared.problem.Shape.{Shape}
 use Rattle.cells.specs.declared.outline.Lead.{Lead}
 use Rattle.cells.specs.declared.outline.Joint.{Joint}
 use Rattle.cells.specs.declared.outline.Rules.{Rules}
-use Rattle.cells.specs.Outline.{ruleIn, leadIn, bestIn, NextRule}
-use Rattle.cells.specs.Stretch.{leading, reachOf}
+use Rattle.cells.specs.Outline.{rule_in, lead_in, best_in, NextRule}
+use Rattle.cells.specs.Stretch.{leading, reach_of}
 use Rattle.cells.proofs.Rules.{term, term-met, term-passed}
 use Rattle.cells.proofs.Served.{reach-leading, fits-leading}
 use Rattle.engine.proofs.Choosing.{chosen_is}
@@ -24,16 +24,16 @@ use Rattle.engine.proofs.choice.chosen.Tie as tie
 module _ (sh : Shape) (o w : List ℕ) (t : Joint) (r : Rules) (c goal : ℕ) where
   -- no rule below j reaches the goal, if that is the best
   abbrev Missed : ℕ → Type 0
-  Missed j = goal ≡ (bestIn o r (reachOf sh w t c)).value → 0 < goal → (m : ℕ) → m < j → term o r (reachOf sh w t c) m ≡ goal → ⊥
+  Missed j = goal ≡ (best_in o r (reach_of sh w t c)).value → 0 < goal → (m : ℕ) → m < j → term o r (reach_of sh w t c) m ≡ goal → ⊥
 
   pass : (j i : ℕ) → Missed j → NextRule o r j i → Missed i
   pass j i h n e pos m l q = go (dec_lt m j)
     where
       go : Dec (m < j) → ⊥
       go (yes k) = h e pos m k q
-      go (no k) = absurd (omega (arith, term-passed o r (reachOf sh w t c) m (n.passed m (omega arith) l)))
+      go (no k) = absurd (omega (arith, term-passed o r (reach_of sh w t c) m (n.passed m (omega arith) l)))
 
-  miss : (j : ℕ) → Missed j → (goal ≡ (bestIn o r (reachOf sh w t c)).value → 0 < goal → term o r (reachOf sh w t c) j ≡ goal → ⊥) → Missed (j + 1)
+  miss : (j : ℕ) → Missed j → (goal ≡ (best_in o r (reach_of sh w t c)).value → 0 < goal → term o r (reach_of sh w t c) j ≡ goal → ⊥) → Missed (j + 1)
   miss j h k e pos m l q = go (eq-or-lt_of_le (omega arith))
     where
       go : (m ≡ j) ⊎ (m < j) → ⊥
@@ -41,15 +41,15 @@ module _ (sh : Shape) (o w : List ℕ) (t : Joint) (r : Rules) (c goal : ℕ) wh
       go (inr u) = h e pos m u q
 
   -- what rule j reaches, by what it leads to, and that it is no more than the best
-  module _ (j : ℕ) (x : Lead) (h : j < r.count) (b : (ruleIn o r.at j).from ≡ r.from) (e : x ≡ leadIn o r.at j) where
-    by-rule : reachOf sh w t c (leading x) ≡ term o r (reachOf sh w t c) j
-    by-rule = reach-leading sh o r.at j x e w t c ∙ sym (term-met o r (reachOf sh w t c) j b)
+  module _ (j : ℕ) (x : Lead) (h : j < r.count) (b : (rule_in o r.at j).from ≡ r.from) (e : x ≡ lead_in o r.at j) where
+    by-rule : reach_of sh w t c (leading x) ≡ term o r (reach_of sh w t c) j
+    by-rule = reach-leading sh o r.at j x e w t c ∙ sym (term-met o r (reach_of sh w t c) j b)
 
-    no_more : goal ≡ (bestIn o r (reachOf sh w t c)).value → reachOf sh w t c (leading x) ≤ goal
-    no_more q = omega (arith, by-rule, argmax-bound (term o r (reachOf sh w t c)) r.count j h)
+    no_more : goal ≡ (best_in o r (reach_of sh w t c)).value → reach_of sh w t c (leading x) ≤ goal
+    no_more q = omega (arith, by-rule, argmax-bound (term o r (reach_of sh w t c)) r.count j h)
 
 abbrev invariant-loop : tie.invariant-loop
-invariant-loop sh o t r work c goal j₀ j = (j ≤ r.count) × (j < r.count → (ruleIn o r.at j).from ≡ r.from) × Missed sh o work t r c goal j
+invariant-loop sh o t r work c goal j₀ j = (j ≤ r.count) × (j < r.count → (rule_in o r.at j).from ≡ r.from) × Missed sh o work t r c goal j
 
 abbrev decreases-loop : tie.decreases-loop
 decreases-loop sh o t r work c goal j₀ j = r.count - j
@@ -149,7 +149,7 @@ returns-2 c =
     let e = c.before.before.loop in
     let s = c.before.before.before.before.before.before.args in (
       λ q pos.
-          let f = argmax-found (term s.o.now s.r (reachOf s.sh s.work.now s.t s.c)) s.r.count (omega (arith, q, pos)) in
+          let f = argmax-found (term s.o.now s.r (reach_of s.sh s.work.now s.t s.c)) s.r.count (omega (arith, q, pos)) in
           absurd (e.invariant.2 q pos _ (omega (arith, f.0, c.if1.false)) (f.1 ∙ sym q)),
       (zero-le, zero-le),
     )

@@ -8,12 +8,12 @@ use borrow.Author.Rules.{rules}
 use Rattle.meaning.specs.Cell.{◌⊕◌}
 use Rattle.meaning.proofs.Cell.{⊕-comm}
 use Rattle.cells.specs.Stretch.{leading}
-use Rattle.engine.specs.Search.{splitAt}
+use Rattle.engine.specs.Search.{split_at}
 use Rattle.engine.proofs.choice.first_share.Statement.{statement}
 use Rattle.engine.proofs.choice.first_share.Tie as tie
 
 abbrev invariant-loop : tie.invariant-loop
-invariant-loop sh t lead work c goal a₀ a = (a ≤ c + 1) × ((m : ℕ) → m < a → splitAt sh work t c (leading lead) m ≡ goal → ⊥)
+invariant-loop sh t lead work c goal a₀ a = (a ≤ c + 1) × ((m : ℕ) → m < a → split_at sh work t c (leading lead) m ≡ goal → ⊥)
 
 abbrev decreases-loop : tie.decreases-loop
 decreases-loop sh t lead work c goal a₀ a = c + 1 - a
@@ -42,7 +42,7 @@ join-requires c κs = (c.before.row_at.ensures.1, c.branch-at.ensures.1)
 
 -- what the two cells make together
 made : (c : tie.After-join invariant-loop decreases-loop) → (let s = c.before.before.before.before.before.before.args in
-    c.join.result ≡ splitAt s.sh s.work.now s.t s.c (leading s.lead) c.before.before.before.before.loop.a)
+    c.join.result ≡ split_at s.sh s.work.now s.t s.c (leading s.lead) c.before.before.before.before.loop.a)
 made c = c.join.ensures ∙ ⊕-comm _ _ ∙ ap₂ ◌⊕◌ c.before.branch-at.ensures.0 c.before.before.row_at.ensures.0
 
 returns : tie.Need-returns invariant-loop decreases-loop

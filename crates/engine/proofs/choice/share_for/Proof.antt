@@ -11,11 +11,11 @@ use Rattle.cells.specs.declared.problem.Shape.{Shape}
 use Rattle.cells.specs.declared.outline.Lead.{Lead}
 use Rattle.cells.specs.declared.outline.Joint.{Joint}
 use Rattle.cells.specs.Problem.{item_of}
-use Rattle.cells.specs.Work.{heldRow}
-use Rattle.cells.specs.Stretch.{leading, reachIf}
+use Rattle.cells.specs.Work.{held_row}
+use Rattle.cells.specs.Stretch.{leading, reach_if}
 use Rattle.cells.proofs.Served.{unserved, ruled}
 use Rattle.cells.proofs.Strips.{moved_at, moved_none}
-use Rattle.engine.specs.Search.{splitAt, shareIf, Reaches}
+use Rattle.engine.specs.Search.{split_at, share_if, Reaches}
 use Rattle.engine.proofs.Search.{first-reaches}
 use Rattle.engine.proofs.choice.share_for.Statement.{statement}
 use Rattle.engine.proofs.choice.share_for.Tie as tie
@@ -23,7 +23,7 @@ use Rattle.engine.proofs.choice.share_for.Tie as tie
 -- what is asked for, by the sort of the rule
 abbrev Asked : Shape → List ℕ → Joint → Lead → (c goal r : ℕ) → Bool → Type 0
 Asked sh w t x c goal r b =
-    0 < goal → reachIf b sh w t c (leading x) ≤ goal → Reaches (reachIf b sh w t c (leading x)) (shareIf b sh w t c (leading x)) goal c r
+    0 < goal → reach_if b sh w t c (leading x) ≤ goal → Reaches (reach_if b sh w t c (leading x)) (share_if b sh w t c (leading x)) goal c r
 
 -- a rule that does not reach the goal
 missed : (reach share goal c r : ℕ) → r ≡ c + 1 → (reach ≡ goal → ⊥) → Reaches reach share goal c r
@@ -40,7 +40,7 @@ returns : tie.Need-returns
 returns c =
     let s = c.before.before.before.args in
     subst (Asked s.sh s.work.now s.t s.lead s.c s.goal c.first-share.result) (sym c.before.if1.true)
-    (first-reaches (splitAt s.sh s.work.now s.t s.c (leading s.lead)) s.goal s.c _ c.first-share.ensures)
+    (first-reaches (split_at s.sh s.work.now s.t s.c (leading s.lead)) s.goal s.c _ c.first-share.ensures)
 
 add-result : tie.Need-overflow-add-result
 add-result c = let s = c.before.before.before.before in omega (arith, s.requires.1, s.requires.0.0.sane.budget)
@@ -51,7 +51,7 @@ returns-2 c =
     let s = v.before.before.before.args in
     subst (Asked s.sh s.work.now s.t s.lead s.c s.goal _) (sym v.before.if1.false)
     (λ pos le. missed _ _ s.goal s.c _ (omega arith)
-    (λ e. absurd (omega (arith, unserved s.t.item (leading s.lead) (heldRow s.sh s.work.now s.t.rest) _ v.serves.ensures (not-true _ c.if2.true) s.c))))
+    (λ e. absurd (omega (arith, unserved s.t.item (leading s.lead) (held_row s.sh s.work.now s.t.rest) _ v.serves.ensures (not-true _ c.if2.true) s.c))))
 
 add-result-2 : tie.Need-overflow-add-result-2
 add-result-2 c = let s = c.before.before.before.before.before.before in omega (arith, s.requires.1, s.requires.0.0.sane.budget)
@@ -61,7 +61,7 @@ returns-3 c =
     let d = c.before in
     let v = d.before.before in
     let s = v.before.before.before.args in
-    let row = heldRow s.sh s.work.now s.t.rest in
+    let row = held_row s.sh s.work.now s.t.rest in
     subst (Asked s.sh s.work.now s.t s.lead s.c s.goal _) (sym v.before.if1.false)
     (λ pos le. missed _ _ s.goal s.c _ (omega arith)
     (λ e. absurd (omega (
@@ -84,13 +84,13 @@ join-requires c κs = (c.before.own_of_lem.ensures.1, c.row_at.ensures.1)
 
 -- the rule reaches the load's cell joined with the row's
 joined : (c : tie.After-join) → (let s = c.before.before.before.before.before.before.before.before.before.args in
-    c.join.result ≡ reachIf false s.sh s.work.now s.t s.c (leading s.lead))
+    c.join.result ≡ reach_if false s.sh s.work.now s.t s.c (leading s.lead))
 joined c =
     let o = c.before.before in
     let d = o.before.before in
     let v = d.before.before in
     let s = v.before.before.before.args in
-    let row = heldRow s.sh s.work.now s.t.rest in
+    let row = held_row s.sh s.work.now s.t.rest in
     c.join.ensures
     ∙ ap (λ y. o.own_of_lem.result ⊕ y) c.before.row_at.ensures.0
     ∙ sym (moved_at d.draw-of.result o.own_of_lem.result (row s.lead.stage) s.c (omega (arith, o.before.if3.false)))

@@ -4,39 +4,39 @@ use mathlib.Core.Path.{◌≡◌, sym, ap, ◌∙◌}
 use native.Mathlib.Omega.{arith}
 use borrow.Author.Tests.{le-ltb, lt-ltb}
 use lib.Dec.{ltb}
-use Rattle.lists.specs.Tests.{firstFrom}
+use Rattle.lists.specs.Tests.{first_from}
 use Rattle.lists.specs.Argmax.{Greatest}
 use Rattle.lists.proofs.Tests.{first-here, first-later}
-use Rattle.engine.specs.Search.{rootBest}
+use Rattle.engine.specs.Search.{root_best}
 use Rattle.engine.proofs.need.first_above.Statement.{statement}
 use Rattle.engine.proofs.need.first_above.Tie as tie
 
 -- the first of the allowances from c on, below n
 module _ (f : ℕ → ℕ) (floor n : ℕ) where
   unfoldable from : ℕ → ℕ
-  from c = firstFrom (λ a. ltb floor (f a)) c (n - c)
+  from c = first_from (λ a. ltb floor (f a)) c (n - c)
 
-  begins : firstFrom (λ a. ltb floor (f a)) 0 n ≡ from 0
+  begins : first_from (λ a. ltb floor (f a)) 0 n ≡ from 0
   unfolding from
-  begins = let e : n ≡ n - 0 = omega arith in ap (firstFrom _ 0) e
+  begins = let e : n ≡ n - 0 = omega arith in ap (first_from _ 0) e
 
   goes : (c x : ℕ) → c < n → x ≡ f c → x ≤ floor → from c ≡ from (c + 1)
   unfolding from
   goes c x l e h =
       let m : n - c - 1 ≡ n - (c + 1) = omega arith in
-      first-later (λ a. ltb floor (f a)) c (n - c) (omega arith) (le-ltb floor (f c) (omega arith)) ∙ ap (firstFrom _ (c + 1)) m
+      first-later (λ a. ltb floor (f a)) c (n - c) (omega arith) (le-ltb floor (f c) (omega arith)) ∙ ap (first_from _ (c + 1)) m
 
   stops : (c x : ℕ) → x ≡ f c → floor < x → c ≡ from c
   unfolding from
   stops c x e h = sym (first-here (λ a. ltb floor (f a)) c (n - c) (lt-ltb floor (f c) (omega arith)))
 
   ends : (c : ℕ) → n ≤ c → c ≡ from c
-  unfolding from firstFrom
-  ends c h = let e : 0 ≡ n - c = omega arith in ap (firstFrom (λ a. ltb floor (f a)) c) e
+  unfolding from first_from
+  ends c h = let e : 0 ≡ n - c = omega arith in ap (first_from (λ a. ltb floor (f a)) c) e
 
 abbrev invariant-loop : tie.invariant-loop
 invariant-loop sh work floor c₀ c =
-    (c ≤ sh.budget) × (firstFrom (λ a. ltb floor (rootBest sh work a).value) 0 sh.budget ≡ from (λ a. (rootBest sh work a).value) floor sh.budget c)
+    (c ≤ sh.budget) × (first_from (λ a. ltb floor (root_best sh work a).value) 0 sh.budget ≡ from (λ a. (root_best sh work a).value) floor sh.budget c)
 
 abbrev decreases-loop : tie.decreases-loop
 decreases-loop sh work floor c₀ c = sh.budget - c

@@ -6,13 +6,13 @@ use mathlib.Core.List.{◌++◌}
 use native.Mathlib.Omega.{arith}
 use borrow.Author.Rules.{rules}
 use lib.ListN.{drop, replicate}
-use Rattle.tables.specs.Limits.{maxLoads}
+use Rattle.tables.specs.Limits.{max_loads}
 use Rattle.tables.specs.Stored.{tables_of}
 use Rattle.tables.proofs.Kept.{tested, kept}
 use Rattle.cells.specs.declared.problem.Problem.{Problem}
 use Rattle.cells.specs.declared.problem.Shape.{Shape}
 use Rattle.cells.specs.Problem.{shape_of}
-use Rattle.cells.specs.Work.{cellsNeeded}
+use Rattle.cells.specs.Work.{cells_needed}
 use Rattle.meaning.specs.Cells.{cells_of}
 use Rattle.engine.proofs.Planning.{plan-is, plan-cells, all-cleared}
 use Rattle.engine.proofs.Budgets.{at_most, least-is, need-is}
@@ -20,7 +20,7 @@ use Rattle.engine.proofs.need.least_budget.Statement.{statement}
 use Rattle.engine.proofs.need.least_budget.Tie as tie
 
 -- the cells of the problem are those of the tables
-own : (c : tie.After-plan-problem) → cellsNeeded (shape_of c.plan-problem.result) ≡ cells_of (tables_of c.before.before.args.t)
+own : (c : tie.After-plan-problem) → cells_needed (shape_of c.plan-problem.result) ≡ cells_of (tables_of c.before.before.args.t)
 own c = plan-cells c.before.before.args.t c.plan-problem.result c.plan-problem.ensures.1 c.plan-problem.ensures.0
 
 fill-cells-requires : tie.Need-fill-cells-requires
@@ -29,7 +29,7 @@ fill-cells-requires c κs =
     let s = p.before.before in
     ((p.plan-problem.ensures.1, refl), (rw p.plan-problem.ensures.0 s.requires.1.0, omega (arith, own p, s.requires.1.1)))
 
-few : (c : tie.After-fill-cells) → c.before.before.before.before.before.args.t.loads.count ≤ maxLoads
+few : (c : tie.After-fill-cells) → c.before.before.before.before.before.args.t.loads.count ≤ max_loads
 few c =
     let k = c.fill-cells.ensures.1.0 in
     let e = c.before.before.before.plan-problem.ensures.0 in
@@ -63,7 +63,7 @@ returns c =
     let found = t.trace.ensures p.plan-problem.result g.1.0 ∙ plan-is s.args.t p.plan-problem.result p.plan-problem.ensures.1 p.plan-problem.ensures.0 in
     let least = least-is p.plan-problem.result _ _ _ g.1.0 s.args.t p.plan-problem.ensures.0 w s.args.worth _ _ u.floor-of.ensures a.first_above.ensures in (
       c.said.ensures ∙ need-is s.args.t w (omega (arith, few f, (kept s.args.t s.requires.0.0).counted)) s.args.worth _ found _ least,
-      all-cleared s.args.work.now _ _ _ _ e.clear.ensures (n.cells-needed.ensures ∙ ap cellsNeeded g.0) g.1.1
+      all-cleared s.args.work.now _ _ _ _ e.clear.ensures (n.cells-needed.ensures ∙ ap cells_needed g.0) g.1.1
           ∙ ap (λ (n : ℕ). replicate n 0 ++ drop n s.args.work.now) (own p),
     )
 

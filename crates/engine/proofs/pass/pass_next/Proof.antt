@@ -8,15 +8,15 @@ use native.Mathlib.Numerals.{add-one}
 use native.Mathlib.Omega.{arith}
 use borrow.Author.Rules.{rules}
 use lib.ListN.{get_or}
-use Rattle.tables.specs.Limits.{maxLoads}
-use Rattle.meaning.specs.Cell.{powerLimit}
+use Rattle.tables.specs.Limits.{max_loads}
+use Rattle.meaning.specs.Cell.{power_limit}
 use Rattle.cells.specs.declared.problem.Problem.{Problem}
 use Rattle.cells.specs.declared.problem.Shape.{Shape}
 use Rattle.cells.proofs.InRange.{outline-fits}
 use Rattle.engine.specs.declared.choice.Choice.{Choice}
 use Rattle.engine.specs.declared.pass.Rows.{Rows}
 use Rattle.engine.specs.declared.pass.Pass.{Pass}
-use Rattle.engine.specs.Pass.{Complete, loadChoice, rowChoice, within, entered, passedLoad, BranchEntered, Known, Passed}
+use Rattle.engine.specs.Pass.{Complete, load_choice, row_choice, within, entered, passed_load, BranchEntered, Known, Passed}
 use Rattle.engine.proofs.Passing.{within_same, branch-entered, row-state, row-known, pass_step}
 use Rattle.engine.proofs.Reading.{Promised, budget-is, load_is, row_is}
 use Rattle.engine.proofs.pass.pass_next.Statement.{statement}
@@ -32,7 +32,7 @@ module _ (p : Problem) (sh : Shape) (o w : List ℕ) (all : Complete p sh o w) (
 
   -- what is chosen for the row of load n + 1
   abbrev here : Choice
-  here = rowChoice p (suc n) stage left
+  here = row_choice p (suc n) stage left
 
   known : Known p s.rows n
   known = row-known p all.outlined.lawful n s h low high
@@ -61,7 +61,7 @@ module _ (p : Problem) (sh : Shape) (o w : List ℕ) (all : Complete p sh o w) (
       stage known.low known.high (omega (arith, states)) known.part.possible
 
   load-choice : (r d : Choice) → r ≡ here → (x c : ℕ) → x ≡ within r.label sh.states → c ≡ min r.share sh.budget → Promised sh o w (n + 1) x c d
-      → d ≡ loadChoice p (suc n) here.label here.share
+      → d ≡ load_choice p (suc n) here.label here.share
   load-choice r d e x c ex ec q =
       let u : suc (here.label - 1) ≡ here.label = omega (arith, state.0) in
       let x' : x ≡ here.label - 1 =
@@ -70,25 +70,25 @@ module _ (p : Problem) (sh : Shape) (o w : List ℕ) (all : Complete p sh o w) (
       load_is p sh o w all n (here.label - 1) here.share high entry.fits d
       (subst (λ x. Promised sh o w (suc n) x here.share d) x' (subst (λ c. Promised sh o w (suc n) x c d) c' (subst (λ k. Promised sh o w k x c d) (add-one n) q)))
       (omega (arith, state.0, state.1)) (rw u entry.part.possible)
-      ∙ ap (λ q. loadChoice p (suc n) q here.share) u
+      ∙ ap (λ q. load_choice p (suc n) q here.share) u
 
   -- the pass after load n + 1
-  passed : (r d : Choice) → r ≡ here → d ≡ loadChoice p (suc n) here.label here.share → (later : Rows) → later ≡ entered s.rows r.rest r.stage r.left
-      → (t : Pass) → t ≡ passedLoad (record { run = s.run; rows = later }) (n + 1) r.rule r.label d → Passed p (n + 1) t
+  passed : (r d : Choice) → r ≡ here → d ≡ load_choice p (suc n) here.label here.share → (later : Rows) → later ≡ entered s.rows r.rest r.stage r.left
+      → (t : Pass) → t ≡ passed_load (record { run = s.run; rows = later }) (n + 1) r.rule r.label d → Passed p (n + 1) t
   passed r d er ed later el t et =
       subst (λ k. Passed p k t) (sym (add-one n))
       (subst (Passed p (suc n)) (sym path) (pass_step p all.outlined.lawful n s h low high))
     where
       after : ℕ → Choice → Choice → Rows → Pass
-      after k r d later = passedLoad (record { run = s.run; rows = later }) k r.rule r.label d
+      after k r d later = passed_load (record { run = s.run; rows = later }) k r.rule r.label d
 
-      path : t ≡ after (suc n) here (loadChoice p (suc n) here.label here.share) (entered s.rows here.rest here.stage here.left)
+      path : t ≡ after (suc n) here (load_choice p (suc n) here.label here.share) (entered s.rows here.rest here.stage here.left)
       path =
           et ∙ ap₂ (λ k (x : Rows). after k r d x) (add-one n) (el ∙ ap (λ (r : Choice). entered s.rows r.rest r.stage r.left) er)
           ∙ ap₂ (λ (r d : Choice). after (suc n) r d (entered s.rows here.rest here.stage here.left)) er ed
 
 -- ---- along the code, whatever the cells hold
-few : (s : tie.Start) → s.args.n < maxLoads
+few : (s : tie.Start) → s.args.n < max_loads
 few s = omega (arith, s.requires.2, s.requires.0.ready.sane.loads)
 
 -- there is a stage where there is a state
@@ -100,7 +100,7 @@ staged s =
     omega (arith, g, ap (λ (y : Shape). y.stages) e)
 
 -- what follows a choice is in range
-follows : (s : tie.Start) (d : Choice) (c : ℕ) → c ≤ s.args.sh.budget → (d.rest ≤ s.args.sh.loads) × (d.left ≤ c) → (d.rest ≤ maxLoads) × (d.left < powerLimit)
+follows : (s : tie.Start) (d : Choice) (c : ℕ) → c ≤ s.args.sh.budget → (d.rest ≤ s.args.sh.loads) × (d.left ≤ c) → (d.rest ≤ max_loads) × (d.left < power_limit)
 follows s d c l h = let k = s.requires.0.ready.sane in (omega (arith, h.0, k.loads), omega (arith, h.1, k.budget))
 
 within-requires : tie.Need-within-requires

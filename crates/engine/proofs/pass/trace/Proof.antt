@@ -8,39 +8,39 @@ use native.Mathlib.Omega.{arith}
 use Rattle.lists.specs.Arrays.{laid}
 use Rattle.lists.specs.Argmax.{Greatest}
 use Rattle.lists.proofs.Argmax.{argmax-found}
-use Rattle.tables.specs.Limits.{maxStates, maxLoads}
-use Rattle.meaning.specs.Choice.{inOrder}
+use Rattle.tables.specs.Limits.{max_states, max_loads}
+use Rattle.meaning.specs.Choice.{in_order}
 use Rattle.cells.specs.declared.problem.Problem.{Problem}
 use Rattle.cells.specs.declared.problem.Shape.{Shape}
-use Rattle.cells.specs.Problem.{bookFor, loadsFor, itemsFor, shape_of}
-use Rattle.cells.specs.Work.{branchFor}
+use Rattle.cells.specs.Problem.{book_for, loads_for, items_for, shape_of}
+use Rattle.cells.specs.Work.{branch_for}
 use Rattle.cells.proofs.InRange.{outline-fits}
 use Rattle.runs.specs.declared.run.Run.{Run}
-use Rattle.runs.specs.Runs.{markAll, run_of}
-use Rattle.runs.specs.Outcome.{storedOutcome}
+use Rattle.runs.specs.Runs.{mark_all, run_of}
+use Rattle.runs.specs.Outcome.{stored_outcome}
 use Rattle.runs.proofs.Stored.{found_none, found_some}
 use Rattle.engine.specs.declared.best.Best.{Best}
 use Rattle.engine.specs.declared.choice.Choice.{Choice}
 use Rattle.engine.specs.declared.pass.Pass.{Pass}
-use Rattle.engine.specs.Search.{greatestOf, rootBest}
-use Rattle.engine.specs.Parts.{startBest}
-use Rattle.engine.specs.Pass.{bestFor, entriesFor, answerTo, Complete, loadChoice, passedLoad, Passed}
+use Rattle.engine.specs.Search.{greatest_of, root_best}
+use Rattle.engine.specs.Parts.{start_best}
+use Rattle.engine.specs.Pass.{best_for, entries_for, answer_to, Complete, load_choice, passed_load, Passed}
 use Rattle.engine.proofs.Passing.{pass-root}
 use Rattle.engine.proofs.Reading.{start-index, start-value, start-pos, start-used, start-possible, Promised, whole, budget-is, load_is}
 use Rattle.engine.proofs.pass.trace.Statement.{statement}
 use Rattle.engine.proofs.pass.trace.Tie as tie
 
 abbrev start : Pass
-start = record { run = run_of maxLoads []; rows = record { stages = laid 0 maxLoads []; left = laid 0 maxLoads [] } }
+start = record { run = run_of max_loads []; rows = record { stages = laid 0 max_loads []; left = laid 0 max_loads [] } }
 
 -- the best start state of an outline
 abbrev BestStart : Shape → List ℕ → Best → Type 0
-BestStart sh w b = greatestOf b ≡ rootBest sh w sh.budget
+BestStart sh w b = greatest_of b ≡ root_best sh w sh.budget
 
 -- it is one of the shape's states, whatever the cells hold
 index_in : (sh : Shape) (w : List ℕ) (b : Best) → BestStart sh w b → (b.value ≡ 0 → ⊥) → b.index < sh.states
 index_in sh w b e found =
-    let pos : 0 < (rootBest sh w sh.budget).value = omega (arith, ap (λ (g : Greatest). g.value) e) in
+    let pos : 0 < (root_best sh w sh.budget).value = omega (arith, ap (λ (g : Greatest). g.value) e) in
     omega (arith, ap (λ (g : Greatest). g.index) e, (argmax-found _ sh.states pos).0)
 
 -- whatever problem the outline is of
@@ -48,36 +48,36 @@ module _ (p : Problem) (sh : Shape) (o w : List ℕ) (all : Complete p sh o w) (
   own : BestStart (shape_of p) w b
   own = subst (λ (y : Shape). BestStart y w b) all.outlined.shape eb
 
-  value : b.value ≡ bestFor p
+  value : b.value ≡ best_for p
   value = start-value p o w (whole p sh o w all) b own
 
-  nothing : b.value ≡ 0 → record { status = 1; run = run_of maxLoads [] } ≡ answerTo p
-  nothing e = ap (storedOutcome maxLoads) (found_none (bestFor p) (inOrder (entriesFor p) 1 p.tables.loads.count) (sym value ∙ e))
+  nothing : b.value ≡ 0 → record { status = 1; run = run_of max_loads [] } ≡ answer_to p
+  nothing e = ap (stored_outcome max_loads) (found_none (best_for p) (in_order (entries_for p) 1 p.tables.loads.count) (sym value ∙ e))
 
   module _ (found : b.value ≡ 0 → ⊥) where
     used : b.index < p.tables.book.states
     used = start-used p o w (whole p sh o w all) b own found
 
     abbrev best : ℕ
-    best = (startBest (bookFor p) (itemsFor p) (loadsFor p) p.tables.budget).index
+    best = (start_best (book_for p) (items_for p) (loads_for p) p.tables.budget).index
 
-    root-choice : (d : Choice) → Promised sh o w 1 b.index sh.budget d → d ≡ loadChoice p 1 (suc best) p.tables.budget
+    root-choice : (d : Choice) → Promised sh o w 1 b.index sh.budget d → d ≡ load_choice p 1 (suc best) p.tables.budget
     root-choice d h =
         load_is p sh o w all 0 b.index p.tables.budget all.some (le_refl _) d (subst (λ c. Promised sh o w 1 b.index c d) (budget-is p sh o w all) h) used
-        (subst (λ q. 0 < branchFor p 1 q p.tables.budget) (add-one b.index) (start-possible p o w (whole p sh o w all) b own found))
-        ∙ ap (λ q. loadChoice p 1 (suc q) p.tables.budget) (start-index p o w (whole p sh o w all) b own)
+        (subst (λ q. 0 < branch_for p 1 q p.tables.budget) (add-one b.index) (start-possible p o w (whole p sh o w all) b own found))
+        ∙ ap (λ q. load_choice p 1 (suc q) p.tables.budget) (start-index p o w (whole p sh o w all) b own)
 
-    passed : (d : Choice) → d ≡ loadChoice p 1 (suc best) p.tables.budget → (t : Pass) → t ≡ passedLoad start 1 0 (b.index + 1) d → Passed p 1 t
-    unfolding run_of laid markAll
+    passed : (d : Choice) → d ≡ load_choice p 1 (suc best) p.tables.budget → (t : Pass) → t ≡ passed_load start 1 0 (b.index + 1) d → Passed p 1 t
+    unfolding run_of laid mark_all
     passed d ed t et =
-        let path = et ∙ ap₂ (λ (q : ℕ) (d : Choice). passedLoad start 1 0 q d) (add-one b.index ∙ ap suc (start-index p o w (whole p sh o w all) b own)) ed in
+        let path = et ∙ ap₂ (λ (q : ℕ) (d : Choice). passed_load start 1 0 q d) (add-one b.index ∙ ap suc (start-index p o w (whole p sh o w all) b own)) ed in
         subst (Passed p 1) (sym path)
         (pass-root p all.outlined.lawful all.some (start-pos p o w (whole p sh o w all) b own found) start refl (record { stages = refl; left = refl }))
 
-    whole_run : (s : Pass) (i : ℕ) → i ≡ p.tables.loads.count → Passed p i s → record { status = 2; run = s.run } ≡ answerTo p
+    whole_run : (s : Pass) (i : ℕ) → i ≡ p.tables.loads.count → Passed p i s → record { status = 2; run = s.run } ≡ answer_to p
     whole_run s i e h =
-        ap (λ (r : Run). record { status = 2; run = r }) (h.run ∙ ap (λ k. run_of maxLoads (inOrder (entriesFor p) 1 k)) e)
-        ∙ ap (storedOutcome maxLoads) (found_some (bestFor p) (inOrder (entriesFor p) 1 p.tables.loads.count) (omega (arith, value)))
+        ap (λ (r : Run). record { status = 2; run = r }) (h.run ∙ ap (λ k. run_of max_loads (in_order (entries_for p) 1 k)) e)
+        ∙ ap (stored_outcome max_loads) (found_some (best_for p) (in_order (entries_for p) 1 p.tables.loads.count) (omega (arith, value)))
 
 abbrev invariant-loop : tie.invariant-loop
 invariant-loop sh o work q s₀ n i₀ s i = (0 < i) × (i ≤ n) × ((p : Problem) → Complete p sh o work → Passed p i s)
@@ -91,7 +91,7 @@ best-start-requires c κs =
     (k.ready, (omega (arith, k.some, ap (λ (y : Shape). y.loads) k.outlined.shape), le_refl _))
 
 returns : tie.Need-returns invariant-loop decreases-loop
-unfolding run_of laid markAll
+unfolding run_of laid mark_all
 returns c =
     let b = c.before.before in
     let a = b.before.before.before.args in
@@ -104,7 +104,7 @@ state c =
     let a = b.before.before.before.args in
     index_in a.sh a.work.now b.best-start.result b.best-start.ensures c.if1.false
 
-few : (c : tie.Else1 invariant-loop decreases-loop) → c.before.before.best-start.result.index < maxStates
+few : (c : tie.Else1 invariant-loop decreases-loop) → c.before.before.best-start.result.index < max_states
 few c = omega (arith, state c, c.before.before.before.before.before.requires.ready.sane.states)
 
 choose-requires : tie.Need-choose-requires invariant-loop decreases-loop
@@ -122,7 +122,7 @@ with-requires c κs =
     (omega arith, omega arith, omega (arith, d.0, k.loads), omega (arith, d.1, k.budget))
 
 loop-holds : tie.Need-loop-init invariant-loop decreases-loop
-unfolding run_of laid markAll
+unfolding run_of laid mark_all
 loop-holds c =
     let l = c.before in
     let e = l.before.before in

@@ -6,7 +6,7 @@ use borrow.Author.Rules.{rules}
 use borrow.Fn.Kinds.{In}
 use borrow.Fn.PlainCycle.{Measures, is, falls, and}
 use Rattle.cells.specs.Problem.{Sane}
-use Rattle.cells.specs.Work.{cellsNeeded}
+use Rattle.cells.specs.Work.{cells_needed}
 use Rattle.cells.proofs.problem.shape_of.Reads as shape-of-reads
 use Rattle.cells.proofs.work.cells_needed.Reads as cells-needed-reads
 use Rattle.engine.proofs.pass.trace.Reads as trace-reads
@@ -48,13 +48,13 @@ pub +search-alone-spec : {M : Type 1} → statement M
     (λ c κs.
     let k = c.before.before in
     let s = k.before.before.before in
-    absurd (omega (arith, c.before.if1.true, k.cells-needed.ensures, ap cellsNeeded k.before.shape_of.ensures, s.requires.1.1.1)))
+    absurd (omega (arith, c.before.if1.true, k.cells-needed.ensures, ap cells_needed k.before.shape_of.ensures, s.requires.1.1.1)))
     (λ c. search rules)
     (λ c.
     let i = c.before.before.before.before in
     let k = i.before in
     let s = k.before.before.before in
-    absurd (omega (arith, i.if1.true, k.cells-needed.ensures, ap cellsNeeded k.before.shape_of.ensures, s.requires.1.1.1)))
+    absurd (omega (arith, i.if1.true, k.cells-needed.ensures, ap cells_needed k.before.shape_of.ensures, s.requires.1.1.1)))
     -- the cells are filled
     (λ c. search rules)
     (λ c κs. c.before.before.before.before.before.before.requires.1)

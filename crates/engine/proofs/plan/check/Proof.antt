@@ -4,14 +4,14 @@ use mathlib.Core.Path.{refl, ◌∙◌}
 use native.Mathlib.Omega.{arith}
 use borrow.Author.Rules.{rules}
 use Rattle.cells.specs.Problem.{shape_of}
-use Rattle.cells.specs.Work.{cellsNeeded}
-use Rattle.engine.specs.Pass.{checkCells}
+use Rattle.cells.specs.Work.{cells_needed}
+use Rattle.engine.specs.Pass.{check_cells}
 use Rattle.engine.proofs.Planning.{check-is, check-cells}
 use Rattle.engine.proofs.plan.check.Statement.{statement}
 use Rattle.engine.proofs.plan.check.Tie as tie
 
 -- one allowance needs few cells
-room : (c : tie.After-check-problem) → cellsNeeded (shape_of c.check-problem.result) ≤ checkCells
+room : (c : tie.After-check-problem) → cells_needed (shape_of c.check-problem.result) ≤ check_cells
 room c = check-cells c.before.args.t c.check-problem.result c.check-problem.ensures.1 c.before.args.set c.check-problem.ensures.0
 
 search-alone-requires : tie.Need-search-alone-requires

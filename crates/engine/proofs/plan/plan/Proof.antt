@@ -7,14 +7,14 @@ use borrow.Author.Rules.{rules}
 use lib.ListN.{drop, replicate}
 use Rattle.tables.specs.Stored.{tables_of}
 use Rattle.cells.specs.Problem.{shape_of}
-use Rattle.cells.specs.Work.{cellsNeeded}
+use Rattle.cells.specs.Work.{cells_needed}
 use Rattle.meaning.specs.Cells.{cells_of}
 use Rattle.engine.proofs.Planning.{plan-is, plan-cells}
 use Rattle.engine.proofs.plan.plan.Statement.{statement}
 use Rattle.engine.proofs.plan.plan.Tie as tie
 
 -- the cells of the problem are those of the tables
-own : (c : tie.After-plan-problem) → cellsNeeded (shape_of c.plan-problem.result) ≡ cells_of (tables_of c.before.before.args.t)
+own : (c : tie.After-plan-problem) → cells_needed (shape_of c.plan-problem.result) ≡ cells_of (tables_of c.before.before.args.t)
 own c = plan-cells c.before.before.args.t c.plan-problem.result c.plan-problem.ensures.1 c.plan-problem.ensures.0
 
 search-requires : tie.Need-search-requires

@@ -2,23 +2,23 @@
 use mathlib.Core.Path.{◌≡◌, ap, ◌∙◌}
 use borrow.Author.Rules.{rules}
 use Rattle.lists.specs.Arrays.{laid}
-use Rattle.runs.specs.Runs.{markAll, run_of}
-use Rattle.runs.specs.Outcome.{heldRange, keepsOutcome}
+use Rattle.runs.specs.Runs.{mark_all, run_of}
+use Rattle.runs.specs.Outcome.{held_range, keeps_outcome}
 use Rattle.runs.specs.declared.outcome.RunRange.{RunRange}
 use Rattle.engine.specs.Portion.{in_range}
 use Rattle.engine.proofs.portion.in_range.Statement.{statement}
 use Rattle.engine.proofs.portion.in_range.Tie as tie
 
 -- what the test says of the outcome
-tested : (c : tie.After-keeps-limits) → (let a = c.before.before.before.args in c.keeps-limits.result ≡ keepsOutcome (heldRange a.t) a.found)
-tested c = let a = c.before.before.before.args in c.keeps-limits.ensures ∙ ap (λ (m : RunRange). keepsOutcome m a.found) c.before.of.ensures
+tested : (c : tie.After-keeps-limits) → (let a = c.before.before.before.args in c.keeps-limits.result ≡ keeps_outcome (held_range a.t) a.found)
+tested c = let a = c.before.before.before.args in c.keeps-limits.ensures ∙ ap (λ (m : RunRange). keeps_outcome m a.found) c.before.of.ensures
 
 returns : tie.Need-returns
 unfolding in_range
 returns c = rw (← (tested c.before), c.if1.true)
 
 returns-2 : tie.Need-returns-2
-unfolding in_range run_of laid markAll
+unfolding in_range run_of laid mark_all
 returns-2 c = rw (← (tested c.before), c.if1.false)
 
 pub in-range-spec : {M : Type 1} → statement M

@@ -11,9 +11,9 @@ use Rattle.tables.specs.declared.rule.Sort.TheVariants as sort
 use Rattle.tables.specs.declared.rule.TransitionList.{TransitionList}
 use Rattle.tables.specs.declared.load.Load.{Load}
 use Rattle.tables.specs.declared.load.LoadList.{LoadList}
-use Rattle.tables.specs.Tables.{noLoad}
-use Rattle.tables.specs.Limits.{maxLoads}
-use Rattle.tables.specs.Stored.{rulesOf, loadsOf, bookOf, tables_of}
+use Rattle.tables.specs.Tables.{no_load}
+use Rattle.tables.specs.Limits.{max_loads}
+use Rattle.tables.specs.Stored.{rules_of, loads_of, book_of, tables_of}
 use Rattle.judge.specs.declared.figures.Step.{Step}
 use Rattle.judge.specs.Verdict.{proposed}
 use Rattle.judge.specs.Figures.{step_of}
@@ -23,27 +23,27 @@ use Rattle.judge.proofs.figures.look_up.Statement.{statement}
 use Rattle.judge.proofs.figures.look_up.Tie as tie
 
 -- the load at place j, as it is on paper, its parent and its step
-abbrev loadIn : LoadList → ℕ → Load
-loadIn loads j = get_or loads.items j noLoad
+abbrev load_in : LoadList → ℕ → Load
+load_in loads j = get_or loads.items j no_load
 
-held : (loads : LoadList) (j : ℕ) → j < loads.count → loadIn loads j ≡ get_or (loadsOf loads) j noLoad
-held loads j h = sym (get_or-take loads.count loads.items j noLoad h)
+held : (loads : LoadList) (j : ℕ) → j < loads.count → load_in loads j ≡ get_or (loads_of loads) j no_load
+held loads j h = sym (get_or-take loads.count loads.items j no_load h)
 
 abbrev parent_of : LoadList → ℕ → ℕ
-parent_of loads j = (loadIn loads j).parent
+parent_of loads j = (load_in loads j).parent
 
-abbrev stepFor : TransitionList → TransitionList → List ℕ → ℕ → Load → Step
-stepFor load-rules row-rules run j l = step_of (rulesOf load-rules) (rulesOf row-rules) l.kind (proposed run (suc j))
+abbrev step_for : TransitionList → TransitionList → List ℕ → ℕ → Load → Step
+step_for load-rules row-rules run j l = step_of (rules_of load-rules) (rules_of row-rules) l.kind (proposed run (suc j))
 
 abbrev invariant-loop : tie.invariant-loop
 invariant-loop run loads load-rules row-rules figures₀ i₀ i-end figures i =
     (i ≤ i-end)
-    × (i-end ≤ maxLoads)
+    × (i-end ≤ max_loads)
     × (length run ≡ 3 * i-end)
-    × Filled (4 * maxLoads) 0 (λ j. (stepFor load-rules row-rules run j (loadIn loads j)).begin) figures i
-    × Filled (4 * maxLoads) maxLoads (λ j. (stepFor load-rules row-rules run j (loadIn loads j)).stage) figures i
-    × Filled (4 * maxLoads) (2 * maxLoads) (λ j. (stepFor load-rules row-rules run j (loadIn loads j)).next) figures i
-    × Filled (4 * maxLoads) (3 * maxLoads) (parent_of loads) figures i
+    × Filled (4 * max_loads) 0 (λ j. (step_for load-rules row-rules run j (load_in loads j)).begin) figures i
+    × Filled (4 * max_loads) max_loads (λ j. (step_for load-rules row-rules run j (load_in loads j)).stage) figures i
+    × Filled (4 * max_loads) (2 * max_loads) (λ j. (step_for load-rules row-rules run j (load_in loads j)).next) figures i
+    × Filled (4 * max_loads) (3 * max_loads) (parent_of loads) figures i
 
 abbrev decreases-loop : tie.decreases-loop
 decreases-loop run loads load-rules row-rules figures₀ i₀ i-end figures i = i-end - i
@@ -52,7 +52,7 @@ loop-holds : tie.Need-loop-init invariant-loop decreases-loop
 loop-holds c =
     let s = c.before.before.before.before in (
       omega arith,
-      few-loads maxLoads s.args.t (search (rules, of_map)) (kept s.args.t s.requires.0),
+      few-loads max_loads s.args.t (search (rules, of_map)) (kept s.args.t s.requires.0),
       s.requires.1,
       fill_none refl,
       fill_none refl,
@@ -80,7 +80,7 @@ loop-again c =
     )
 
 returns : tie.Need-returns invariant-loop decreases-loop
-unfolding tables_of bookOf step_of
+unfolding tables_of book_of step_of
 returns c =
     let s = c.before.before.before.before.before.before in
     let book = s.args.t.book in
@@ -91,8 +91,8 @@ returns c =
     record {
       lawful = k.lawful;
       count = counted;
-      endStages = refl;
-      begin = λ j b. inv.3.filled j (omega arith) ∙ ap (λ l. (stepFor book.load_rules book.row_rules s.args.run.now j l).begin) (held loads j b);
+      end_stages = refl;
+      begin = λ j b. inv.3.filled j (omega arith) ∙ ap (λ l. (step_for book.load_rules book.row_rules s.args.run.now j l).begin) (held loads j b);
       stage = λ j b. inv.4.filled j (omega arith);
       next = λ j b. inv.5.filled j (omega arith);
       parent = λ j b. inv.6.filled j (omega arith) ∙ ap (λ l. l.parent) (held loads j (omega (arith, counted)));

@@ -7,7 +7,7 @@ use borrow.Author.Rules.{rules}
 use borrow.Fn.Kinds.{In}
 use borrow.Fn.PlainCycle.{Measures, is, falls, and}
 use Rattle.marks.proofs.Marks.has.Reads as has-reads
-use Rattle.judge.specs.Walk.{left, rowRuns}
+use Rattle.judge.specs.Walk.{left, row_runs}
 use Rattle.judge.proofs.Steps.{end-of-row, branch-fails, branch-passes, row-fails, row-branch-fails, row-passes}
 use Rattle.judge.proofs.walk.branch_runs.Reads as branch-runs
 use Rattle.judge.proofs.walk.branch_runs.Kinds as branch-runs-kinds
@@ -89,7 +89,7 @@ pub +branch-runs-row-runs-spec : {M : Type 1} → statement M
     -- the last stage reached is an end stage, or not
     (λ c t ρ l some.
     let a = c.before.before.args in
-    c.has.ensures ∙ end-of-row l a.g ∙ ap (λ (k : ℕ). rowRuns t ρ k a.g) (sym c.before.if1.true))
+    c.has.ensures ∙ end-of-row l a.g ∙ ap (λ (k : ℕ). row_runs t ρ k a.g) (sym c.before.if1.true))
     -- the load's stage is looked up
     (λ c κs. omega arith)
     -- another stage: the row rule does not fit

@@ -4,9 +4,9 @@ use mathlib.Core.Path.{ap, ◌∙◌}
 use native.Mathlib.Omega.{arith}
 use borrow.Author.Rules.{rules}
 use lib.ListN.{length}
-use Rattle.tables.specs.Limits.{maxLoads}
+use Rattle.tables.specs.Limits.{max_loads}
 use Rattle.meaning.specs.Forest.{after}
-use Rattle.meaning.specs.Cells.{loadAt}
+use Rattle.meaning.specs.Cells.{load_at}
 use Rattle.judge.proofs.Places.{at_load}
 use Rattle.judge.proofs.walk.next_sibling.Statement.{statement}
 use Rattle.judge.proofs.walk.next_sibling.Tie as tie
@@ -15,7 +15,7 @@ returns : tie.Need-returns
 returns c =
     let a = c.before.before.args in (
       λ ls e h.
-          let parent = at_load (λ k. (loadAt ls k).parent) a.figures.now (3 * maxLoads) (length ls) h a.k (omega arith) (omega arith) in
+          let parent = at_load (λ k. (load_at ls k).parent) a.figures.now (3 * max_loads) (length ls) h a.k (omega arith) (omega arith) in
           c.child-after.ensures.0 ls e h ∙ ap (after ls a.k) (c.before.of-load.ensures ∙ parent),
       c.child-after.ensures.1,
     )

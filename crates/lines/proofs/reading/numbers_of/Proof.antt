@@ -6,13 +6,13 @@ use mathlib.Core.Logic.{⊎_elim}
 use borrow.Author.Rules.{rules}
 use lib.ListN.{length, drop}
 use Rattle.lines.specs.Grammar.{table}
-use Rattle.lines.specs.Reading.{rows, mostFrom, mostAfter}
+use Rattle.lines.specs.Reading.{rows, most_from, most_after}
 use Rattle.lines.proofs.Rows.{most-end, most-turn}
 use Rattle.lines.proofs.reading.numbers_of.Statement.{statement}
 use Rattle.lines.proofs.reading.numbers_of.Tie as tie
 
 abbrev invariant-loop : tie.invariant-loop
-invariant-loop code all most₀ i₀ most i = mostAfter code (rows table) ≡ mostFrom most code (drop i (rows table))
+invariant-loop code all most₀ i₀ most i = most_after code (rows table) ≡ most_from most code (drop i (rows table))
 
 abbrev decreases-loop : tie.decreases-loop
 decreases-loop code all most₀ i₀ most i = length (rows table) - i

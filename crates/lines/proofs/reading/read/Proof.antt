@@ -7,18 +7,18 @@ use borrow.Author.Tests.{lt-ltb, le-ltb}
 use lib.ListN.{length}
 use Rattle.lines.specs.declared.Command.{Command}
 use Rattle.lines.specs.declared.Command.TheVariants.{TooLong}
-use Rattle.lines.specs.Length.{mostBytes}
-use Rattle.lines.specs.Grammar.{parse, lineCommand}
+use Rattle.lines.specs.Length.{most_bytes}
+use Rattle.lines.specs.Grammar.{parse, line_command}
 use Rattle.lines.proofs.reading.read.Statement.{statement}
 use Rattle.lines.proofs.reading.read.Tie as tie
 
-long : (s : List ℕ) → mostBytes < length s → TooLong ≡ lineCommand s
-unfolding lineCommand
-long s h = rw (lt-ltb mostBytes (length s) h)
+long : (s : List ℕ) → most_bytes < length s → TooLong ≡ line_command s
+unfolding line_command
+long s h = rw (lt-ltb most_bytes (length s) h)
 
-short : (s : List ℕ) {c : Command} → length s ≤ mostBytes → c ≡ parse s → c ≡ lineCommand s
-unfolding lineCommand
-short s h e = rw (le-ltb mostBytes (length s) h) e
+short : (s : List ℕ) {c : Command} → length s ≤ most_bytes → c ≡ parse s → c ≡ line_command s
+unfolding line_command
+short s h e = rw (le-ltb most_bytes (length s) h) e
 
 returns : tie.Need-returns
 returns c = long _ c.if1.true

@@ -7,12 +7,12 @@ use borrow.Author.Rules.{rules}
 use borrow.Author.Tests.{le-leb, lt-leb}
 use lib.ListN.{length, drop}
 use Rattle.lines.specs.Reading.{bits_of}
-use Rattle.lines.proofs.Bits.{bitsFrom, bits-begin, bits_none, bits-all, bits-on, bits-off, bits-bad}
+use Rattle.lines.proofs.Bits.{bits_from, bits-begin, bits_none, bits-all, bits-on, bits-off, bits-bad}
 use Rattle.lines.proofs.reading.read_bits.Statement.{statement}
 use Rattle.lines.proofs.reading.read_bits.Tie as tie
 
 abbrev invariant-loop : tie.invariant-loop
-invariant-loop s start set₀ count₀ at₀ set count at = (bits_of (drop start s) ≡ bitsFrom count set (drop at s)) × (at ≡ start + count)
+invariant-loop s start set₀ count₀ at₀ set count at = (bits_of (drop start s) ≡ bits_from count set (drop at s)) × (at ≡ start + count)
 
 abbrev decreases-loop : tie.decreases-loop
 decreases-loop s start set₀ count₀ at₀ set count at = length s - at

@@ -4,7 +4,7 @@ use native.Mathlib.Omega.{arith}
 use borrow.Author.Rules.{rules}
 use Rattle.lines.specs.declared.reading.Word.{Word}
 use Rattle.lines.specs.Grammar.{table}
-use Rattle.lines.specs.Reading.{withNumbers}
+use Rattle.lines.specs.Reading.{with_numbers}
 use Rattle.lines.proofs.Codes.{Bytes, all-bytes}
 use Rattle.lines.proofs.Rows.{kept, most-few}
 use Rattle.lines.proofs.Commands.{word-inside, read-bits, read-numbers}
@@ -30,7 +30,7 @@ returns-2 : tie.Need-returns-2
 returns-2 c =
     let n = c.before.before in
     let w = n.before.before in
-    c.with-numbers.ensures ∙ ap (withNumbers w.read_word.result.code) c.before.read-numbers.ensures
+    c.with-numbers.ensures ∙ ap (with_numbers w.read_word.result.code) c.before.read-numbers.ensures
     ∙ read-numbers _ (bytes w.before) w.read_word.ensures n.before.if1.false n.Numbers-of.ensures
 
 pub read-form-spec : {M : Type 1} → statement M

@@ -7,22 +7,22 @@ use native.Mathlib.Omega.{arith}
 use borrow.Author.Rules.{rules}
 use borrow.Author.Tests.{not-true, not-false}
 use lib.ListN.{length, get_or, length-set}
-use Rattle.lines.specs.Grammar.{mostDigits}
-use Rattle.lines.specs.Reading.{fieldsAfter, mostNumbers, numbersIn}
+use Rattle.lines.specs.Grammar.{most_digits}
+use Rattle.lines.specs.Reading.{fields_after, most_numbers, numbers_in}
 use Rattle.lines.proofs.Numbers.{after, from, begin, at-end, at-comma, too_many, digit, bad, ends-comma, ends-line, none-comma, none-line, Digit, is_digit}
 use Rattle.lines.proofs.reading.read_numbers.Statement.{statement}
 use Rattle.lines.proofs.reading.read_numbers.Tie as tie
 
 abbrev invariant-loop : tie.invariant-loop
 invariant-loop s end most values count at₀ value₀ digits₀ at value digits =
-    (numbersIn most (fieldsAfter end s) ≡ from most s at count values digits value) × (digits ≤ mostDigits) × (value < 10 ^ digits)
+    (numbers_in most (fields_after end s) ≡ from most s at count values digits value) × (digits ≤ most_digits) × (value < 10 ^ digits)
 
 abbrev decreases-loop : tie.decreases-loop
 decreases-loop s end most values count at₀ value₀ digits₀ at value digits = length s - at
 
 abbrev invariant-fields : tie.invariant-fields
 invariant-fields s end most values₀ count₀ at₀ values count at =
-    (numbersIn most (fieldsAfter end s) ≡ after most s at count values) × (length values ≡ mostNumbers)
+    (numbers_in most (fields_after end s) ≡ after most s at count values) × (length values ≡ most_numbers)
 
 abbrev decreases-fields : tie.decreases-fields
 decreases-fields s end most values₀ count₀ at₀ values count at = most - count

@@ -7,10 +7,10 @@ use lib.ListN.{length, length-append}
 use Rattle.tables.specs.declared.rule.Sort.{Sort}
 use Rattle.tables.specs.declared.rule.Sort.TheVariants as sort
 use Rattle.tables.specs.declared.tables.StoredBook.{StoredBook}
-use Rattle.tables.specs.Stored.{heldSize, heldMarks, heldRules, rulesOf}
+use Rattle.tables.specs.Stored.{held_size, held_marks, held_rules, rules_of}
 use Rattle.lines.specs.declared.SaveForm.{SaveForm}
 use Rattle.lines.specs.declared.SaveForm.TheVariants.{Kinds}
-use Rattle.lines.specs.Saved.{sizeChange, markChanges, ruleChange, changesText}
+use Rattle.lines.specs.Saved.{size_change, mark_changes, rule_change, changes_text}
 use Rattle.lines.proofs.Wrote.{wrote_then}
 use Rattle.lines.proofs.Saves.{book-text}
 use Rattle.lines.proofs.saving.write_book.Statement.{statement}
@@ -18,13 +18,13 @@ use Rattle.lines.proofs.saving.write_book.Tie as tie
 
 -- the parts
 abbrev size : StoredBook → List ℕ
-size b = changesText Kinds (sizeChange b.states b.stages)
+size b = changes_text Kinds (size_change b.states b.stages)
 
 abbrev marks : StoredBook → Sort → List ℕ
-marks b k = changesText Kinds (markChanges k (heldMarks b k) (heldSize b k))
+marks b k = changes_text Kinds (mark_changes k (held_marks b k) (held_size b k))
 
 abbrev rules : SaveForm → StoredBook → Sort → List ℕ
-rules f b k = changesText f (map (ruleChange k) (rulesOf (heldRules b k)))
+rules f b k = changes_text f (map (rule_change k) (rules_of (held_rules b k)))
 
 -- the room, part by part
 room : (c : tie.Start) → let b = c.args.book in let f = c.args.form in

@@ -7,12 +7,12 @@ use borrow.Author.Rules.{rules}
 use lib.ListN.{length, take, get_or}
 use Rattle.lists.proofs.Arrays.{of_map}
 use Rattle.tables.specs.declared.load.Load.{Load}
-use Rattle.tables.specs.Tables.{noLoad}
-use Rattle.tables.specs.Limits.{maxLoads}
+use Rattle.tables.specs.Tables.{no_load}
+use Rattle.tables.specs.Limits.{max_loads}
 use Rattle.lines.specs.declared.SaveForm.{SaveForm}
-use Rattle.lines.specs.Written.{changeLine}
+use Rattle.lines.specs.Written.{change_line}
 use Rattle.lines.specs.Answers.{Wrote}
-use Rattle.lines.specs.Saved.{loadChange, changesText}
+use Rattle.lines.specs.Saved.{load_change, changes_text}
 use Rattle.lines.proofs.Wrote.{wrote_none, wrote-length, part_room, part-more, part-all}
 use Rattle.lines.proofs.Saves.{each_next}
 use Rattle.lines.proofs.saving.write_loads.Statement.{statement}
@@ -20,10 +20,10 @@ use Rattle.lines.proofs.saving.write_loads.Tie as tie
 
 -- the text of the first i loads, and what the next adds to it
 abbrev text : SaveForm → List Load → ℕ → List ℕ
-text f xs i = changesText f (map loadChange (take i xs))
+text f xs i = changes_text f (map load_change (take i xs))
 
 abbrev part : SaveForm → List Load → ℕ → List ℕ
-part f xs i = changeLine f (loadChange (get_or xs i noLoad))
+part f xs i = change_line f (load_change (get_or xs i no_load))
 
 abbrev invariant-loop : tie.invariant-loop
 invariant-loop out₀ at form loads next₀ i₀ i-end out next i = (i ≤ loads.count) × Wrote out₀ out at next (text form loads.items i)
@@ -31,15 +31,15 @@ invariant-loop out₀ at form loads next₀ i₀ i-end out next i = (i ≤ loads
 abbrev decreases-loop : tie.decreases-loop
 decreases-loop out₀ at form loads next₀ i₀ i-end out next i = loads.count - i
 
-len : (c : tie.Start invariant-loop decreases-loop) → length c.args.t4.items ≡ maxLoads
+len : (c : tie.Start invariant-loop decreases-loop) → length c.args.t4.items ≡ max_loads
 len c = search (rules, of_map)
 
 next-part : (c : tie.Start invariant-loop decreases-loop) → let l = c.args.t4 in
     (i : ℕ) → i < l.count → text c.args.form l.items (i + 1) ≡ text c.args.form l.items i ++ part c.args.form l.items i
-next-part c i h = each_next c.args.form loadChange noLoad c.args.t4.items i (omega (arith, len c, c.requires.0))
+next-part c i h = each_next c.args.form load_change no_load c.args.t4.items i (omega (arith, len c, c.requires.0))
 
 loop-holds : tie.Need-loop-init invariant-loop decreases-loop
-unfolding changesText
+unfolding changes_text
 loop-holds c = (omega arith, wrote_none _ _)
 
 write-load-requires : tie.Need-write-load-requires invariant-loop decreases-loop

@@ -6,7 +6,7 @@ use Rattle.marks.specs.declared.Marks.{Marks}
 use Rattle.tables.specs.declared.rule.Sort.{Sort}
 use Rattle.lines.specs.declared.SaveForm.TheVariants.{Kinds}
 use Rattle.lines.specs.Answers.{Wrote}
-use Rattle.lines.specs.Saved.{markIfSet, markChanges, changesText}
+use Rattle.lines.specs.Saved.{mark_if_set, mark_changes, changes_text}
 use Rattle.lines.proofs.Wrote.{wrote_none, wrote-length, part_room, part-more, part-all}
 use Rattle.lines.proofs.Saves.{mark-next}
 use Rattle.lines.proofs.saving.write_marks.Statement.{statement}
@@ -14,10 +14,10 @@ use Rattle.lines.proofs.saving.write_marks.Tie as tie
 
 -- the text of the marks up to number i, and what the next adds to it
 abbrev text : Sort → Marks → ℕ → List ℕ
-text k m i = changesText Kinds (markChanges k m i)
+text k m i = changes_text Kinds (mark_changes k m i)
 
 abbrev part : Sort → Marks → ℕ → List ℕ
-part k m i = changesText Kinds (markIfSet k m (i + 1))
+part k m i = changes_text Kinds (mark_if_set k m (i + 1))
 
 abbrev invariant-loop : tie.invariant-loop
 invariant-loop out₀ at sort marks size next₀ i₀ out next i = (i ≤ size) × Wrote out₀ out at next (text sort marks i)
@@ -26,7 +26,7 @@ abbrev decreases-loop : tie.decreases-loop
 decreases-loop out₀ at sort marks size next₀ i₀ out next i = size - i
 
 loop-holds : tie.Need-loop-init invariant-loop decreases-loop
-unfolding markChanges changesText
+unfolding mark_changes changes_text
 loop-holds c = (omega arith, wrote_none _ _)
 
 write-if-set-requires : tie.Need-write-if-set-requires invariant-loop decreases-loop

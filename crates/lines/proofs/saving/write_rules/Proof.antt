@@ -8,12 +8,12 @@ use lib.ListN.{length, take, get_or}
 use Rattle.lists.proofs.Arrays.{of_map}
 use Rattle.tables.specs.declared.rule.Sort.{Sort}
 use Rattle.tables.specs.declared.rule.Transition.{Transition}
-use Rattle.tables.specs.Tables.{noRule}
-use Rattle.tables.specs.Limits.{maxRules}
+use Rattle.tables.specs.Tables.{no_rule}
+use Rattle.tables.specs.Limits.{max_rules}
 use Rattle.lines.specs.declared.SaveForm.{SaveForm}
-use Rattle.lines.specs.Written.{changeLine}
+use Rattle.lines.specs.Written.{change_line}
 use Rattle.lines.specs.Answers.{Wrote}
-use Rattle.lines.specs.Saved.{ruleChange, changesText}
+use Rattle.lines.specs.Saved.{rule_change, changes_text}
 use Rattle.lines.proofs.Wrote.{wrote_none, wrote-length, part_room, part-more, part-all}
 use Rattle.lines.proofs.Saves.{each_next}
 use Rattle.lines.proofs.saving.write_rules.Statement.{statement}
@@ -21,10 +21,10 @@ use Rattle.lines.proofs.saving.write_rules.Tie as tie
 
 -- the text of the first i rules, and what the next adds to it
 abbrev text : SaveForm → Sort → List Transition → ℕ → List ℕ
-text f k xs i = changesText f (map (ruleChange k) (take i xs))
+text f k xs i = changes_text f (map (rule_change k) (take i xs))
 
 abbrev part : SaveForm → Sort → List Transition → ℕ → List ℕ
-part f k xs i = changeLine f (ruleChange k (get_or xs i noRule))
+part f k xs i = change_line f (rule_change k (get_or xs i no_rule))
 
 abbrev invariant-loop : tie.invariant-loop
 invariant-loop out₀ at form sort rules next₀ i₀ i-end out next i = (i ≤ rules.count) × Wrote out₀ out at next (text form sort rules.items i)
@@ -32,15 +32,15 @@ invariant-loop out₀ at form sort rules next₀ i₀ i-end out next i = (i ≤ 
 abbrev decreases-loop : tie.decreases-loop
 decreases-loop out₀ at form sort rules next₀ i₀ i-end out next i = rules.count - i
 
-len : (c : tie.Start invariant-loop decreases-loop) → length c.args.t5.items ≡ maxRules
+len : (c : tie.Start invariant-loop decreases-loop) → length c.args.t5.items ≡ max_rules
 len c = search (rules, of_map)
 
 next-part : (c : tie.Start invariant-loop decreases-loop) → let l = c.args.t5 in
     (i : ℕ) → i < l.count → text c.args.form c.args.sort l.items (i + 1) ≡ text c.args.form c.args.sort l.items i ++ part c.args.form c.args.sort l.items i
-next-part c i h = each_next c.args.form (ruleChange c.args.sort) noRule c.args.t5.items i (omega (arith, len c, c.requires.0))
+next-part c i h = each_next c.args.form (rule_change c.args.sort) no_rule c.args.t5.items i (omega (arith, len c, c.requires.0))
 
 loop-holds : tie.Need-loop-init invariant-loop decreases-loop
-unfolding changesText
+unfolding changes_text
 loop-holds c = (omega arith, wrote_none _ _)
 
 write-rule-requires : tie.Need-write-rule-requires invariant-loop decreases-loop

@@ -7,14 +7,14 @@ use borrow.Author.Rules.{rules}
 use lib.Dec.{lit≤}
 use lib.ListN.{length, length-append}
 use Rattle.tables.specs.declared.tables.StoredTables.{StoredTables}
-use Rattle.tables.specs.Limits.{maxLoads}
-use Rattle.tables.specs.Stored.{loadsOf, bookOf}
+use Rattle.tables.specs.Limits.{max_loads}
+use Rattle.tables.specs.Stored.{loads_of, book_of}
 use Rattle.tables.proofs.Stored.{held-rules, held-loads}
 use Rattle.lines.specs.declared.Change.TheVariants.{Clear, Budget}
 use Rattle.lines.specs.declared.SaveForm.{SaveForm}
 use Rattle.lines.specs.Grammar.{line_of}
-use Rattle.lines.specs.Written.{changeLine}
-use Rattle.lines.specs.Saved.{loadChange, bookChanges, changesText}
+use Rattle.lines.specs.Written.{change_line}
+use Rattle.lines.specs.Saved.{load_change, book_changes, changes_text}
 use Rattle.lines.proofs.Wrote.{wrote_then}
 use Rattle.lines.proofs.Saves.{save-text}
 use Rattle.lines.proofs.saving.write_save.Statement.{statement}
@@ -22,21 +22,21 @@ use Rattle.lines.proofs.saving.write_save.Tie as tie
 
 -- the parts
 abbrev book : SaveForm → StoredTables → List ℕ
-book f s = changesText f (bookChanges (bookOf s.book))
+book f s = changes_text f (book_changes (book_of s.book))
 
 abbrev loads : SaveForm → StoredTables → List ℕ
-loads f s = changesText f (map loadChange (loadsOf s.loads))
+loads f s = changes_text f (map load_change (loads_of s.loads))
 
 four-length : (a b c d : List ℕ) → length (a ++ b ++ c ++ d) ≡ length a + length b + length c + length d
 four-length a b c d = simp length-append
 
 -- the room, part by part
 room : (c : tie.Start) → let s = c.args.tables in let f = c.args.form in
-    length (changeLine f Clear) + length (book f s) + length (loads f s) + length (changeLine f (Budget s.budget)) ≤ length c.args.out.now
+    length (change_line f Clear) + length (book f s) + length (loads f s) + length (change_line f (Budget s.budget)) ≤ length c.args.out.now
 room c =
     let s = c.args.tables in
     let f = c.args.form in
-    omega (arith, c.requires.1, ap length (save-text f s) ∙ four-length (changeLine f Clear) (book f s) (loads f s) (changeLine f (Budget s.budget)))
+    omega (arith, c.requires.1, ap length (save-text f s) ∙ four-length (change_line f Clear) (book f s) (loads f s) (change_line f (Budget s.budget)))
 
 write-line-requires : tie.Need-write-line-requires
 unfolding line_of
@@ -48,7 +48,7 @@ write-book-requires c κs =
     let w = c.before.before.before in
     let s = w.before.before.before.before in
     let r = room s in
-    (held-rules maxLoads s.args.tables s.requires.0, omega (arith, w.write-line.ensures.end, w.write-line.auto.0))
+    (held-rules max_loads s.args.tables s.requires.0, omega (arith, w.write-line.ensures.end, w.write-line.auto.0))
 
 write-loads-requires : tie.Need-write-loads-requires
 unfolding line_of
@@ -57,7 +57,7 @@ write-loads-requires c κs =
     let w = b.before.before.before.before in
     let s = w.before.before.before.before in
     let r = room s in
-    (held-loads maxLoads s.args.tables s.requires.0, omega (arith, b.write-book.ensures.end, b.write-book.auto.0, w.write-line.ensures.end, w.write-line.auto.0))
+    (held-loads max_loads s.args.tables s.requires.0, omega (arith, b.write-book.ensures.end, b.write-book.auto.0, w.write-line.ensures.end, w.write-line.auto.0))
 
 write-line-requires-2 : tie.Need-write-line-requires-2
 unfolding line_of

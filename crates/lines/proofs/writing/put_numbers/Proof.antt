@@ -6,7 +6,7 @@ use native.Mathlib.Omega.{arith}
 use borrow.Author.Rules.{rules}
 use lib.ListN.{length, take, get_or}
 use Rattle.lines.specs.Text.{comma, decimal}
-use Rattle.lines.specs.Reading.{mostNumbers}
+use Rattle.lines.specs.Reading.{most_numbers}
 use Rattle.lines.specs.Written.{parted, line}
 use Rattle.lines.specs.Answers.{Wrote}
 use Rattle.lines.proofs.Wrote.{wrote_none, wrote-length, part_room, part-more, part-all}
@@ -34,7 +34,7 @@ loop-holds : tie.Need-loop-init invariant-loop decreases-loop
 unfolding parted
 loop-holds c = (omega arith, wrote_none _ _)
 
-len : (c : tie.Start invariant-loop decreases-loop) → length c.args.t3 ≡ mostNumbers
+len : (c : tie.Start invariant-loop decreases-loop) → length c.args.t3 ≡ most_numbers
 len c = search rules
 
 put-number-requires : tie.Need-put-number-requires invariant-loop decreases-loop

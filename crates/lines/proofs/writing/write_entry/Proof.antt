@@ -4,8 +4,8 @@ use native.Mathlib.Omega.{arith}
 use borrow.Author.Rules.{rules}
 use lib.ListN.{length}
 use Rattle.tables.specs.declared.entry.Entry.{Entry}
-use Rattle.lines.specs.Text.{comma, lineFeed, field}
-use Rattle.lines.specs.Answers.{entryLine}
+use Rattle.lines.specs.Text.{comma, line_feed, field}
+use Rattle.lines.specs.Answers.{entry_line}
 use Rattle.lines.proofs.Answers.{entry_length}
 use Rattle.lines.proofs.Wrote.{wrote_then}
 use Rattle.lines.proofs.writing.write_entry.Statement.{statement}
@@ -13,7 +13,7 @@ use Rattle.lines.proofs.writing.write_entry.Tie as tie
 
 -- the room, field by field
 room : (c : tie.Start) → let e = c.args.e in
-    c.args.at + (length (field e.number comma) + length (field e.mark comma) + length (field e.state comma) + length (field e.rule comma) + length (field e.row lineFeed))
+    c.args.at + (length (field e.number comma) + length (field e.mark comma) + length (field e.state comma) + length (field e.rule comma) + length (field e.row line_feed))
     ≤ length c.args.out.now
 room c = rw entry_length at c.requires
 
@@ -33,7 +33,7 @@ put-field-requires-5 : tie.Need-put-field-requires-5
 put-field-requires-5 c κs = let r = room c.before.before.before.before.before.before.before.before.before.before.before.before.before.before.before.before.before.before.before.before.before.before.before in omega arith
 
 returns : tie.Need-returns
-unfolding entryLine
+unfolding entry_line
 returns c =
     let c5 = c.before.before in
     let c4 = c5.before.before.before.before.before in

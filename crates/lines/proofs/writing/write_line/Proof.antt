@@ -5,7 +5,7 @@ use mathlib.Core.List.{[], ◌∷◌}
 use native.Mathlib.Omega.{arith}
 use borrow.Author.Rules.{rules}
 use lib.ListN.{length, take, length-append}
-use Rattle.lines.specs.Text.{lineFeed}
+use Rattle.lines.specs.Text.{line_feed}
 use Rattle.lines.specs.Written.{line}
 use Rattle.lines.proofs.Wrote.{wrote_then}
 use Rattle.lines.proofs.Saves.{line_word}
@@ -18,7 +18,7 @@ sizes : (c : tie.Start) → let w = c.args.word.now in let ns = take c.args.coun
 sizes c =
     let w = c.args.word.now in
     let ns = take c.args.count c.args.v in
-    omega (arith, c.requires.1, length-append (line w ns) (lineFeed ∷ []), ap length (line_word w ns) ∙ length-append w (line [] ns))
+    omega (arith, c.requires.1, length-append (line w ns) (line_feed ∷ []), ap length (line_word w ns) ∙ length-append w (line [] ns))
 
 put-text-requires : tie.Need-put-text-requires
 put-text-requires c κs = let r = sizes c.before.before.before in omega arith

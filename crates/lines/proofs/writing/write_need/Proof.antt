@@ -1,7 +1,7 @@
 -- `write_need` meets its contract: the text, then the budget. Assumes nothing.
 use native.Mathlib.Omega.{arith}
 use borrow.Author.Rules.{rules}
-use Rattle.lines.specs.Answers.{needLine}
+use Rattle.lines.specs.Answers.{need_line}
 use Rattle.lines.proofs.Answers.{need-length}
 use Rattle.lines.proofs.Wrote.{wrote_then}
 use Rattle.lines.proofs.writing.write_need.Statement.{statement}
@@ -17,7 +17,7 @@ put-field-requires c κs =
     omega (arith, s.requires, need-length s.args.budget, d.put-text.ensures.end, d.put-text.auto.0)
 
 returns : tie.Need-returns
-unfolding needLine
+unfolding need_line
 returns c = wrote_then c.before.before.before.before.before.before.put-text.ensures c.before.before.put-field.ensures
 
 pub write-need-spec : {M : Type 1} → statement M

@@ -3,8 +3,8 @@ use Prim.Native.Nat.{◌+◌, ◌≤◌}
 use native.Mathlib.Omega.{arith}
 use borrow.Author.Rules.{rules}
 use lib.ListN.{length}
-use Rattle.lines.specs.Text.{comma, lineFeed, field}
-use Rattle.lines.specs.Answers.{planLine}
+use Rattle.lines.specs.Text.{comma, line_feed, field}
+use Rattle.lines.specs.Answers.{plan_line}
 use Rattle.lines.proofs.Answers.{plan-length}
 use Rattle.lines.proofs.Wrote.{wrote_then}
 use Rattle.lines.proofs.writing.write_plan.Statement.{statement}
@@ -12,7 +12,7 @@ use Rattle.lines.proofs.writing.write_plan.Tie as tie
 
 -- the room, field by field
 room : (c : tie.Start)
-    → c.args.at + (5 + length (field c.args.worth comma) + length (field c.args.power comma) + length (field c.args.n lineFeed)) ≤ length c.args.out.now
+    → c.args.at + (5 + length (field c.args.worth comma) + length (field c.args.power comma) + length (field c.args.n line_feed)) ≤ length c.args.out.now
 room c = rw plan-length at c.requires
 
 put-text-requires : tie.Need-put-text-requires
@@ -28,7 +28,7 @@ put-field-requires-3 : tie.Need-put-field-requires-3
 put-field-requires-3 c κs = let r = room c.before.before.before.before.before.before.before.before.before.before.before.before.before.before.before in omega arith
 
 returns : tie.Need-returns
-unfolding planLine
+unfolding plan_line
 returns c =
     let d = c.before.before in
     let b = d.before.before.before.before in

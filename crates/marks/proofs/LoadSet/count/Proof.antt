@@ -1,7 +1,7 @@
 -- `LoadSet::count` meets its contract: the counts of both halves together. Assumes nothing.
 use native.Mathlib.Omega.{arith}
 use borrow.Author.Rules.{rules}
-use Rattle.marks.specs.Sets.{halfWidth, size_of}
+use Rattle.marks.specs.Sets.{half_width, size_of}
 use Rattle.marks.proofs.Sets.{size-most}
 use Rattle.marks.proofs.LoadSet.count.Statement.{statement}
 use Rattle.marks.proofs.LoadSet.count.Tie as tie
@@ -9,7 +9,7 @@ use Rattle.marks.proofs.LoadSet.count.Tie as tie
 add-result : tie.Need-overflow-add-result
 add-result c =
     let a = c.before.before.args in
-    omega (arith, c.before.half_count.ensures, c.half-count2.ensures, size-most halfWidth a.self.low, size-most halfWidth a.self.high)
+    omega (arith, c.before.half_count.ensures, c.half-count2.ensures, size-most half_width a.self.low, size-most half_width a.self.high)
 
 returns : tie.Need-returns
 unfolding size_of

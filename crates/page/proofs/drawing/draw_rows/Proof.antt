@@ -5,13 +5,13 @@ use native.Mathlib.Omega.{arith}
 use borrow.Author.Rules.{rules}
 use lib.ListN.{replicate, length-append, length-replicate}
 use Rattle.lines.proofs.Wrote.{wrote-length, wrote_then}
-use Rattle.marks.specs.Sets.{markIn}
-use Rattle.tables.specs.Stored.{tables_of, loadsOf}
+use Rattle.marks.specs.Sets.{mark_in}
+use Rattle.tables.specs.Stored.{tables_of, loads_of}
 use Rattle.engine.specs.declared.figures.Figures.{Figures}
-use Rattle.planner.specs.Planner.{stateIn}
+use Rattle.planner.specs.Planner.{state_in}
 use Rattle.planner.proofs.Commands.{few}
 use Rattle.planner.proofs.Searching.{shown-lines, planned-is, set_is}
-use Rattle.page.specs.Rows.{pageBytes, rowBytes, loadRowCount, blank, planRow, noPlanRow, loadRows}
+use Rattle.page.specs.Rows.{page_bytes, row_bytes, load_row_count, blank, plan_row, no_plan_row, load_rows}
 use Rattle.page.proofs.RowText.{no-plan-length, plan-length, rows-length}
 use Rattle.page.proofs.Drawn.{status-no-set, page-none, page-plan, wrote-whole}
 use Rattle.page.proofs.drawing.draw_rows.Statement.{statement}
@@ -30,11 +30,11 @@ returns c =
     let i = n.before.before in
     let s = i.before.before.before in
     let p = s.args.planner in
-    let e : pageBytes - n.put-no-plan.result ≡ loadRowCount * rowBytes = omega (arith, n.put-no-plan.ensures.end, no-plan-length) in
-    let rest = replicate (loadRowCount * rowBytes) blank in
-    wrote-whole (omega (arith, s.requires.page, length-append noPlanRow rest, no-plan-length, length-replicate {A = ℕ} (loadRowCount * rowBytes) blank))
+    let e : page_bytes - n.put-no-plan.result ≡ load_row_count * row_bytes = omega (arith, n.put-no-plan.ensures.end, no-plan-length) in
+    let rest = replicate (load_row_count * row_bytes) blank in
+    wrote-whole (omega (arith, s.requires.page, length-append no_plan_row rest, no-plan-length, length-replicate {A = ℕ} (load_row_count * row_bytes) blank))
     (wrote_then n.put-no-plan.ensures (rw e at b.put-blanks.ensures))
-    ∙ page-none (stateIn p) s.args.load s.requires.low (status-no-set p.outcome.status _ (omega (arith, i.if1.true, s.requires.current)))
+    ∙ page-none (state_in p) s.args.load s.requires.low (status-no-set p.outcome.status _ (omega (arith, i.if1.true, s.requires.current)))
 
 figures-of-requires : tie.Need-figures-of-requires
 figures-of-requires c κs = let s = c.before.before.before.before.before.before in few s.args.planner s.requires.lawful
@@ -60,11 +60,11 @@ returns-2 c =
     let h = s.requires.lawful in
     let fits : p.outcome.status ≡ 1 → ⊥ = λ z. omega (arith, z, i.if1.false) in
     let v = f.figures-of.result in
-    let σ = markIn p.outcome.run.set in
-    let rest = loadRows (loadsOf p.tables.loads) σ s.args.load loadRowCount in
-    wrote-whole (omega (arith, s.requires.page, length-append (planRow v.worth v.power) rest, plan-length v.worth v.power, rows-length (loadsOf p.tables.loads) σ s.args.load loadRowCount))
+    let σ = mark_in p.outcome.run.set in
+    let rest = load_rows (loads_of p.tables.loads) σ s.args.load load_row_count in
+    wrote-whole (omega (arith, s.requires.page, length-append (plan_row v.worth v.power) rest, plan-length v.worth v.power, rows-length (loads_of p.tables.loads) σ s.args.load load_row_count))
     (wrote_then q.put-plan.ensures r.put-loads.ensures)
-    ∙ page-plan (stateIn p) s.args.load (shown-lines p h) σ v.worth v.power (planned-is p h s.requires.current fits) (set_is p h s.requires.current fits)
+    ∙ page-plan (state_in p) s.args.load (shown-lines p h) σ v.worth v.power (planned-is p h s.requires.current fits) (set_is p h s.requires.current fits)
     (ap (λ (x : Figures). x.worth) f.figures-of.ensures) (ap (λ (x : Figures). x.power) f.figures-of.ensures)
 
 pub draw-rows-spec : {M : Type 1} → statement M

@@ -4,7 +4,7 @@ use native.Mathlib.Omega.{arith}
 use borrow.Author.Rules.{rules}
 use borrow.Author.Tests.{not-false}
 use lib.ListN.{length}
-use Rattle.planner.specs.Planner.{held, stateIn, Lawful}
+use Rattle.planner.specs.Planner.{held, state_in, Lawful}
 use Rattle.planner.proofs.Commands.{tables-count}
 use Rattle.page.proofs.Drawn.{no-page, broken, no-load, no-plan, unrefused, test-failed, test-passed, status-nothing, status-something, load-out, load-in, load-there}
 use Rattle.page.proofs.drawing.refusal.Statement.{statement}
@@ -24,7 +24,7 @@ returns-2 c =
 lawful : (c : tie.Else2) → Lawful c.before.before.before.args.planner
 lawful c = c.before.keeps-limits.ensures.1 (not-false _ c.if2.false)
 
-count : (c : tie.Else2) → let p = c.before.before.before.args.planner in p.tables.loads.count ≡ length (stateIn p).tables.loads
+count : (c : tie.Else2) → let p = c.before.before.before.args.planner in p.tables.loads.count ≡ length (state_in p).tables.loads
 count c = tables-count c.before.before.before.args.planner.tables (lawful c).tables
 
 returns-3 : tie.Need-returns-3

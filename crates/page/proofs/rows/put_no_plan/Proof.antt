@@ -1,13 +1,13 @@
 -- `put_no_plan` meets its contract. Assumes nothing.
 use native.Mathlib.Omega.{arith}
 use borrow.Author.Rules.{rules}
-use Rattle.page.specs.Rows.{noPlanRow}
+use Rattle.page.specs.Rows.{no_plan_row}
 use Rattle.page.proofs.RowText.{wrote-filled}
 use Rattle.page.proofs.rows.put_no_plan.Statement.{statement}
 use Rattle.page.proofs.rows.put_no_plan.Tie as tie
 
 returns : tie.Need-returns
-unfolding noPlanRow
+unfolding no_plan_row
 returns c =
     let b = c.before.before in
     let t = b.before.before.before.before in

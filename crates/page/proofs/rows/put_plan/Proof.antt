@@ -2,7 +2,7 @@
 use native.Mathlib.Omega.{arith}
 use borrow.Author.Rules.{rules}
 use Rattle.lines.proofs.Wrote.{wrote-length, wrote_then}
-use Rattle.page.specs.Rows.{planRow}
+use Rattle.page.specs.Rows.{plan_row}
 use Rattle.page.proofs.RowText.{watts-length, worth-bytes, plan-bytes, wrote-filled}
 use Rattle.page.proofs.rows.put_plan.Statement.{statement}
 use Rattle.page.proofs.rows.put_plan.Tie as tie
@@ -25,7 +25,7 @@ put-blanks-requires c κs =
     omega (arith, s.requires, plan-bytes s.args.worth s.args.power, w.end, wrote-length w)
 
 returns : tie.Need-returns
-unfolding planRow
+unfolding plan_row
 returns c =
     let b = c.before.before in
     let p = b.before.before.before.before in

@@ -6,20 +6,20 @@ use borrow.Author.Rules.{rules}
 use lib.ListN.{length, get_or}
 use lib.Seq.{get_or-take, length-take-le}
 use Rattle.lists.proofs.Arrays.{of_map}
-use Rattle.tables.specs.Limits.{maxLoads}
-use Rattle.tables.specs.Tables.{noLoad}
-use Rattle.tables.specs.Stored.{loadsOf}
-use Rattle.marks.specs.Sets.{markIn}
+use Rattle.tables.specs.Limits.{max_loads}
+use Rattle.tables.specs.Tables.{no_load}
+use Rattle.tables.specs.Stored.{loads_of}
+use Rattle.marks.specs.Sets.{mark_in}
 use Rattle.lines.proofs.Wrote.{wrote_none}
 use Rattle.page.proofs.RowText.{row-there, row-missing, wrote-filled}
 use Rattle.page.proofs.rows.put_row.Statement.{statement}
 use Rattle.page.proofs.rows.put_row.Tie as tie
 
 -- the loads in use are so many
-count : (c : tie.Start) → length (loadsOf c.args.t3) ≡ c.args.t3.count
+count : (c : tie.Start) → length (loads_of c.args.t3) ≡ c.args.t3.count
 count c =
     let ls = c.args.t3 in
-    let full : length ls.items ≡ maxLoads = search (rules, of_map) in
+    let full : length ls.items ≡ max_loads = search (rules, of_map) in
     length-take-le ls.count ls.items (omega (arith, c.requires.2))
 
 returns : tie.Need-returns
@@ -28,7 +28,7 @@ returns c =
     let i = b.before.before in
     let s = i.before.before in
     let a = s.args in
-    rw (row-missing (loadsOf a.t3) (markIn a.set) a.number (omega (arith, count s, i.if1.true)))
+    rw (row-missing (loads_of a.t3) (mark_in a.set) a.number (omega (arith, count s, i.if1.true)))
     (wrote-filled (omega arith) (wrote_none _ _) b.put-blanks.ensures)
 
 has-requires : tie.Need-has-requires
@@ -40,9 +40,9 @@ returns-2 c =
     let i = p.before.before.before.before in
     let s = i.before.before in
     let a = s.args in
-    let there : a.number ≤ length (loadsOf a.t3) = omega (arith, count s, i.if1.false) in
-    let load : get_or (loadsOf a.t3) (a.number - 1) noLoad ≡ get_or a.t3.items (a.number - 1) noLoad = get_or-take a.t3.count a.t3.items (a.number - 1) noLoad (omega (arith, s.requires.1, i.if1.false)) in
-    rw (row-there (loadsOf a.t3) (markIn a.set) a.number s.requires.1 there, load, ← p.before.has.ensures) p.put-load.ensures
+    let there : a.number ≤ length (loads_of a.t3) = omega (arith, count s, i.if1.false) in
+    let load : get_or (loads_of a.t3) (a.number - 1) no_load ≡ get_or a.t3.items (a.number - 1) no_load = get_or-take a.t3.count a.t3.items (a.number - 1) no_load (omega (arith, s.requires.1, i.if1.false)) in
+    rw (row-there (loads_of a.t3) (mark_in a.set) a.number s.requires.1 there, load, ← p.before.has.ensures) p.put-load.ensures
 
 pub put-row-spec : {M : Type 1} → statement M
 put-row-spec =

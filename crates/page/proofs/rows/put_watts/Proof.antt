@@ -2,7 +2,7 @@
 use native.Mathlib.Omega.{arith}
 use borrow.Author.Rules.{rules}
 use Rattle.lines.proofs.Wrote.{wrote-length, wrote_then}
-use Rattle.page.specs.Rows.{powerDigits, watts}
+use Rattle.page.specs.Rows.{power_digits, watts}
 use Rattle.page.proofs.Digits.{digits-length}
 use Rattle.page.proofs.RowText.{watts-length}
 use Rattle.page.proofs.rows.put_watts.Statement.{statement}
@@ -23,7 +23,7 @@ put-text-requires c κs =
     let p = g.before.before.before.before in
     let s = p.before.before.before in
     let w = wrote_then p.put.ensures g.put-digits.ensures in
-    omega (arith, s.requires, watts-length s.args.power, digits-length powerDigits s.args.power, w.end, wrote-length w)
+    omega (arith, s.requires, watts-length s.args.power, digits-length power_digits s.args.power, w.end, wrote-length w)
 
 returns : tie.Need-returns
 unfolding watts

@@ -7,24 +7,24 @@ use native.Mathlib.Omega.{arith}
 use borrow.Author.Tests.{eqb-true}
 use lib.ListN.{length}
 use Rattle.page.specs.declared.stretch.Rows.{Rows}
-use Rattle.page.specs.Rows.{rowCount, pageBytes}
-use Rattle.page.specs.Stretch.{differs, end_of, passing, isPage, differing}
+use Rattle.page.specs.Rows.{row_count, page_bytes}
+use Rattle.page.specs.Stretch.{differs, end_of, passing, is_page, differing}
 use Rattle.page.proofs.Rowwise.{passing-miss, passing-first, passing-later}
 use Rattle.page.proofs.Differing.{pages-bad, pages-good}
 use Rattle.page.proofs.stretch.differing.Statement.{statement}
 use Rattle.page.proofs.stretch.differing.Tie as tie
 
 abbrev invariant-loop : tie.invariant-loop
-invariant-loop glass drawn first₀ end₀ row₀ first end row = (row ≤ rowCount) × ◌≡◌ {A = Rows} (record { first = first; end = end }) (passing (differs glass drawn) row)
+invariant-loop glass drawn first₀ end₀ row₀ first end row = (row ≤ row_count) × ◌≡◌ {A = Rows} (record { first = first; end = end }) (passing (differs glass drawn) row)
 
 abbrev decreases-loop : tie.decreases-loop
-decreases-loop glass drawn first₀ end₀ row₀ first end row = rowCount - row
+decreases-loop glass drawn first₀ end₀ row₀ first end row = row_count - row
 
 returns : tie.Need-returns invariant-loop decreases-loop
 unfolding differing
 returns c =
     let a = c.before.before.before.args in
-    rw (pages-bad (isPage a.glass.now) (isPage a.drawn.now) c.if1.true)
+    rw (pages-bad (is_page a.glass.now) (is_page a.drawn.now) c.if1.true)
 
 loop-holds : tie.Need-loop-init invariant-loop decreases-loop
 unfolding end_of
@@ -34,8 +34,8 @@ same-row-requires : tie.Need-same-row-requires invariant-loop decreases-loop
 same-row-requires c κs =
     let i = c.before.before in
     let a = i.before.before.before.args in
-    let pages = pages-good (isPage a.glass.now) (isPage a.drawn.now) i.if1.false in
-    (eqb-true (length a.glass.now) pageBytes pages.0, eqb-true (length a.drawn.now) pageBytes pages.1, c.loop-test.true)
+    let pages = pages-good (is_page a.glass.now) (is_page a.drawn.now) i.if1.false in
+    (eqb-true (length a.glass.now) page_bytes pages.0, eqb-true (length a.drawn.now) page_bytes pages.1, c.loop-test.true)
 
 loop-again : tie.Need-loop-preserved invariant-loop decreases-loop
 loop-again c =
@@ -65,8 +65,8 @@ returns-2 c =
     let l = c.before in
     let i = l.before in
     let a = i.before.before.before.args in
-    let pages = pages-good (isPage a.glass.now) (isPage a.drawn.now) i.if1.false in
-    let e : l.loop.row ≡ rowCount = omega (arith, l.loop.invariant.0, c.loop-test.false) in
+    let pages = pages-good (is_page a.glass.now) (is_page a.drawn.now) i.if1.false in
+    let e : l.loop.row ≡ row_count = omega (arith, l.loop.invariant.0, c.loop-test.false) in
     rw (pages.0, pages.1, ← e) l.loop.invariant.1
 
 pub differing-spec : {M : Type 1} → statement M

@@ -4,7 +4,7 @@ use mathlib.Core.Path.{ap}
 use native.Mathlib.Omega.{arith}
 use borrow.Author.Rules.{rules}
 use Rattle.page.specs.declared.stretch.Rows.{Rows}
-use Rattle.page.specs.Rows.{rowBytes}
+use Rattle.page.specs.Rows.{row_bytes}
 use Rattle.page.specs.Stretch.{place}
 use Rattle.page.proofs.Differing.{rows_fit}
 use Rattle.page.proofs.stretch.place.Statement.{statement}
@@ -21,7 +21,7 @@ count_fits c = omega (arith, (rows_fit _ _ c.before.before.differing.ensures).1)
 
 returns : tie.Need-returns
 unfolding place
-returns c = ap (λ (x : Rows). record { start = x.first * rowBytes; count = (x.end - x.first) * rowBytes }) c.before.before.differing.ensures
+returns c = ap (λ (x : Rows). record { start = x.first * row_bytes; count = (x.end - x.first) * row_bytes }) c.before.before.differing.ensures
 
 pub place-spec : {M : Type 1} → statement M
 place-spec = tie.close (tie.spec (λ c κs. search rules) fits below count_fits returns)

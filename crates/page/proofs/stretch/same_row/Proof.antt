@@ -4,16 +4,16 @@ use mathlib.Core.Path.{◌≡◌, refl, sym, ◌∙◌}
 use native.Mathlib.Omega.{arith}
 use Rattle.lists.specs.Tests.{all_below}
 use Rattle.lists.proofs.Tests.{below-zero, below_step}
-use Rattle.page.specs.Rows.{rowBytes}
-use Rattle.page.proofs.Differing.{bytesSame, row_same}
+use Rattle.page.specs.Rows.{row_bytes}
+use Rattle.page.proofs.Differing.{bytes_same, row_same}
 use Rattle.page.proofs.stretch.same_row.Statement.{statement}
 use Rattle.page.proofs.stretch.same_row.Tie as tie
 
 abbrev invariant-loop : tie.invariant-loop
-invariant-loop glass drawn row start same₀ i₀ same i = (i ≤ rowBytes) × (same ≡ all_below (bytesSame glass drawn row) i)
+invariant-loop glass drawn row start same₀ i₀ same i = (i ≤ row_bytes) × (same ≡ all_below (bytes_same glass drawn row) i)
 
 abbrev decreases-loop : tie.decreases-loop
-decreases-loop glass drawn row start same₀ i₀ same i = rowBytes - i
+decreases-loop glass drawn row start same₀ i₀ same i = row_bytes - i
 
 mul-start : tie.Need-overflow-mul-start invariant-loop decreases-loop
 mul-start c = omega (arith, c.requires.2)
@@ -38,14 +38,14 @@ loop-again c =
     let t = c.before.before in
     let l = t.before in
     let a = l.before.args in
-    (omega (arith, t.loop-test.true), below_step (bytesSame a.glass.now a.drawn.now a.row) l.loop.i l.loop.invariant.1 refl)
+    (omega (arith, t.loop-test.true), below_step (bytes_same a.glass.now a.drawn.now a.row) l.loop.i l.loop.invariant.1 refl)
 
 returns : tie.Need-returns invariant-loop decreases-loop
 returns c =
     let l = c.before in
     let s = l.before in
     let a = s.args in
-    let e : l.loop.i ≡ rowBytes = omega (arith, l.loop.invariant.0, c.loop-test.false) in
+    let e : l.loop.i ≡ row_bytes = omega (arith, l.loop.invariant.0, c.loop-test.false) in
     rw e at l.loop.invariant.1 ∙ row_same a.glass.now a.drawn.now a.row (omega (arith, s.requires.0, s.requires.2)) (omega (arith, s.requires.1, s.requires.2))
 
 pub same-row-spec : {M : Type 1} → statement M

@@ -3,10 +3,10 @@ use mathlib.Core.Path.{◌≡◌, refl, ap, ◌∙◌}
 use borrow.Author.Rules.{rules}
 use Rattle.tables.specs.declared.rule.RuleRange.{RuleRange}
 use Rattle.tables.specs.declared.rule.Transition.{Transition}
-use Rattle.tables.specs.Limits.{rangeFor}
-use Rattle.tables.specs.Stored.{bookOf, tables_of}
+use Rattle.tables.specs.Limits.{range_for}
+use Rattle.tables.specs.Stored.{book_of, tables_of}
 use Rattle.calls.specs.Rows.{rule}
-use Rattle.planner.specs.Changes.{namedRule}
+use Rattle.planner.specs.Changes.{named_rule}
 use Rattle.planner.proofs.Commands.{rule-refused, rule-stored}
 use Rattle.planner.proofs.Planner.add_rule.Statement.{statement}
 use Rattle.planner.proofs.Planner.add_rule.Tie as tie
@@ -15,9 +15,9 @@ use Rattle.planner.proofs.Planner.add_rule.Tie as tie
 line-rule : tie.Start → Transition
 line-rule e = rule e.args.from e.args.label e.args.to e.args.kind
 
-named : (c : tie.After-named-rule) → let e = c.before.before in c.named_Rule.result ≡ namedRule (rangeFor (tables_of e.args.self.tables).book e.args.sort) (line-rule e)
-unfolding tables_of bookOf line-rule
-named c = c.named_Rule.ensures ∙ ap (λ (m : RuleRange). namedRule m (line-rule c.before.before)) c.before.of.ensures
+named : (c : tie.After-named-rule) → let e = c.before.before in c.named_Rule.result ≡ named_rule (range_for (tables_of e.args.self.tables).book e.args.sort) (line-rule e)
+unfolding tables_of book_of line-rule
+named c = c.named_Rule.ensures ∙ ap (λ (m : RuleRange). named_rule m (line-rule c.before.before)) c.before.of.ensures
 
 returns : tie.Need-returns
 unfolding line-rule

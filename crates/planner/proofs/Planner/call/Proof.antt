@@ -6,10 +6,10 @@ use borrow.Author.Rules.{rules}
 use borrow.Author.Tests.{not-true, not-false}
 use lib.ListN.{length}
 use Rattle.lines.proofs.Wrote.{free-length}
-use Rattle.calls.specs.Rows.{lineRow, bytes_of}
+use Rattle.calls.specs.Rows.{line_row, bytes_of}
 use Rattle.calls.specs.Calls.{Call}
 use Rattle.planner.specs.declared.call.Called.{Called}
-use Rattle.planner.specs.Planner.{stateIn, Lawful}
+use Rattle.planner.specs.Planner.{state_in, Lawful}
 use Rattle.planner.specs.Decided.{Decides}
 use Rattle.planner.specs.Calls.{call_of, done_of}
 use Rattle.planner.proofs.Deciding.{line-bytes, line-decides}
@@ -27,18 +27,18 @@ kept c = c.before.keeps-limits.ensures.1 (not-false _ c.if1.false)
 
 -- the bytes that the line needs
 needed : (c : tie.After-bytes-for) → let e = c.before.before.before.before.before.before.before.before in
-    c.bytes-for.result ≡ bytes_of (lineRow (stateIn e.args.self) e.args.line.now)
+    c.bytes-for.result ≡ bytes_of (line_row (state_in e.args.self) e.args.line.now)
 needed c =
     let e = c.before.before.before.before.before.before.before.before in
-    c.bytes-for.ensures ∙ line-bytes (stateIn e.args.self) e.args.line.now c.before.read.ensures
+    c.bytes-for.ensures ∙ line-bytes (state_in e.args.self) e.args.line.now c.before.read.ensures
 
 -- what the line is answered
 answered : (c : tie.After-decide) → let e = c.before.before.before.before.before.before.before.before.before.before.before in
-    Decides (stateIn e.args.self) (lineRow (stateIn e.args.self) e.args.line.now) e.args.work.now c.decide.new.1.1.0 c.decide.result
+    Decides (state_in e.args.self) (line_row (state_in e.args.self) e.args.line.now) e.args.work.now c.decide.new.1.1.0 c.decide.result
 answered c =
     let r = c.before.before.before.before in
     let e = r.before.before.before.before.before.before.before in
-    line-decides (stateIn e.args.self) e.args.line.now r.read.ensures c.decide.ensures
+    line-decides (state_in e.args.self) e.args.line.now r.read.ensures c.decide.ensures
 
 returns : tie.Need-returns
 unfolding made
@@ -70,7 +70,7 @@ decide-requires c κs = kept c.before.before.before.before.before
 
 -- the bytes that the line needs are free
 free : (c : tie.Else3) → let e = c.before.before.before.before.before.before.before.before.before in
-    e.args.place + bytes_of (lineRow (stateIn e.args.self) e.args.line.now) ≤ length e.args.out.now
+    e.args.place + bytes_of (line_row (state_in e.args.self) e.args.line.now) ≤ length e.args.out.now
 free c = omega (arith, c.if3.false, needed c.before, c.before.before.before.if2.false)
 
 write-answer-requires : tie.Need-write-answer-requires

@@ -4,14 +4,14 @@ use borrow.Author.Rules.{rules}
 use lib.ListN.{length}
 use lib.Dec.{lit<}
 use Rattle.tables.specs.Refusals as no
-use Rattle.marks.specs.Sets.{markIn}
+use Rattle.marks.specs.Sets.{mark_in}
 use Rattle.lines.specs.declared.Command.TheVariants.{Check}
 use Rattle.tables.specs.Stored.{tables_of}
-use Rattle.meaning.specs.Best.{bestCheck}
-use Rattle.meaning.specs.Choice.{checkEntries}
+use Rattle.meaning.specs.Best.{best_check}
+use Rattle.meaning.specs.Choice.{check_entries}
 use Rattle.calls.specs.Rows.{row}
 use Rattle.calls.proofs.Answers.{positive}
-use Rattle.planner.specs.Planner.{stateIn}
+use Rattle.planner.specs.Planner.{state_in}
 use Rattle.planner.specs.Decided.{beside}
 use Rattle.planner.proofs.Commands.{load-count}
 use Rattle.planner.proofs.Searching.{status-none, status-some, check-no-loads, check-out-of-range, check-not-allowed, check-accepted, kept, refuses, allows}
@@ -29,16 +29,16 @@ returns : tie.Need-returns
 returns c =
     let e = c.before.before.before.before in
     let s = e.args.self.tables in
-    refuses e.args.self e.requires (row (stateIn e.args.self) (Check e.args.set e.args.count)) _ no.noLoads (lit< tt) refl (ap (beside e.args.self) c.not-shown.ensures)
-    (check-no-loads (stateIn e.args.self) e.args.set e.args.count (sym (load-count e.args.self e.requires) ∙ c.before.if1.true))
+    refuses e.args.self e.requires (row (state_in e.args.self) (Check e.args.set e.args.count)) _ no.no_loads (lit< tt) refl (ap (beside e.args.self) c.not-shown.ensures)
+    (check-no-loads (state_in e.args.self) e.args.set e.args.count (sym (load-count e.args.self e.requires) ∙ c.before.if1.true))
 
 returns-2 : tie.Need-returns-2
 returns-2 c =
     let k = c.before.before.before in
     let e = k.before.before.before in
     let s = e.args.self.tables in
-    refuses e.args.self e.requires (row (stateIn e.args.self) (Check e.args.set e.args.count)) _ no.outOfRange (lit< tt) refl (ap (beside e.args.self) c.not-shown2.ensures)
-    (check-out-of-range (stateIn e.args.self) e.args.set e.args.count (some-loads k) (λ q. c.before.if2.true (q ∙ sym (load-count e.args.self e.requires))))
+    refuses e.args.self e.requires (row (state_in e.args.self) (Check e.args.set e.args.count)) _ no.out_of_range (lit< tt) refl (ap (beside e.args.self) c.not-shown2.ensures)
+    (check-out-of-range (state_in e.args.self) e.args.set e.args.count (some-loads k) (λ q. c.before.if2.true (q ∙ sym (load-count e.args.self e.requires))))
 
 check-requires : tie.Need-check-requires
 check-requires c κs =
@@ -52,8 +52,8 @@ returns-3 c =
     let k = o.before.before.before in
     let e = k.before.before.before in
     let s = e.args.self.tables in
-    refuses e.args.self e.requires (row (stateIn e.args.self) (Check e.args.set e.args.count)) _ no.notAllowed (lit< tt) refl (ap (beside e.args.self) c.not-shown3.ensures)
-    (check-not-allowed (stateIn e.args.self) e.args.set e.args.count (some-loads k) (each-load o.before) (status-none (bestCheck (tables_of s) (markIn e.args.set)) (checkEntries (tables_of s) (markIn e.args.set)) o.check.ensures c.before.if3.true))
+    refuses e.args.self e.requires (row (state_in e.args.self) (Check e.args.set e.args.count)) _ no.not_allowed (lit< tt) refl (ap (beside e.args.self) c.not-shown3.ensures)
+    (check-not-allowed (state_in e.args.self) e.args.set e.args.count (some-loads k) (each-load o.before) (status-none (best_check (tables_of s) (mark_in e.args.set)) (check_entries (tables_of s) (mark_in e.args.set)) o.check.ensures c.before.if3.true))
 
 returns-4 : tie.Need-returns-4
 returns-4 c =
@@ -61,8 +61,8 @@ returns-4 c =
     let k = o.before.before.before in
     let e = k.before.before.before in
     let s = e.args.self.tables in
-    let f = status-some (bestCheck (tables_of s) (markIn e.args.set)) (checkEntries (tables_of s) (markIn e.args.set)) o.check.ensures c.before.if3.false in
-    allows e.args.self e.requires e.args.set e.args.count _ (check-accepted (stateIn e.args.self) e.args.set e.args.count (some-loads k) (each-load o.before) f.0) _ f.1
+    let f = status-some (best_check (tables_of s) (mark_in e.args.set)) (check_entries (tables_of s) (mark_in e.args.set)) o.check.ensures c.before.if3.false in
+    allows e.args.self e.requires e.args.set e.args.count _ (check-accepted (state_in e.args.self) e.args.set e.args.count (some-loads k) (each-load o.before) f.0) _ f.1
 
 pub checked-spec : {M : Type 1} → statement M
 checked-spec =

@@ -7,12 +7,12 @@ use Rattle.tables.specs.Stored.{stored}
 use Rattle.calls.specs.Rows.{changing}
 use Rattle.calls.specs.Causes.{lowest}
 use Rattle.calls.proofs.State.{places}
-use Rattle.planner.specs.Changes.{told, toldBy}
+use Rattle.planner.specs.Changes.{told, told_by}
 use Rattle.planner.proofs.Planner.clear.Statement.{statement}
 use Rattle.planner.proofs.Planner.clear.Tie as tie
 
 returns : tie.Need-returns
-unfolding toldBy changing lowest
+unfolding told_by changing lowest
 returns c =
     let e = c.before.before in
     let p = e.args.self in

@@ -7,8 +7,8 @@ use Rattle.lines.specs.declared.Command.TheVariants.{Broken, TooLong}
 use Rattle.calls.specs.Rows.{row}
 use Rattle.calls.specs.Causes.{lowest}
 use Rattle.lines.specs.declared.answer.Answer.{Answer}
-use Rattle.planner.specs.Planner.{stateIn}
-use Rattle.planner.specs.Decided.{saveAnswer, unshown}
+use Rattle.planner.specs.Planner.{state_in}
+use Rattle.planner.specs.Decided.{save_answer, unshown}
 use Rattle.planner.proofs.Searching.{turns_down}
 use Rattle.planner.proofs.Deciding.{works-in-none, change-done, save-done}
 use Rattle.planner.proofs.Planner.decide.Statement.{statement}
@@ -19,7 +19,7 @@ unfolding row
 returns x =
     let k = x.before.before.before in
     let e = k.before.before.before in
-    rw k.c.given.1 (change-done (stateIn e.args.self) _ e.args.work.now x.before.change.ensures x.changed.ensures)
+    rw k.c.given.1 (change-done (state_in e.args.self) _ e.args.work.now x.before.change.ensures x.changed.ensures)
 
 returns-2 : tie.Need-returns-2
 returns-2 x = let p = x.before.before in rw p.before.before.enum_told.given.1 p.plan.ensures
@@ -35,8 +35,8 @@ returns-4 x =
     let k = u.before.before in
     let e = k.before.before.before in
     let p = e.args.self in
-    rw k.c3.given.1 (works-in-none (stateIn p) _ e.args.work.now refl
-    (x.unshown.ensures ∙ ap (λ (a : Answer). unshown a p) (x.before.save-answer.ensures ∙ ap (saveAnswer _) u.has-kinds.ensures) ∙ save-done p e.requires _))
+    rw k.c3.given.1 (works-in-none (state_in p) _ e.args.work.now refl
+    (x.unshown.ensures ∙ ap (λ (a : Answer). unshown a p) (x.before.save-answer.ensures ∙ ap (save_answer _) u.has-kinds.ensures) ∙ save-done p e.requires _))
 
 returns-5 : tie.Need-returns-5
 unfolding row
@@ -50,14 +50,14 @@ unfolding row lowest
 returns-7 x =
     let e = x.before.before.before.before in
     let p = e.args.self in
-    rw x.before.enum-told3.given.1 (turns_down p e.requires (row (stateIn p) Broken) no.broken e.args.work.now (lit< tt) refl x.refused.ensures refl)
+    rw x.before.enum-told3.given.1 (turns_down p e.requires (row (state_in p) Broken) no.broken e.args.work.now (lit< tt) refl x.refused.ensures refl)
 
 returns-8 : tie.Need-returns-8
 unfolding row lowest
 returns-8 x =
     let e = x.before.before.before.before in
     let p = e.args.self in
-    rw x.before.enum-told4.given.1 (turns_down p e.requires (row (stateIn p) TooLong) no.tooLong e.args.work.now (lit< tt) refl x.refused2.ensures refl)
+    rw x.before.enum-told4.given.1 (turns_down p e.requires (row (state_in p) TooLong) no.too_long e.args.work.now (lit< tt) refl x.refused2.ensures refl)
 
 pub decide-spec : {M : Type 1} → statement M
 decide-spec =

@@ -1,13 +1,13 @@
 -- `Planner::fresh` meets its contract. Assumes nothing.
 use borrow.Author.Rules.{rules}
 use Rattle.lists.specs.Arrays.{laid}
-use Rattle.runs.specs.Runs.{markAll, run_of}
+use Rattle.runs.specs.Runs.{mark_all, run_of}
 use Rattle.tables.specs.Tables.{fresh}
 use Rattle.planner.proofs.Planner.fresh.Statement.{statement}
 use Rattle.planner.proofs.Planner.fresh.Tie as tie
 
 returns : tie.Need-returns
-unfolding run_of laid markAll fresh
+unfolding run_of laid mark_all fresh
 returns c = rw c.fresh.ensures
 
 pub fresh-spec : {M : Type 1} → statement M

@@ -7,10 +7,10 @@ use borrow.Author.Tests.{not-true, not-false, leb-true}
 use lib.Dec.{leb}
 use lib.ListN.{length}
 use Rattle.lists.proofs.Bools.{and_left, and_right}
-use Rattle.tables.specs.Limits.{maxLoads}
-use Rattle.tables.specs.Stored.{tables_of, keepsLimits, Holds}
+use Rattle.tables.specs.Limits.{max_loads}
+use Rattle.tables.specs.Stored.{tables_of, keeps_limits, Holds}
 use Rattle.meaning.specs.Cells.{cells_of}
-use Rattle.runs.specs.Outcome.{heldRange, keepsOutcome}
+use Rattle.runs.specs.Outcome.{held_range, keeps_outcome}
 use Rattle.calls.specs.State.{keeps}
 use Rattle.calls.proofs.State.{kept_by}
 use Rattle.calls.proofs.Work.{clash}
@@ -19,17 +19,17 @@ use Rattle.planner.proofs.Planner.keeps_limits.Statement.{statement}
 use Rattle.planner.proofs.Planner.keeps_limits.Tie as tie
 
 -- the lengths of the arrays, from what owning the planner tells
-states : (c : tie.Start) → length c.args.self.outcome.run.states ≡ maxLoads
+states : (c : tie.Start) → length c.args.self.outcome.run.states ≡ max_loads
 states c = search rules
 
-rules : (c : tie.Start) → length c.args.self.outcome.run.load_rules ≡ maxLoads
+rules : (c : tie.Start) → length c.args.self.outcome.run.load_rules ≡ max_loads
 rules c = search rules
 
-rows : (c : tie.Start) → length c.args.self.outcome.run.row_rules ≡ maxLoads
+rows : (c : tie.Start) → length c.args.self.outcome.run.row_rules ≡ max_loads
 rows c = search rules
 
 -- past the test of the tables
-tables-kept : (c : tie.Else1) → Holds maxLoads c.before.before.args.self.tables
+tables-kept : (c : tie.Else1) → Holds max_loads c.before.before.args.self.tables
 tables-kept c = c.before.keeps-limits.ensures.1.0 (not-false _ c.if1.false)
 
 returns : tie.Need-returns
@@ -47,8 +47,8 @@ returns-2 c =
     let i = o.before in
     let s = i.before.before in
     let p = s.args.self in
-    let outcome : l.keeps-limits2.result ≡ keepsOutcome (heldRange p.tables) p.outcome = rw (l.keeps-limits2.ensures, o.of.ensures) in
-    let tables : keepsLimits p.tables ≡ true = sym i.before.keeps-limits.ensures.0 ∙ not-false _ i.if1.false in
+    let outcome : l.keeps-limits2.result ≡ keeps_outcome (held_range p.tables) p.outcome = rw (l.keeps-limits2.ensures, o.of.ensures) in
+    let tables : keeps_limits p.tables ≡ true = sym i.before.keeps-limits.ensures.0 ∙ not-false _ i.if1.false in
     let cells : leb p.filled c.Cells-of.result ≡ leb p.filled (cells_of (tables_of p.tables)) = ap (leb p.filled) c.Cells-of.ensures in (
       rw (tables, outcome, cells),
       λ e. kept_by (held p) (tables-kept i) (states s) (rules s) (rows s) (sym outcome ∙ and_left _ _ e) (leb-true _ _ (sym cells ∙ and_right l.keeps-limits2.result _ e)),

@@ -8,7 +8,7 @@ use Rattle.tables.specs.Stored.{tables_of}
 use Rattle.calls.specs.Rows.{row}
 use Rattle.calls.proofs.Refusals.{still-state}
 use Rattle.engine.specs.declared.figures.Figures.{Figures}
-use Rattle.planner.specs.Planner.{stateIn}
+use Rattle.planner.specs.Planner.{state_in}
 use Rattle.planner.proofs.Commands.{few}
 use Rattle.planner.proofs.Searching.{refuses, refuses-so, last_none, last-none-fits, shows-last}
 use Rattle.planner.proofs.Planner.last.Statement.{statement}
@@ -18,14 +18,14 @@ returns : tie.Need-returns
 returns c =
     let e = c.before.before.before in
     let p = e.args.self in
-    refuses p e.requires (row (stateIn p) Last) _ no.noPlan (lit< tt) refl c.refused.ensures (last_none p e.requires c.before.if1.true)
+    refuses p e.requires (row (state_in p) Last) _ no.no_plan (lit< tt) refl c.refused.ensures (last_none p e.requires c.before.if1.true)
 
 returns-2 : tie.Need-returns-2
 unfolding row
 returns-2 c =
     let e = c.before.before.before.before.before in
     let p = e.args.self in
-    refuses-so p e.requires (row (stateIn p) Last) _ no.noneFits (lit< tt) (still-state (stateIn p) no.noneFits (row (stateIn p) Last) refl) c.refused2.ensures
+    refuses-so p e.requires (row (state_in p) Last) _ no.none_fits (lit< tt) (still-state (state_in p) no.none_fits (row (state_in p) Last) refl) c.refused2.ensures
     (last-none-fits p e.requires c.before.if2.true)
 
 figures-of-requires : tie.Need-figures-of-requires

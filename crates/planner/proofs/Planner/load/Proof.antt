@@ -11,12 +11,12 @@ use lib.ListN.{length}
 use Rattle.tables.specs.declared.load.Load.{Load}
 use Rattle.tables.specs.declared.tables.StoredTables.{StoredTables}
 use Rattle.tables.specs.Refusals as no
-use Rattle.tables.specs.Limits.{loadIn}
+use Rattle.tables.specs.Limits.{load_in}
 use Rattle.tables.specs.Stored.{tables_of}
-use Rattle.tables.specs.Operations.{loadAdded}
+use Rattle.tables.specs.Operations.{load_added}
 use Rattle.tables.proofs.Changes.{load-added}
 use Rattle.calls.specs.Rows.{◌if◌, load, changing}
-use Rattle.planner.specs.Changes.{namedLoad}
+use Rattle.planner.specs.Changes.{named_load}
 use Rattle.calls.proofs.State.{is-stored, lawful}
 use Rattle.planner.proofs.Commands.{load-lowest, load-count, few, out_of_range, operated, load_fits, load_is}
 use Rattle.planner.proofs.Planner.load.Statement.{statement}
@@ -29,11 +29,11 @@ line-load e = load e.args.parent e.args.power e.args.worth e.args.kind
 number : tie.Start → ℕ
 number e = suc (length (tables_of e.args.self.tables).loads)
 
-named : (c : tie.After-named-load) → c.named-load.result ≡ namedLoad (number c.before.before) (line-load c.before.before)
+named : (c : tie.After-named-load) → c.named-load.result ≡ named_load (number c.before.before) (line-load c.before.before)
 unfolding number line-load
 named c =
     let e = c.before.before in
-    c.named-load.ensures ∙ ap (λ (n : ℕ). namedLoad n (line-load e)) (add-one _ ∙ ap suc (load-count e.args.self e.requires))
+    c.named-load.ensures ∙ ap (λ (n : ℕ). named_load n (line-load e)) (add-one _ ∙ ap suc (load-count e.args.self e.requires))
 
 add-named-load : tie.Need-overflow-add-named-load
 add-named-load c = let e = c.before in omega (arith, few e.args.self e.requires)
@@ -46,7 +46,7 @@ unfolding changing number line-load
 returns c =
     let k = c.before.before.before in
     let e = k.before.before in
-    out_of_range e.args.self e.requires (loadIn (number e) (line-load e)) _ _
+    out_of_range e.args.self e.requires (load_in (number e) (line-load e)) _ _
     (sym (load_fits (number e) (line-load e) (named k)) ∙ not-true _ c.before.if1.true) c.told.ensures
 
 returns-2 : tie.Need-returns-2
@@ -57,8 +57,8 @@ returns-2 c =
     let s = e.args.self.tables in
     let ls = (tables_of s).loads in
     let fits = sym (load_fits (number e) (line-load e) (named k)) ∙ not-false _ c.before.if1.false in
-    operated e.args.self e.requires (loadIn (number e) (line-load e)) ((no.full if leb (tables_of s).places (length ls)) ∷ []) _ fits
-    _ (c.add-load.ensures ∙ ap (loadAdded s) (load_is (number e) (line-load e) (named k) fits) ∙ ap (λ (x : StoredTables). loadAdded x (line-load e)) (is-stored s e.requires.tables) ∙ rw (load-lowest (tables_of s).places ls) (load-added (tables_of s) (lawful s e.requires.tables) (line-load e)))
+    operated e.args.self e.requires (load_in (number e) (line-load e)) ((no.full if leb (tables_of s).places (length ls)) ∷ []) _ fits
+    _ (c.add-load.ensures ∙ ap (load_added s) (load_is (number e) (line-load e) (named k) fits) ∙ ap (λ (x : StoredTables). load_added x (line-load e)) (is-stored s e.requires.tables) ∙ rw (load-lowest (tables_of s).places ls) (load-added (tables_of s) (lawful s e.requires.tables) (line-load e)))
     refl
 
 pub load_spec : {M : Type 1} → statement M

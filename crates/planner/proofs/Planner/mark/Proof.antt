@@ -8,7 +8,7 @@ use Rattle.tables.specs.declared.tables.StoredTables.{StoredTables}
 use Rattle.tables.specs.Tables.{size_for}
 use Rattle.tables.specs.Limits.{between}
 use Rattle.tables.specs.Stored.{tables_of}
-use Rattle.tables.specs.Operations.{markSet}
+use Rattle.tables.specs.Operations.{mark_set}
 use Rattle.tables.proofs.Changes.{mark_set}
 use Rattle.calls.proofs.State.{is-stored}
 use Rattle.planner.proofs.Commands.{size-held, out_of_range, accepts}
@@ -32,7 +32,7 @@ returns-2 c =
     let e = k.before.before in
     let s = e.args.self.tables in
     accepts e.args.self e.requires _ _ (sym (tested k) ∙ not-false _ c.before.before.if1.false) _
-    (c.before.mark.ensures ∙ ap (λ (x : StoredTables). markSet x e.args.sort e.args.number) (is-stored s e.requires.tables) ∙ mark_set (tables_of s) e.args.sort e.args.number)
+    (c.before.mark.ensures ∙ ap (λ (x : StoredTables). mark_set x e.args.sort e.args.number) (is-stored s e.requires.tables) ∙ mark_set (tables_of s) e.args.sort e.args.number)
     c.told2.ensures
 
 pub mark_spec : {M : Type 1} → statement M

@@ -9,7 +9,7 @@ use borrow.Author.Tests.{lt-leb, le-leb}
 use lib.ListN.{length, replicate, drop}
 use lib.Dec.{lit<}
 use Rattle.tables.specs.Refusals as no
-use Rattle.tables.specs.Limits.{needIn, maxLoads, maxWorth}
+use Rattle.tables.specs.Limits.{need_in, max_loads, max_worth}
 use Rattle.lines.specs.declared.answer.Answer.{Answer}
 use Rattle.lines.specs.declared.Command.TheVariants as line
 use Rattle.tables.specs.Stored.{tables_of}
@@ -19,7 +19,7 @@ use Rattle.calls.specs.Printing.{zeroed}
 use Rattle.calls.proofs.State.{places}
 use Rattle.calls.proofs.Answers.{positive}
 use Rattle.planner.specs.declared.Planner.{Planner}
-use Rattle.planner.specs.Planner.{stateIn, Lawful}
+use Rattle.planner.specs.Planner.{state_in, Lawful}
 use Rattle.planner.specs.Decided.{unshown}
 use Rattle.planner.proofs.Commands.{load-count}
 use Rattle.planner.proofs.Searching.{kept, turns_down}
@@ -27,20 +27,20 @@ use Rattle.planner.proofs.Budgets.{need-no-loads, need-out-of-range, need-too-fe
 use Rattle.planner.proofs.Planner.needed.Statement.{statement}
 use Rattle.planner.proofs.Planner.needed.Tie as tie
 
-abbrev needRow : Planner → ℕ → Row
-needRow p v = row (stateIn p) (line.Need v)
+abbrev need_row : Planner → ℕ → Row
+need_row p v = row (state_in p) (line.Need v)
 
 -- the cells after it
-cleared : (p : Planner) (v : ℕ) (w u : List ℕ) → u ≡ replicate (cells_of (tables_of p.tables)) 0 ++ drop (cells_of (tables_of p.tables)) w → u ≡ zeroed (cells_for (needRow p v)) w
+cleared : (p : Planner) (v : ℕ) (w u : List ℕ) → u ≡ replicate (cells_of (tables_of p.tables)) 0 ++ drop (cells_of (tables_of p.tables)) w → u ≡ zeroed (cells_for (need_row p v)) w
 unfolding zeroed row
 cleared p v w u is = is
 
 -- a planner has places for as many loads as the code's limit says
-in-range : (p : Planner) → Lawful p → (v : ℕ) → v ≤ maxLoads * maxWorth → needIn (stateIn p).tables.places v ≡ true
-in-range p h v l = rw (places p.tables h.tables) (le-leb v (maxLoads * maxWorth) l)
+in-range : (p : Planner) → Lawful p → (v : ℕ) → v ≤ max_loads * max_worth → need_in (state_in p).tables.places v ≡ true
+in-range p h v l = rw (places p.tables h.tables) (le-leb v (max_loads * max_worth) l)
 
-out_of_range : (p : Planner) → Lawful p → (v : ℕ) → maxLoads * maxWorth < v → needIn (stateIn p).tables.places v ≡ false
-out_of_range p h v l = rw (places p.tables h.tables) (lt-leb v (maxLoads * maxWorth) l)
+out_of_range : (p : Planner) → Lawful p → (v : ℕ) → max_loads * max_worth < v → need_in (state_in p).tables.places v ≡ false
+out_of_range p h v l = rw (places p.tables h.tables) (lt-leb v (max_loads * max_worth) l)
 
 -- there are loads, and enough cells
 some-loads : (c : tie.Else1) → length (tables_of c.before.before.before.before.args.self.tables).loads ≡ 0 → ⊥
@@ -53,16 +53,16 @@ returns : tie.Need-returns
 returns c =
     let e = c.before.before.before.before in
     let p = e.args.self in
-    turns_down p e.requires (needRow p e.args.worth) no.noLoads e.args.work.now (lit< tt) refl refl
-    (need-no-loads (stateIn p) e.args.worth (length e.args.work.now) (sym (load-count p e.requires) ∙ c.if1.true))
+    turns_down p e.requires (need_row p e.args.worth) no.no_loads e.args.work.now (lit< tt) refl refl
+    (need-no-loads (state_in p) e.args.worth (length e.args.work.now) (sym (load-count p e.requires) ∙ c.if1.true))
 
 returns-2 : tie.Need-returns-2
 returns-2 c =
     let k = c.before in
     let e = k.before.before.before.before in
     let p = e.args.self in
-    turns_down p e.requires (needRow p e.args.worth) no.outOfRange e.args.work.now (lit< tt) refl refl
-    (need-out-of-range (stateIn p) e.args.worth (length e.args.work.now) (some-loads k) (out_of_range p e.requires e.args.worth c.if2.true))
+    turns_down p e.requires (need_row p e.args.worth) no.out_of_range e.args.work.now (lit< tt) refl refl
+    (need-out-of-range (state_in p) e.args.worth (length e.args.work.now) (some-loads k) (out_of_range p e.requires e.args.worth c.if2.true))
 
 returns-3 : tie.Need-returns-3
 returns-3 c =
@@ -70,8 +70,8 @@ returns-3 c =
     let k = r.before in
     let e = k.before.before.before.before in
     let p = e.args.self in
-    turns_down p e.requires (needRow p e.args.worth) no.tooFewCells e.args.work.now (lit< tt) refl refl
-    (need-too-few (stateIn p) e.args.worth (length e.args.work.now) (some-loads k) (in-range p e.requires e.args.worth r.if2.false) (omega (arith, c.if3.true, c.before.Cells-of.ensures)))
+    turns_down p e.requires (need_row p e.args.worth) no.too_few_cells e.args.work.now (lit< tt) refl refl
+    (need-too-few (state_in p) e.args.worth (length e.args.work.now) (some-loads k) (in-range p e.requires e.args.worth r.if2.false) (omega (arith, c.if3.true, c.before.Cells-of.ensures)))
 
 least-budget-requires : tie.Need-least-budget-requires
 least-budget-requires c κs =

@@ -14,17 +14,17 @@ use Rattle.calls.specs.Rows.{Row, row, cells_for}
 use Rattle.calls.specs.Printing.{zeroed}
 use Rattle.calls.proofs.Answers.{positive}
 use Rattle.planner.specs.declared.Planner.{Planner}
-use Rattle.planner.specs.Planner.{stateIn}
+use Rattle.planner.specs.Planner.{state_in}
 use Rattle.planner.proofs.Commands.{load-count}
 use Rattle.planner.proofs.Searching.{plan-no-loads, plan-too-few, kept, turns_down, storing-lawful, plans}
 use Rattle.planner.proofs.Planner.plan.Statement.{statement}
 use Rattle.planner.proofs.Planner.plan.Tie as tie
 
 -- the row of a plan, and the cells after it
-abbrev planRow : Planner → Row
-planRow p = row (stateIn p) Plan
+abbrev plan_row : Planner → Row
+plan_row p = row (state_in p) Plan
 
-cleared : (p : Planner) (w v : List ℕ) → v ≡ replicate (cells_of (tables_of p.tables)) 0 ++ drop (cells_of (tables_of p.tables)) w → v ≡ zeroed (cells_for (planRow p)) w
+cleared : (p : Planner) (w v : List ℕ) → v ≡ replicate (cells_of (tables_of p.tables)) 0 ++ drop (cells_of (tables_of p.tables)) w → v ≡ zeroed (cells_for (plan_row p)) w
 unfolding zeroed row
 cleared p w v is = is
 
@@ -39,16 +39,16 @@ returns : tie.Need-returns
 returns c =
     let e = c.before.before.before.before.before in
     let p = e.args.self in
-    turns_down p e.requires (planRow p) no.noLoads e.args.work.now (lit< tt) refl c.refused.ensures
-    (plan-no-loads (stateIn p) (length e.args.work.now) (sym (load-count p e.requires) ∙ c.before.if1.true))
+    turns_down p e.requires (plan_row p) no.no_loads e.args.work.now (lit< tt) refl c.refused.ensures
+    (plan-no-loads (state_in p) (length e.args.work.now) (sym (load-count p e.requires) ∙ c.before.if1.true))
 
 returns-2 : tie.Need-returns-2
 returns-2 c =
     let k = c.before.before.before in
     let e = k.before.before.before.before in
     let p = e.args.self in
-    turns_down p e.requires (planRow p) no.tooFewCells e.args.work.now (lit< tt) refl c.refused2.ensures
-    (plan-too-few (stateIn p) (length e.args.work.now) (some-loads k) (omega (arith, c.before.if2.true, c.before.before.Cells-of.ensures)))
+    turns_down p e.requires (plan_row p) no.too_few_cells e.args.work.now (lit< tt) refl c.refused2.ensures
+    (plan-too-few (state_in p) (length e.args.work.now) (some-loads k) (omega (arith, c.before.if2.true, c.before.before.Cells-of.ensures)))
 
 plan-requires : tie.Need-plan-requires
 plan-requires c κs =

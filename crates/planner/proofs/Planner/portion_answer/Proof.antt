@@ -5,10 +5,10 @@ use borrow.Author.Rules.{rules}
 use Rattle.lines.proofs.Wrote.{free-length}
 use Rattle.calls.specs.Calls.{Call}
 use Rattle.calls.specs.Demand2.{PlanCall}
-use Rattle.calls.specs.Portions.{planCall}
+use Rattle.calls.specs.Portions.{plan_call}
 use Rattle.calls.proofs.Portions.{plan-line}
-use Rattle.planner.specs.Planner.{stateIn}
-use Rattle.planner.specs.Portions.{portionOf}
+use Rattle.planner.specs.Planner.{state_in}
+use Rattle.planner.specs.Portions.{portion_of}
 use Rattle.planner.proofs.Commands.{load-count, few}
 use Rattle.planner.proofs.Searching.{kept}
 use Rattle.planner.proofs.Portioning.{Read, text-few, answered}
@@ -17,9 +17,9 @@ use Rattle.planner.proofs.Planner.portion_answer.Tie as tie
 
 -- the call on `plan` that it answers
 made : tie.Start → Call
-made e = planCall (portionOf 0 e.args.out.now e.args.place e.args.work.now)
+made e = plan_call (portion_of 0 e.args.out.now e.args.place e.args.work.now)
 
-plan-made : (e : tie.Start) → PlanCall (stateIn e.args.self).tables (made e)
+plan-made : (e : tie.Start) → PlanCall (state_in e.args.self).tables (made e)
 unfolding made
 plan-made e = record {
   enough = record { line = plan-line; free = e.requires.1.0; cells = e.requires.1.1 };

@@ -6,12 +6,12 @@ use borrow.Author.Rules.{rules}
 use borrow.Author.Tests.{leb-true, not-false}
 use lib.Dec.{leb}
 use Rattle.lists.proofs.Bools.{and_right}
-use Rattle.tables.specs.Limits.{figureIn}
+use Rattle.tables.specs.Limits.{figure_in}
 use Rattle.planner.proofs.Commands.{figure-refused, figure-set}
 use Rattle.planner.proofs.Planner.set_figure.Statement.{statement}
 use Rattle.planner.proofs.Planner.set_figure.Tie as tie
 
-compared : (c : tie.After-most) → let a = c.before.before.args in leb a.value c.most.result ≡ figureIn a.figure a.value
+compared : (c : tie.After-most) → let a = c.before.before.args in leb a.value c.most.result ≡ figure_in a.figure a.value
 compared c = ap (λ (n : ℕ). leb c.before.before.args.value n) c.most.ensures
 
 returns : tie.Need-returns

@@ -5,17 +5,17 @@ use borrow.Author.Rules.{rules}
 use Rattle.lines.specs.declared.Change.{Change}
 use Rattle.lines.specs.Saved.{saved}
 use Rattle.tables.specs.declared.entry.Entry.{Entry}
-use Rattle.tables.specs.Limits.{maxLoads}
+use Rattle.tables.specs.Limits.{max_loads}
 use Rattle.tables.specs.Stored.{tables_of}
 use Rattle.tables.proofs.Stored.{held-loads}
-use Rattle.runs.specs.Runs.{entriesTo}
+use Rattle.runs.specs.Runs.{entries_to}
 use Rattle.planner.proofs.Writing.{plan-room, plan-rest, plan-wrote, check-room, check-rest, check-wrote}
 use Rattle.planner.proofs.answers.write_answer.Statement.{statement}
 use Rattle.planner.proofs.answers.write_answer.Tie as tie
 
 -- the entries and the changes that the text may show
 abbrev entries : tie.Start → List Entry
-entries e = entriesTo e.args.run e.args.tables.loads.count
+entries e = entries_to e.args.run e.args.tables.loads.count
 
 abbrev changes : tie.Start → List Change
 changes e = saved (tables_of e.args.tables)
@@ -34,7 +34,7 @@ write-run-requires c κs =
     let w = c.before.before.before in
     let k = w.before.before.before in
     let e = k.before.before.before in
-    (held-loads maxLoads e.args.tables e.requires.0, plan-rest e.args.a (entries e) (changes e) k.a.given.1 w.write-plan.ensures e.requires.1)
+    (held-loads max_loads e.args.tables e.requires.0, plan-rest e.args.a (entries e) (changes e) k.a.given.1 w.write-plan.ensures e.requires.1)
 
 write-yes-requires : tie.Need-write-yes-requires
 write-yes-requires c κs =
@@ -46,7 +46,7 @@ write-run-requires-2 c κs =
     let w = c.before.before.before in
     let k = w.before.before in
     let e = k.before.before.before in
-    (held-loads maxLoads e.args.tables e.requires.0, check-rest e.args.a (entries e) (changes e) k.enum-told2.given.1 w.write-yes.ensures e.requires.1)
+    (held-loads max_loads e.args.tables e.requires.0, check-rest e.args.a (entries e) (changes e) k.enum-told2.given.1 w.write-yes.ensures e.requires.1)
 
 write-save-requires : tie.Need-write-save-requires
 write-save-requires c κs =

@@ -6,32 +6,32 @@ use native.Mathlib.Omega.{arith}
 use borrow.Author.Rules.{rules}
 use borrow.Author.Tests.{ne_eqb}
 use lib.ListN.{length, length-append}
-use Rattle.marks.specs.Sets.{size_of, markIn}
-use Rattle.lines.specs.Answers.{refused, planLine, entryLines}
+use Rattle.marks.specs.Sets.{size_of, mark_in}
+use Rattle.lines.specs.Answers.{refused, plan_line, entry_lines}
 use Rattle.lines.proofs.Wrote.{wrote_then}
 use Rattle.tables.specs.Refusals as no
 use Rattle.tables.specs.declared.load.LoadList.{LoadList}
-use Rattle.tables.specs.Stored.{loadsOf}
+use Rattle.tables.specs.Stored.{loads_of}
 use Rattle.runs.specs.declared.outcome.StoredOutcome.{StoredOutcome}
-use Rattle.runs.specs.Runs.{entriesTo}
+use Rattle.runs.specs.Runs.{entries_to}
 use Rattle.engine.specs.declared.figures.Figures.{Figures}
-use Rattle.engine.specs.Figures.{figuresOf}
-use Rattle.planner.specs.Portions.{outcomeText}
+use Rattle.engine.specs.Figures.{figures_of}
+use Rattle.planner.specs.Portions.{outcome_text}
 use Rattle.planner.proofs.Writing.{rest-room}
 use Rattle.planner.proofs.answers.write_outcome.Statement.{statement}
 use Rattle.planner.proofs.answers.write_outcome.Tie as tie
 
 -- the text of a refusal, and of a plan
-refused-text : (ls : LoadList) (o : StoredOutcome) → o.status ≡ 1 → outcomeText ls o ≡ refused no.noneFits
-unfolding outcomeText
+refused-text : (ls : LoadList) (o : StoredOutcome) → o.status ≡ 1 → outcome_text ls o ≡ refused no.none_fits
+unfolding outcome_text
 refused-text ls o e = rw e
 
-plan-text : (ls : LoadList) (o : StoredOutcome) → (o.status ≡ 1 → ⊥) → (v w k : ℕ) → record { power = w; worth = v } ≡ figuresOf (loadsOf ls) (markIn o.run.set) → k ≡ size_of o.run.set
-    → outcomeText ls o ≡ planLine v w k ++ entryLines (entriesTo o.run ls.count)
-unfolding outcomeText
+plan-text : (ls : LoadList) (o : StoredOutcome) → (o.status ≡ 1 → ⊥) → (v w k : ℕ) → record { power = w; worth = v } ≡ figures_of (loads_of ls) (mark_in o.run.set) → k ≡ size_of o.run.set
+    → outcome_text ls o ≡ plan_line v w k ++ entry_lines (entries_to o.run ls.count)
+unfolding outcome_text
 plan-text ls o d v w k f n =
     rw (ne_eqb o.status 1 d)
-    (ap₂ (λ (f : Figures) (k : ℕ). planLine f.worth f.power k ++ entryLines (entriesTo o.run ls.count)) (sym f) (sym n))
+    (ap₂ (λ (f : Figures) (k : ℕ). plan_line f.worth f.power k ++ entry_lines (entries_to o.run ls.count)) (sym f) (sym n))
 
 write-no-requires : tie.Need-write-no-requires
 write-no-requires c κs =
@@ -48,7 +48,7 @@ returns c =
 
 -- the text of the plan that is written
 text : (c : tie.After-count) → let e = c.before.before.before.before.before.before.before.before in
-    outcomeText e.args.loads e.args.outcome ≡ planLine c.before.before.figures-of.result.worth c.before.before.figures-of.result.power c.count.result ++ entryLines (entriesTo e.args.outcome.run e.args.loads.count)
+    outcome_text e.args.loads e.args.outcome ≡ plan_line c.before.before.figures-of.result.worth c.before.before.figures-of.result.power c.count.result ++ entry_lines (entries_to e.args.outcome.run e.args.loads.count)
 text c =
     let f = c.before.before in
     let i = f.before.before.before in
@@ -58,14 +58,14 @@ text c =
 write-plan-requires : tie.Need-write-plan-requires
 write-plan-requires c κs =
     let e = c.before.before.before.before.before.before.before.before in
-    omega (arith, e.requires.1, ap length (text c), length-append (planLine c.before.before.figures-of.result.worth c.before.before.figures-of.result.power c.count.result) (entryLines (entriesTo e.args.outcome.run e.args.loads.count)))
+    omega (arith, e.requires.1, ap length (text c), length-append (plan_line c.before.before.figures-of.result.worth c.before.before.figures-of.result.power c.count.result) (entry_lines (entries_to e.args.outcome.run e.args.loads.count)))
 
 write-run-requires : tie.Need-write-run-requires
 write-run-requires c κs =
     let w = c.before.before.before in
     let k = w.before in
     let e = k.before.before.before.before.before.before.before.before in
-    (e.requires.0, rest-room (entryLines (entriesTo e.args.outcome.run e.args.loads.count)) w.write-plan.ensures (rw (text k) at e.requires.1))
+    (e.requires.0, rest-room (entry_lines (entries_to e.args.outcome.run e.args.loads.count)) w.write-plan.ensures (rw (text k) at e.requires.1))
 
 returns-2 : tie.Need-returns-2
 returns-2 c =

@@ -2,20 +2,20 @@
 use Prim.Native.Nat.{ℕ, ◌-◌, ◌≤◌}
 use mathlib.Core.List.{List}
 use native.Mathlib.Omega.{arith}
-use Rattle.lines.specs.Answers.{entryLine, entryLines, Wrote}
+use Rattle.lines.specs.Answers.{entry_line, entry_lines, Wrote}
 use Rattle.lines.proofs.Wrote.{wrote-length, part_room, part-more, part-all}
 use Rattle.runs.specs.declared.run.Run.{Run}
-use Rattle.runs.specs.Runs.{entry_at, entriesTo}
+use Rattle.runs.specs.Runs.{entry_at, entries_to}
 use Rattle.planner.proofs.RunLines.{lines_none, lines_more}
 use Rattle.planner.proofs.answers.write_run.Statement.{statement}
 use Rattle.planner.proofs.answers.write_run.Tie as tie
 
 -- the lines of the first i loads, and what the next adds to them
 abbrev text : Run → ℕ → List ℕ
-text r i = entryLines (entriesTo r i)
+text r i = entry_lines (entries_to r i)
 
 abbrev part : Run → ℕ → List ℕ
-part r i = entryLine (entry_at r i)
+part r i = entry_line (entry_at r i)
 
 abbrev invariant-loop : tie.invariant-loop
 invariant-loop out₀ at run n next₀ i₀ out next i = (i ≤ n) × Wrote out₀ out at next (text run i)

@@ -6,23 +6,23 @@ use native.Mathlib.Omega.{arith}
 use borrow.Author.Rules.{rules}
 use borrow.Author.Tests.{not-true, not-false}
 use Rattle.tables.specs.declared.load.Load.{Load}
-use Rattle.tables.specs.Tables.{noLoad}
-use Rattle.tables.specs.Limits.{loadIn}
+use Rattle.tables.specs.Tables.{no_load}
+use Rattle.tables.specs.Limits.{load_in}
 use Rattle.tables.specs.Lawful.{LoadFits}
 use Rattle.tables.proofs.Lawful.{load_inside}
 use Rattle.tables.proofs.Places.{load-range}
 use Rattle.calls.specs.Rows.{load}
-use Rattle.planner.specs.Changes.{namedLoad}
+use Rattle.planner.specs.Changes.{named_load}
 use Rattle.planner.proofs.changes.named_load.Statement.{statement}
 use Rattle.planner.proofs.changes.named_load.Tie as tie
 
-out : (k : ℕ) (l : Load) (b : Bool) → b ≡ loadIn k l → b ≡ false → record { fits = b; load = noLoad } ≡ namedLoad k l
-unfolding namedLoad
-out k l b is e = let f : loadIn k l ≡ false = sym is ∙ e in rw (e, f)
+out : (k : ℕ) (l : Load) (b : Bool) → b ≡ load_in k l → b ≡ false → record { fits = b; load = no_load } ≡ named_load k l
+unfolding named_load
+out k l b is e = let f : load_in k l ≡ false = sym is ∙ e in rw (e, f)
 
-within : (k : ℕ) (l : Load) (b : Bool) → b ≡ loadIn k l → b ≡ true → record { fits = b; load = l } ≡ namedLoad k l
-unfolding namedLoad
-within k l b is e = let f : loadIn k l ≡ true = sym is ∙ e in rw (e, f)
+within : (k : ℕ) (l : Load) (b : Bool) → b ≡ load_in k l → b ≡ true → record { fits = b; load = l } ≡ named_load k l
+unfolding named_load
+within k l b is e = let f : load_in k l ≡ true = sym is ∙ e in rw (e, f)
 
 -- the load that the line names
 named : tie.Start → Load

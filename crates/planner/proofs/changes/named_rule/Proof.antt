@@ -7,26 +7,26 @@ use borrow.Author.Tests.{not-true, not-false}
 use lib.Dec.{leb}
 use Rattle.tables.specs.declared.rule.RuleRange.{RuleRange}
 use Rattle.tables.specs.declared.rule.Transition.{Transition}
-use Rattle.tables.specs.Tables.{noRule}
-use Rattle.tables.specs.Limits.{ruleIn}
+use Rattle.tables.specs.Tables.{no_rule}
+use Rattle.tables.specs.Limits.{rule_in}
 use Rattle.tables.specs.Lawful.{RuleFits}
 use Rattle.tables.proofs.Lawful.{rule-inside}
 use Rattle.calls.specs.Rows.{rule}
-use Rattle.planner.specs.Changes.{namedRule}
+use Rattle.planner.specs.Changes.{named_rule}
 use Rattle.planner.proofs.changes.named_rule.Statement.{statement}
 use Rattle.planner.proofs.changes.named_rule.Tie as tie
 
-out : (m : RuleRange) (r : Transition) (b : Bool) → b ≡ ruleIn m r → b ≡ false → record { fits = b; rule = noRule } ≡ namedRule m r
-unfolding namedRule
-out m r b is e = let f : ruleIn m r ≡ false = sym is ∙ e in rw (e, f)
+out : (m : RuleRange) (r : Transition) (b : Bool) → b ≡ rule_in m r → b ≡ false → record { fits = b; rule = no_rule } ≡ named_rule m r
+unfolding named_rule
+out m r b is e = let f : rule_in m r ≡ false = sym is ∙ e in rw (e, f)
 
-within : (m : RuleRange) (r : Transition) (b : Bool) → b ≡ ruleIn m r → b ≡ true → record { fits = b; rule = r } ≡ namedRule m r
-unfolding namedRule
-within m r b is e = let f : ruleIn m r ≡ true = sym is ∙ e in rw (e, f)
+within : (m : RuleRange) (r : Transition) (b : Bool) → b ≡ rule_in m r → b ≡ true → record { fits = b; rule = r } ≡ named_rule m r
+unfolding named_rule
+within m r b is e = let f : rule_in m r ≡ true = sym is ∙ e in rw (e, f)
 
 tested : (c : tie.After-struct-known5) → let a = c.before.before.before.before.before.before.before.before.args in
-    c.before.before.before.before.before.before.between.result && c.before.before.before.between2.result && c.before.between3.result && leb a.kind a.range.kind ≡ ruleIn a.range (rule a.from a.label a.to a.kind)
-unfolding ruleIn
+    c.before.before.before.before.before.before.between.result && c.before.before.before.between2.result && c.before.between3.result && leb a.kind a.range.kind ≡ rule_in a.range (rule a.from a.label a.to a.kind)
+unfolding rule_in
 tested c = rw (c.before.between3.ensures, c.before.before.before.between2.ensures, c.before.before.before.before.before.before.between.ensures)
 
 passed : (c : tie.Else1) → let a = c.before.before.before.before.before.before.before.before.before.args in RuleFits a.range (rule a.from a.label a.to a.kind)

@@ -3,24 +3,24 @@ use mathlib.Core.Path.{◌≡◌}
 use native.Mathlib.Omega.{arith}
 use borrow.Author.Rules.{rules}
 use lib.ListN.{length}
-use Rattle.tables.specs.Limits.{maxLoads}
-use Rattle.runs.specs.Outcome.{keepsOutcome}
+use Rattle.tables.specs.Limits.{max_loads}
+use Rattle.runs.specs.Outcome.{keeps_outcome}
 use Rattle.runs.proofs.Places.{too_many, placed}
 use Rattle.runs.proofs.outcome.StoredOutcome.keeps_limits.Statement.{statement}
 use Rattle.runs.proofs.outcome.StoredOutcome.keeps_limits.Tie as tie
 
 -- the lengths of the arrays, from what owning the struct tells
-states : (c : tie.Start) → length c.args.self.run.states ≡ maxLoads
+states : (c : tie.Start) → length c.args.self.run.states ≡ max_loads
 states c = search rules
 
-rules : (c : tie.Start) → length c.args.self.run.load_rules ≡ maxLoads
+rules : (c : tie.Start) → length c.args.self.run.load_rules ≡ max_loads
 rules c = search rules
 
-rows : (c : tie.Start) → length c.args.self.run.row_rules ≡ maxLoads
+rows : (c : tie.Start) → length c.args.self.run.row_rules ≡ max_loads
 rows c = search rules
 
 returns : tie.Need-returns
-unfolding keepsOutcome
+unfolding keeps_outcome
 returns c =
     let u = c.before in
     let s = u.before in
@@ -28,7 +28,7 @@ returns c =
     too_many a.range a.self.run (states s) (rules s) (rows s) a.self.status (omega (arith, c.if1.true, u.used.ensures))
 
 returns-2 : tie.Need-returns-2
-unfolding keepsOutcome
+unfolding keeps_outcome
 returns-2 c =
     let p = c.before in
     let f = p.before in

@@ -1,11 +1,11 @@
 -- `Load::has_kind` meets its contract. Assumes nothing.
 use borrow.Author.Rules.{rules}
-use Rattle.tables.specs.Kinds.{loadKinded}
+use Rattle.tables.specs.Kinds.{load_kinded}
 use Rattle.tables.proofs.load.Load.has_kind.Statement.{statement}
 use Rattle.tables.proofs.load.Load.has_kind.Tie as tie
 
 returns : tie.Need-returns
-unfolding loadKinded
+unfolding load_kinded
 returns c = search rules
 
 pub has-kind-spec : {M : Type 1} → statement M

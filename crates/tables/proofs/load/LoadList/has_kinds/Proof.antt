@@ -7,20 +7,20 @@ use Rattle.lists.specs.Tests.{some}
 use Rattle.lists.specs.Arrays.{rest}
 use Rattle.lists.proofs.Arrays.{of_map}
 use Rattle.lists.proofs.Tests.{look-end, look-past, look_hit, look-miss}
-use Rattle.tables.specs.Tables.{noLoad}
-use Rattle.tables.specs.Limits.{maxLoads}
-use Rattle.tables.specs.Stored.{loadsOf}
-use Rattle.tables.specs.Kinds.{loadKinded}
+use Rattle.tables.specs.Tables.{no_load}
+use Rattle.tables.specs.Limits.{max_loads}
+use Rattle.tables.specs.Stored.{loads_of}
+use Rattle.tables.specs.Kinds.{load_kinded}
 use Rattle.tables.proofs.load.LoadList.has_kinds.Statement.{statement}
 use Rattle.tables.proofs.load.LoadList.has_kinds.Tie as tie
 
 abbrev invariant-loop : tie.invariant-loop
-invariant-loop self i₀ i = some loadKinded (loadsOf self) ≡ some loadKinded (rest self.items self.count i)
+invariant-loop self i₀ i = some load_kinded (loads_of self) ≡ some load_kinded (rest self.items self.count i)
 
 abbrev decreases-loop : tie.decreases-loop
-decreases-loop self i₀ i = maxLoads - i
+decreases-loop self i₀ i = max_loads - i
 
-len : (c : tie.Start invariant-loop decreases-loop) → length c.args.t1.items ≡ maxLoads
+len : (c : tie.Start invariant-loop decreases-loop) → length c.args.t1.items ≡ max_loads
 len c = search (rules, of_map)
 
 loop-holds : tie.Need-loop-init invariant-loop decreases-loop
@@ -28,22 +28,22 @@ unfolding rest
 loop-holds c = refl
 
 returns : tie.Need-returns invariant-loop decreases-loop
-returns c = let k = c.before.before in look-end loadKinded noLoad _ _ maxLoads _ (len k.before) k.loop.invariant c.if1.true
+returns c = let k = c.before.before in look-end load_kinded no_load _ _ max_loads _ (len k.before) k.loop.invariant c.if1.true
 
 returns-2 : tie.Need-returns-2 invariant-loop decreases-loop
 returns-2 c =
     let m = c.before.before.before in
     let k = m.before.before in
-    look_hit loadKinded noLoad _ _ maxLoads _ (len k.before) k.loop.invariant m.if1.false (search rules) c.before.has-kind.ensures c.if2.true
+    look_hit load_kinded no_load _ _ max_loads _ (len k.before) k.loop.invariant m.if1.false (search rules) c.before.has-kind.ensures c.if2.true
 
 loop-again : tie.Need-loop-preserved invariant-loop decreases-loop
 loop-again c =
     let m = c.before.before.before in
     let k = m.before.before in
-    look-miss loadKinded noLoad _ _ maxLoads _ (len k.before) k.loop.invariant m.if1.false (search rules) c.before.has-kind.ensures c.if2.false
+    look-miss load_kinded no_load _ _ max_loads _ (len k.before) k.loop.invariant m.if1.false (search rules) c.before.has-kind.ensures c.if2.false
 
 returns-3 : tie.Need-returns-3 invariant-loop decreases-loop
-returns-3 c = let k = c.before in look-past loadKinded noLoad _ _ maxLoads _ (len k.before) k.loop.invariant (search rules)
+returns-3 c = let k = c.before in look-past load_kinded no_load _ _ max_loads _ (len k.before) k.loop.invariant (search rules)
 
 pub has-kinds-spec : {M : Type 1} → statement M
 has-kinds-spec =

@@ -7,19 +7,19 @@ use lib.ListN.{length}
 use Rattle.lists.specs.Tests.{all_below}
 use Rattle.lists.proofs.Arrays.{of_map}
 use Rattle.lists.proofs.Tests.{below-zero, below_step}
-use Rattle.tables.specs.Limits.{maxLoads}
-use Rattle.tables.specs.Places.{loadPlace}
+use Rattle.tables.specs.Limits.{max_loads}
+use Rattle.tables.specs.Places.{load_place}
 use Rattle.tables.proofs.Places.{load_at, loads-placed}
 use Rattle.tables.proofs.load.LoadList.keeps_limits.Statement.{statement}
 use Rattle.tables.proofs.load.LoadList.keeps_limits.Tie as tie
 
 abbrev invariant-loop : tie.invariant-loop
-invariant-loop self kept₀ i₀ kept i = (i ≤ maxLoads) × (kept ≡ all_below (loadPlace self) i)
+invariant-loop self kept₀ i₀ kept i = (i ≤ max_loads) × (kept ≡ all_below (load_place self) i)
 
 abbrev decreases-loop : tie.decreases-loop
-decreases-loop self kept₀ i₀ kept i = maxLoads - i
+decreases-loop self kept₀ i₀ kept i = max_loads - i
 
-len : (c : tie.Start invariant-loop decreases-loop) → length c.args.t1.items ≡ maxLoads
+len : (c : tie.Start invariant-loop decreases-loop) → length c.args.t1.items ≡ max_loads
 len c = search (rules, of_map)
 
 loop-holds : tie.Need-loop-init invariant-loop decreases-loop
@@ -31,7 +31,7 @@ loop-again c = (search rules, below_step _ _ c.before.before.before.loop.invaria
 returns : tie.Need-returns invariant-loop decreases-loop
 returns c =
     let a = c.before in
-    let e : a.loop.i ≡ maxLoads = omega arith in
+    let e : a.loop.i ≡ max_loads = omega arith in
     rw (a.loop.invariant.1, e, ← len a.before) (loads-placed a.before.args.t1)
 
 pub keeps-limits-spec : {M : Type 1} → statement M

@@ -1,11 +1,11 @@
 -- `LoadList::set_figure` meets its contract. Assumes nothing.
 use borrow.Author.Rules.{rules}
-use Rattle.tables.specs.Operations.{figureSet}
+use Rattle.tables.specs.Operations.{figure_set}
 use Rattle.tables.proofs.load.LoadList.set_figure.Statement.{statement}
 use Rattle.tables.proofs.load.LoadList.set_figure.Tie as tie
 
 returns : tie.Need-returns
-unfolding figureSet
+unfolding figure_set
 returns c = rw (c.replace.ensures, c.before.with-figure.ensures, c.before.before.load.ensures)
 
 pub set-figure-spec : {M : Type 1} → statement M

@@ -1,11 +1,11 @@
 -- `Transition::is_zero` meets its contract. Assumes nothing.
 use borrow.Author.Rules.{rules}
-use Rattle.tables.specs.Stored.{zeroRule}
+use Rattle.tables.specs.Stored.{zero_rule}
 use Rattle.tables.proofs.rule.Transition.is_zero.Statement.{statement}
 use Rattle.tables.proofs.rule.Transition.is_zero.Tie as tie
 
 returns : tie.Need-returns
-unfolding zeroRule
+unfolding zero_rule
 returns c = search rules
 
 pub is-zero-spec : {M : Type 1} → statement M

@@ -7,20 +7,20 @@ use Rattle.lists.specs.Tests.{some}
 use Rattle.lists.specs.Arrays.{rest}
 use Rattle.lists.proofs.Arrays.{of_map}
 use Rattle.lists.proofs.Tests.{look-end, look-past, look_hit, look-miss}
-use Rattle.tables.specs.Tables.{noRule}
-use Rattle.tables.specs.Limits.{maxRules}
-use Rattle.tables.specs.Stored.{rulesOf}
-use Rattle.tables.specs.Kinds.{ruleKinded}
+use Rattle.tables.specs.Tables.{no_rule}
+use Rattle.tables.specs.Limits.{max_rules}
+use Rattle.tables.specs.Stored.{rules_of}
+use Rattle.tables.specs.Kinds.{rule_kinded}
 use Rattle.tables.proofs.rule.TransitionList.has_kinds.Statement.{statement}
 use Rattle.tables.proofs.rule.TransitionList.has_kinds.Tie as tie
 
 abbrev invariant-loop : tie.invariant-loop
-invariant-loop self i₀ i = some ruleKinded (rulesOf self) ≡ some ruleKinded (rest self.items self.count i)
+invariant-loop self i₀ i = some rule_kinded (rules_of self) ≡ some rule_kinded (rest self.items self.count i)
 
 abbrev decreases-loop : tie.decreases-loop
-decreases-loop self i₀ i = maxRules - i
+decreases-loop self i₀ i = max_rules - i
 
-len : (c : tie.Start invariant-loop decreases-loop) → length c.args.t1.items ≡ maxRules
+len : (c : tie.Start invariant-loop decreases-loop) → length c.args.t1.items ≡ max_rules
 len c = search (rules, of_map)
 
 loop-holds : tie.Need-loop-init invariant-loop decreases-loop
@@ -28,22 +28,22 @@ unfolding rest
 loop-holds c = refl
 
 returns : tie.Need-returns invariant-loop decreases-loop
-returns c = let k = c.before.before in look-end ruleKinded noRule _ _ maxRules _ (len k.before) k.loop.invariant c.if1.true
+returns c = let k = c.before.before in look-end rule_kinded no_rule _ _ max_rules _ (len k.before) k.loop.invariant c.if1.true
 
 returns-2 : tie.Need-returns-2 invariant-loop decreases-loop
 returns-2 c =
     let m = c.before.before.before in
     let k = m.before.before in
-    look_hit ruleKinded noRule _ _ maxRules _ (len k.before) k.loop.invariant m.if1.false (search rules) c.before.has-kind.ensures c.if2.true
+    look_hit rule_kinded no_rule _ _ max_rules _ (len k.before) k.loop.invariant m.if1.false (search rules) c.before.has-kind.ensures c.if2.true
 
 loop-again : tie.Need-loop-preserved invariant-loop decreases-loop
 loop-again c =
     let m = c.before.before.before in
     let k = m.before.before in
-    look-miss ruleKinded noRule _ _ maxRules _ (len k.before) k.loop.invariant m.if1.false (search rules) c.before.has-kind.ensures c.if2.false
+    look-miss rule_kinded no_rule _ _ max_rules _ (len k.before) k.loop.invariant m.if1.false (search rules) c.before.has-kind.ensures c.if2.false
 
 returns-3 : tie.Need-returns-3 invariant-loop decreases-loop
-returns-3 c = let k = c.before in look-past ruleKinded noRule _ _ maxRules _ (len k.before) k.loop.invariant (search rules)
+returns-3 c = let k = c.before in look-past rule_kinded no_rule _ _ max_rules _ (len k.before) k.loop.invariant (search rules)
 
 pub has-kinds-spec : {M : Type 1} → statement M
 has-kinds-spec =

@@ -7,20 +7,20 @@ use lib.ListN.{length}
 use Rattle.lists.specs.Tests.{all_below}
 use Rattle.lists.proofs.Arrays.{of_map}
 use Rattle.lists.proofs.Tests.{below-zero, below_step}
-use Rattle.tables.specs.Limits.{maxRules}
-use Rattle.tables.specs.Places.{rulePlace}
+use Rattle.tables.specs.Limits.{max_rules}
+use Rattle.tables.specs.Places.{rule_place}
 use Rattle.tables.proofs.Packed.{rule-at}
 use Rattle.tables.proofs.Places.{rules-few, rules-many}
 use Rattle.tables.proofs.rule.TransitionList.keeps_limits.Statement.{statement}
 use Rattle.tables.proofs.rule.TransitionList.keeps_limits.Tie as tie
 
 abbrev invariant-loop : tie.invariant-loop
-invariant-loop range self packed kept₀ i₀ kept i = (i ≤ maxRules) × (kept ≡ all_below (rulePlace range self) i)
+invariant-loop range self packed kept₀ i₀ kept i = (i ≤ max_rules) × (kept ≡ all_below (rule_place range self) i)
 
 abbrev decreases-loop : tie.decreases-loop
-decreases-loop range self packed kept₀ i₀ kept i = maxRules - i
+decreases-loop range self packed kept₀ i₀ kept i = max_rules - i
 
-len : (c : tie.Start invariant-loop decreases-loop) → length c.args.t1.items ≡ maxRules
+len : (c : tie.Start invariant-loop decreases-loop) → length c.args.t1.items ≡ max_rules
 len c = search (rules, of_map)
 
 returns : tie.Need-returns invariant-loop decreases-loop
@@ -44,7 +44,7 @@ returns-2 c =
     let a = c.before in
     let f = a.before.before in
     let s = f.before in
-    let e : a.loop.i ≡ maxRules = omega arith in
+    let e : a.loop.i ≡ max_rules = omega arith in
     rw (a.loop.invariant.1, e) (rules-few s.args.range s.args.t1 (len s) f.if1.false)
 
 pub keeps-limits-spec : {M : Type 1} → statement M

@@ -3,17 +3,17 @@ use Prim.Native.Nat.{◌-◌, ◌≤◌}
 use mathlib.Core.Path.{◌≡◌, refl}
 use native.Mathlib.Omega.{arith}
 use borrow.Author.Rules.{rules}
-use Rattle.tables.specs.Limits.{maxRules}
+use Rattle.tables.specs.Limits.{max_rules}
 use Rattle.tables.specs.Places.{AllPacked}
 use Rattle.tables.proofs.Packed.{packed_none, packed_more}
 use Rattle.tables.proofs.rule.TransitionList.packed.Statement.{statement}
 use Rattle.tables.proofs.rule.TransitionList.packed.Tie as tie
 
 abbrev invariant-loop : tie.invariant-loop
-invariant-loop self packed₀ i₀ packed i = (i ≤ maxRules) × AllPacked self.items packed i
+invariant-loop self packed₀ i₀ packed i = (i ≤ max_rules) × AllPacked self.items packed i
 
 abbrev decreases-loop : tie.decreases-loop
-decreases-loop self packed₀ i₀ packed i = maxRules - i
+decreases-loop self packed₀ i₀ packed i = max_rules - i
 
 loop-holds : tie.Need-loop-init invariant-loop decreases-loop
 loop-holds c = (search rules, packed_none refl)
@@ -24,7 +24,7 @@ loop-again c = (search rules, packed_more c.before.before.before.loop.invariant.
 returns : tie.Need-returns invariant-loop decreases-loop
 returns c =
     let a = c.before in
-    let e : a.loop.i ≡ maxRules = omega arith in
+    let e : a.loop.i ≡ max_rules = omega arith in
     rw (← e) a.loop.invariant.1
 
 pub packed-spec : {M : Type 1} → statement M

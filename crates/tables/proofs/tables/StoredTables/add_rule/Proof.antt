@@ -1,11 +1,11 @@
 -- `StoredTables::add_rule` meets its contract. Assumes nothing.
 use borrow.Author.Rules.{rules}
-use Rattle.tables.specs.Operations.{ruleAdded}
+use Rattle.tables.specs.Operations.{rule_added}
 use Rattle.tables.proofs.tables.StoredTables.add_rule.Statement.{statement}
 use Rattle.tables.proofs.tables.StoredTables.add_rule.Tie as tie
 
 returns : tie.Need-returns
-unfolding ruleAdded
+unfolding rule_added
 returns c =
     let k = c.before.before.before in
     rw (c.with-book.ensures, c.before.with-rules.ensures, k.append.ensures, k.before.rules.ensures)

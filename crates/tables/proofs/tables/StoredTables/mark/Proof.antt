@@ -1,12 +1,12 @@
 -- `StoredTables::mark` meets its contract. Assumes nothing.
 use mathlib.Core.Path.{◌∙◌}
 use borrow.Author.Rules.{rules}
-use Rattle.tables.specs.Operations.{markSet}
+use Rattle.tables.specs.Operations.{mark_set}
 use Rattle.tables.proofs.tables.StoredTables.mark.Statement.{statement}
 use Rattle.tables.proofs.tables.StoredTables.mark.Tie as tie
 
 returns : tie.Need-returns
-unfolding markSet
+unfolding mark_set
 returns c =
     let k = c.before.before.before in
     c.with-book.ensures ∙ rw (c.before.with-marks.ensures, c.before.before.with.ensures, k.marks.ensures)
