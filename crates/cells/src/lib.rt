@@ -1,4 +1,6 @@
 // The cells of a search: the best of every branch and row, filled stretch by stretch, and cleared.
+#![tactic(auto)]
+
 pub mod cell;
 pub mod fill;
 pub mod outline;

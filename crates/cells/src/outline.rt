@@ -27,7 +27,7 @@ const COUNTS: usize = ROW_RULES + RULE_NUMBERS * MAX_RULES;
 pub const OUTLINE: usize = COUNTS + 2;
 
 // Rules of one sort that begin at one state or stage: where those of their sort stand, how many these are, and the state or stage.
-#[derive(Drop)]
+#[derive(Clone, Copy)]
 pub struct Rules {
     pub at: usize,
     pub count: usize,
@@ -35,7 +35,7 @@ pub struct Rules {
 }
 
 // What a rule leads to, wherever it begins: its label, its stage and its kind.
-#[derive(Drop)]
+#[derive(Clone, Copy)]
 pub struct Lead {
     pub label: usize,
     pub stage: usize,
@@ -43,7 +43,7 @@ pub struct Lead {
 }
 
 // What a rule joins with the row from load `rest` onward, 0 for none: a row rule the branch of a load, a load rule the load alone.
-#[derive(Drop)]
+#[derive(Clone, Copy)]
 pub struct Joint {
     pub branch: bool,
     pub load: usize,

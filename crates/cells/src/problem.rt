@@ -11,7 +11,7 @@ use marks::{LoadSet, Marks};
 use tables::tables::StoredTables;
 
 // The tables of a search. Where `fixed`, only the load rules with the marks of `set` serve, and no power or worth counts.
-#[derive(Drop)]
+#[derive(Clone, Copy)]
 pub struct Problem {
     pub tables: StoredTables,
     pub fixed: bool,
@@ -19,7 +19,7 @@ pub struct Problem {
 }
 
 // The numbers of loads, states and stages, the budget, the start states and the end stages.
-#[derive(Drop)]
+#[derive(Clone, Copy)]
 pub struct Shape {
     pub loads: usize,
     pub states: usize,
@@ -33,7 +33,7 @@ pub struct Shape {
 pub const ANY_MARK: u16 = 2;
 
 // What counts of a load. Only the load rules of its kind with its mark serve it.
-#[derive(Drop)]
+#[derive(Clone, Copy)]
 pub struct StoredItem {
     pub power: usize,
     pub worth: u32,

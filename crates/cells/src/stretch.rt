@@ -16,14 +16,14 @@ use crate::work::place;
 const STRIP: usize = 512;
 
 // Allowances from .. to.
-#[derive(Drop)]
+#[derive(Clone, Copy)]
 pub(crate) struct Span {
     from: usize,
     to: usize,
 }
 
 // A place in a row: a load, 0 for none, and the stage at which the row goes on with it.
-#[derive(Drop)]
+#[derive(Clone, Copy)]
 struct Spot {
     load: usize,
     stage: usize,

@@ -13,7 +13,7 @@ const FAR: usize = 64;
 const NEAR: usize = 8;
 
 // Cells of the work from a place on, and the first allowance at which they say that there is a set.
-#[derive(Drop)]
+#[derive(Clone, Copy)]
 struct Side {
     at: usize,
     first: usize,

@@ -16,7 +16,7 @@ use tables::refusal::{NO_LOADS, NOT_CARRIED, OUT_OF_RANGE, SHORT_LIST, UNUSABLE}
 
 // A step: the number of a load, and its new mark, 0 off or 1 on. C gets it so.
 #[repr(C)]
-#[derive(Drop)]
+#[derive(Clone, Copy)]
 pub struct Step {
     pub load: u8,
     pub mark: u8,
@@ -24,14 +24,14 @@ pub struct Step {
 
 // What is told of a changeover: its number, 0 if accepted, and the count of its steps. C gets it so.
 #[repr(C)]
-#[derive(Drop)]
+#[derive(Clone, Copy)]
 pub struct Switched {
     pub number: u32,
     pub count: usize,
 }
 
 // The steps of a changeover, with its number. The first `count` places are in use. A refused one has no steps.
-#[derive(Drop)]
+#[derive(Clone, Copy)]
 pub struct Order {
     pub number: u32,
     pub count: usize,

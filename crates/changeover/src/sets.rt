@@ -13,7 +13,7 @@ use tables::load::{Load, LoadList};
 use tables::tables::StoredTables;
 
 // Whether a set is written as for `check`, one 0 or 1 for each load, and the set. Where it is not, the set is empty.
-#[derive(Drop)]
+#[derive(Clone, Copy)]
 pub(crate) struct Written {
     pub(crate) right: bool,
     pub(crate) set: LoadSet,

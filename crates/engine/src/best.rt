@@ -10,7 +10,7 @@ use cells::problem::Shape;
 use cells::work::place;
 
 // A greatest value, and the lowest number that has it. Where nothing exceeds 0, both are 0.
-#[derive(Drop)]
+#[derive(Clone, Copy)]
 pub struct Best {
     pub value: u32,
     pub index: usize,

@@ -13,7 +13,7 @@ use cells::work::place;
 
 // What is chosen for a load in its state, or for the row from a load onward at its stage: the rule's number and its label, which is the
 // load's mark or its state; the allowance of the load or of its branch; and the row that follows: its first load, its stage and its allowance.
-#[derive(Drop)]
+#[derive(Clone, Copy)]
 pub struct Choice {
     pub rule: u8,
     pub label: u8,

@@ -11,7 +11,7 @@ use marks::LoadSet;
 use tables::load::LoadList;
 
 // The power and the worth of a set.
-#[derive(Drop)]
+#[derive(Clone, Copy)]
 pub struct Figures {
     pub power: u32,
     pub worth: u32,

@@ -21,7 +21,7 @@ use tables::load::LoadList;
 use tables::tables::StoredTables;
 
 // What `need` says: no allowed set fits the budget in force, its plan is worth less, or this budget is the least that will do.
-#[derive(Drop)]
+#[derive(Clone, Copy)]
 pub enum Need {
     NoneFits,
     Poorer,

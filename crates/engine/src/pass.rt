@@ -14,7 +14,7 @@ use tables::entry::Entry;
 use tables::load::MAX_LOADS;
 
 // The stage and the allowance at which the row from each load onward is entered. Those of a load that no row was led to yet mean nothing.
-#[derive(Drop)]
+#[derive(Clone, Copy)]
 pub struct Rows {
     pub stages: [u8; MAX_LOADS],
     pub left: [u16; MAX_LOADS],
@@ -42,7 +42,7 @@ impl Rows {
 }
 
 // The run of the loads that were passed, and the rows that they lead to.
-#[derive(Drop)]
+#[derive(Clone, Copy)]
 pub struct Pass {
     pub run: Run,
     pub rows: Rows,

@@ -3,6 +3,8 @@
 // Each function with a planner leaves the work to a function on values, copies the planner for it, and stores a planner that comes back: the
 // proofs of these six go through their code by hand, so there is as little code in them as can be. The two that hand
 // a planner on, with a line and for a portion, share one such proof.
+#![tactic(auto)]
+
 ghost use Rattle.std.specs.Prelude.{◌≡◌};
 ghost use Rattle.calls.specs.Calls.{called};
 ghost use Rattle.calls.specs.Portions.{Portions};
@@ -33,14 +35,14 @@ const NOT_A_RUN: u32 = 255;
 // What C is told of a call on a line: its number, 0 if accepted, and the count of bytes written. It is returned by value: the calling
 // convention hands its 16 bytes back in two registers.
 #[repr(C)]
-#[derive(Drop)]
+#[derive(Clone, Copy)]
 pub struct Reply {
     pub number: u32,
     pub count: usize,
 }
 
 // A call on a line: the next planner, and what C is told.
-#[derive(Drop)]
+#[derive(Clone, Copy)]
 struct Handled {
     planner: Planner,
     reply: Reply,
@@ -62,7 +64,7 @@ fn handle(planner: Planner, line: &[u8], out: &mut [u8], place: usize, work: &mu
 
 // What C is told of a portion: its number, 0 if accepted, and the counts of cells filled and of bytes written, in 16 bytes as well.
 #[repr(C)]
-#[derive(Drop)]
+#[derive(Clone, Copy)]
 pub struct Portion {
     pub number: u32,
     pub filled: u32,
@@ -70,7 +72,7 @@ pub struct Portion {
 }
 
 // A portion of a plan: the next planner, and what C is told.
-#[derive(Drop)]
+#[derive(Clone, Copy)]
 struct Filled {
     planner: Planner,
     portion: Portion,

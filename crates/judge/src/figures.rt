@@ -15,7 +15,7 @@ use tables::tables::StoredTables;
 
 // Of one load: the stage at which the row of its children begins, the stage at which its row rule begins, and the stage at which its row
 // goes on. A stage is 0 where the rule names nothing or does not fit the load's state, or its kind.
-#[derive(Drop)]
+#[derive(Clone, Copy)]
 pub struct Step {
     pub begin: u8,
     pub stage: u8,

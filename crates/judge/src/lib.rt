@@ -1,4 +1,6 @@
 // The judge of proposed runs: three numbers for each load, in load order.
+#![tactic(auto)]
+
 ghost use Rattle.std.specs.Prelude.{◌*◌, ◌<◌, ◌≡◌, true, length};
 ghost use Rattle.tables.specs.Stored.{book_of, tables_of, keeps_limits};
 ghost use Rattle.meaning.specs.Judge.{starts};
@@ -11,7 +13,7 @@ mod figures;
 mod walk;
 
 // The answer: refused, or yes or no.
-#[derive(Drop)]
+#[derive(Clone, Copy)]
 pub enum Verdict {
     LimitBroken,
     NoLoads,

@@ -5,7 +5,7 @@ ghost use Rattle.lines.specs.Answers.{number_of, answer_of};
 use crate::SaveForm;
 
 // The answer to a line. The run of a plan or of an allowed check stands beside it, and the tables that a save writes.
-#[derive(Drop)]
+#[derive(Clone, Copy)]
 pub enum Answer {
     Accepted,
     Planned { worth: u32, power: u32, on: u32 },

@@ -1,4 +1,6 @@
 // Lines in, lines out: the border between bytes and tables.
+#![tactic(auto)]
+
 pub mod answer;
 pub mod reading;
 pub mod saving;
@@ -21,7 +23,7 @@ const MOST_BYTES: usize = 144;
 const MOST_NUMBERS: usize = 4;
 
 // What a change asks for: a line that can print `ok`. The numbers of a line stand in its order.
-#[derive(Drop)]
+#[derive(Clone, Copy)]
 pub enum Change {
     Clear,
     // States and stages.
@@ -47,7 +49,7 @@ pub enum Change {
 }
 
 // The form of a save: with the kind of every load and load rule, or that of request Two, which has none.
-#[derive(Drop)]
+#[derive(Clone, Copy)]
 pub enum SaveForm {
     Kinds,
     Plain,
@@ -55,7 +57,7 @@ pub enum SaveForm {
 
 // What a line asks for. `Broken` is a line that is no command of the table, or breaks its form; `TooLong` one with more bytes than a line may
 // have, whatever they are.
-#[derive(Drop)]
+#[derive(Clone, Copy)]
 pub enum Command {
     Change(Change),
     Plan,

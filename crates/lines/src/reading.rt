@@ -37,14 +37,14 @@ const ROWS: [u64; 18] = [
 const CHECK: u64 = 0x1_636865636b;
 
 // A word's number, and the place after it in the line. A word with more letters than any of the table has number 0.
-#[derive(Drop)]
+#[derive(Clone, Copy)]
 struct Word {
     code: u64,
     end: usize,
 }
 
 // The numbers after a word. Where the fields are not numbers in form, ok is false.
-#[derive(Drop)]
+#[derive(Clone, Copy)]
 struct Numbers {
     ok: bool,
     count: usize,

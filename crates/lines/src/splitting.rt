@@ -7,7 +7,7 @@ use crate::{LINE_FEED, MOST_BYTES};
 pub const MOST_KEPT: usize = MOST_BYTES + 1;
 
 // How many bytes of a chunk were taken, how many bytes of the line are held now, and whether the line ended.
-#[derive(Drop)]
+#[derive(Clone, Copy)]
 pub struct Taken {
     pub count: usize,
     pub held: usize,

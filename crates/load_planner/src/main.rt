@@ -1,4 +1,6 @@
 // The line program: reads lines from standard input, and prints each answer as soon as its line is complete.
+#![tactic(auto)]
+
 ghost use Rattle.std.specs.Prelude.{◌≤◌, ◌≡◌, true, false, length, take, pos};
 ghost use Rattle.io.specs.Counts.{clamp_len};
 ghost use Rattle.calls.specs.Program.{done_on, answered, after_chunk, at_end};
@@ -16,7 +18,7 @@ const LENT_BYTES: usize = SAVE_BYTES;
 const LENT_CELLS: usize = 16384;
 
 // What is kept from chunk to chunk: the planner, how many bytes of a line are held, and whether output can still be written.
-#[derive(Drop)]
+#[derive(Clone, Copy)]
 struct Session {
     planner: Planner,
     held: usize,

@@ -1,11 +1,13 @@
 // Sets of small numbers, held as marks: number n is in the set where binary digit n - 1 is set.
+#![tactic(auto)]
+
 ghost use Rattle.std.specs.Prelude.{◌≡◌};
 ghost use Rattle.marks.specs.Bits.{has_mark, up_to, with_mark, size};
 ghost use Rattle.marks.specs.Sets.{marked, half_width, joined, has_load, loads_up_to, size_of};
 
 // A set of states or of stages: numbers from 1 to 8.
 #[repr(C)]
-#[derive(Drop)]
+#[derive(Clone, Copy)]
 pub struct Marks(pub u8);
 
 impl Marks {
@@ -87,7 +89,7 @@ fn half_count(half: u64) -> u32
 
 // A set of loads: numbers from 1 to 128. Load n stands as n in the low half, or as n - 64 in the high one.
 #[repr(C)]
-#[derive(Drop)]
+#[derive(Clone, Copy)]
 pub struct LoadSet {
     pub low: u64,
     pub high: u64,

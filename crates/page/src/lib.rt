@@ -1,4 +1,6 @@
 // The page of the electrician's handheld: `draw` shows the latest plan of a planner, and `stretch` what of a page has to go to the glass.
+#![tactic(auto)]
+
 pub mod drawing;
 mod rows;
 pub mod stretch;

@@ -7,7 +7,7 @@ ghost use Rattle.page.specs.Stretch.{row_at, differing, place, stretch, beginnin
 use crate::{PAGE_BYTES, ROW_BYTES, ROW_COUNT};
 
 // Rows of a page: the first, the topmost of the page being row 0, and the one after the last.
-#[derive(Drop)]
+#[derive(Clone, Copy)]
 struct Rows {
     first: usize,
     end: usize,
@@ -15,7 +15,7 @@ struct Rows {
 
 // A part of a page: the place of its first byte, and how many bytes it has. C gets it so.
 #[repr(C)]
-#[derive(Drop)]
+#[derive(Clone, Copy)]
 pub struct Part {
     pub start: usize,
     pub count: usize,

@@ -30,7 +30,7 @@ fn write_run(out: &mut [u8], at: usize, run: Run, n: usize) -> usize
 }
 
 // The number of an outcome, and the count of bytes of its text.
-#[derive(Drop)]
+#[derive(Clone, Copy)]
 pub(crate) struct Written {
     pub number: u8,
     pub count: usize,

@@ -26,7 +26,7 @@ pub const RUN_BYTES: usize = 2048;
 pub const SAVE_BYTES: usize = 4096;
 
 // What a call returns: the next planner, the number, 0 if accepted, and the count of bytes written.
-#[derive(Drop)]
+#[derive(Clone, Copy)]
 pub struct Called {
     pub planner: Planner,
     pub number: u8,

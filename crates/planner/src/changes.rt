@@ -17,7 +17,7 @@ use tables::rule::{RuleRange, Sort, Transition};
 use tables::tables::{Added, StoredTables};
 
 // The answer to a change, and the next planner.
-#[derive(Drop)]
+#[derive(Clone, Copy)]
 pub struct Changed {
     pub answer: Answer,
     pub planner: Planner,
@@ -31,7 +31,7 @@ pub(crate) fn between(low: usize, high: usize, x: usize) -> bool
 }
 
 // The rule that a line names, where its numbers are in their ranges; else the rule of zeros.
-#[derive(Drop)]
+#[derive(Clone, Copy)]
 struct NamedRule {
     fits: bool,
     rule: Transition,
@@ -62,7 +62,7 @@ fn named_rule(range: RuleRange, from: u32, label: u32, to: u32, kind: u32) -> Na
 }
 
 // The load that a line names, where its figures are in their ranges for the load of this number; else the load of zeros.
-#[derive(Drop)]
+#[derive(Clone, Copy)]
 struct NamedLoad {
     fits: bool,
     load: Load,

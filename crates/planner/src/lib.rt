@@ -1,4 +1,6 @@
 // The planner: the tables, the latest outcome and the count of filled cells by value, the commands, a call on a line, a portion of a plan, and the judge.
+#![tactic(auto)]
+
 ghost use Rattle.std.specs.Prelude.{◌≡◌, true};
 ghost use Rattle.calls.specs.State.{keeps};
 ghost use Rattle.planner.specs.Planner.{held, fresh, Lawful};
@@ -18,7 +20,7 @@ mod search;
 
 // A planner. It goes in and comes back by value. `filled` counts the cells that portions have filled of the next plan.
 #[repr(C)]
-#[derive(Drop)]
+#[derive(Clone, Copy)]
 pub struct Planner {
     pub tables: StoredTables,
     pub outcome: StoredOutcome,

@@ -20,7 +20,7 @@ use tables::refusal::{NO_LOADS, OUT_OF_RANGE, TOO_FEW_CELLS, UNUSABLE};
 pub const MOST_PORTION: usize = 16384;
 
 // What a portion returns: the next planner, the number, 0 if accepted, and the counts of cells filled and of bytes written.
-#[derive(Drop)]
+#[derive(Clone, Copy)]
 pub struct Portion {
     pub planner: Planner,
     pub number: u8,

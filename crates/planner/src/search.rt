@@ -18,7 +18,7 @@ use tables::refusal::{NO_LOADS, NO_PLAN, NONE_FITS, NOT_ALLOWED, OUT_OF_RANGE, T
 use tables::tables::StoredTables;
 
 // The answer to a line, the run that it shows, and the next planner. Where no run is shown, it is empty.
-#[derive(Drop)]
+#[derive(Clone, Copy)]
 pub struct Decided {
     pub answer: Answer,
     pub run: Run,
@@ -37,7 +37,7 @@ pub(crate) fn unshown(answer: Answer, planner: Planner) -> Decided
 }
 
 // An answer, and the run that it shows. Where none is shown, it is empty.
-#[derive(Drop)]
+#[derive(Clone, Copy)]
 struct Shown {
     answer: Answer,
     run: Run,

@@ -18,7 +18,7 @@ pub const ALL_BYTES: usize = 4200;
 pub const ALL_CELLS: usize = 620;
 
 // How many bytes and cells are lent, and the place of the answer.
-#[derive(Drop)]
+#[derive(Clone, Copy)]
 pub struct Lent {
     pub bytes: usize,
     pub cells: usize,

@@ -12,7 +12,7 @@ use planner::Planner;
 const ALL_BYTES: usize = 200;
 
 // The bytes on the glass.
-#[derive(Drop)]
+#[derive(Clone, Copy)]
 pub struct Glass {
     pub bytes: [u8; PAGE_BYTES],
 }

@@ -1,6 +1,8 @@
 // The tests of the planner's calls, of its judge, of the handheld's pages, of portions and of changeovers. Standard input is the script of the tests;
 // what is written is the report on them. The report is held to the file `stdout`, which tests/expected.py derives from the same script by plain
 // enumeration.
+#![tactic(auto)]
+
 mod call;
 mod glass;
 mod judging;

@@ -9,7 +9,7 @@ use planner::Planner;
 use planner::portion::Portion;
 
 // The cells that portions work in.
-#[derive(Drop)]
+#[derive(Clone, Copy)]
 pub struct Work {
     pub cells: [u32; ALL_CELLS],
 }
@@ -20,7 +20,7 @@ pub const UNTOUCHED: Work = Work {
 };
 
 // A planner, and the work of its portions.
-#[derive(Drop)]
+#[derive(Clone, Copy)]
 pub struct Filling {
     pub planner: Planner,
     pub work: Work,

@@ -9,7 +9,7 @@ use crate::text::{end_of, numbers, past};
 use planner::Planner;
 
 // The planner that the steps so far left, what is lent to its calls, what the glass shows, and the work of its portions.
-#[derive(Drop)]
+#[derive(Clone, Copy)]
 struct Test {
     planner: Planner,
     lent: Lent,

@@ -5,7 +5,7 @@ ghost use Rattle.std.specs.Prelude.{◌+◌, ◌≤◌, min, ◌≡◌, length};
 pub const MOST_NUMBERS: usize = 24;
 
 // The numbers of a text, in order.
-#[derive(Drop)]
+#[derive(Clone, Copy)]
 pub struct NumberList {
     pub items: [u32; MOST_NUMBERS],
     pub count: usize,

@@ -19,14 +19,14 @@ pub const PLANNED: u8 = 2;
 // What a search found, or what a planner keeps of its latest plan. Where it is no plan, the run is empty. The worth, the power and the number
 // on are worked out from the set of the run.
 #[repr(C)]
-#[derive(Drop)]
+#[derive(Clone, Copy)]
 pub struct StoredOutcome {
     pub status: u8,
     pub run: Run,
 }
 
 // What the figures of a run range over: so many loads, states, load rules and row rules.
-#[derive(Drop)]
+#[derive(Clone, Copy)]
 pub struct RunRange {
     pub loads: usize,
     pub states: usize,

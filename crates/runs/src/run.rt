@@ -11,7 +11,7 @@ use tables::load::MAX_LOADS;
 
 // A state, a load rule and a row rule for each load, in load order, and the loads that are on. Unused places hold 0.
 #[repr(C)]
-#[derive(Drop)]
+#[derive(Clone, Copy)]
 pub struct Run {
     pub states: [u8; MAX_LOADS],
     pub load_rules: [u8; MAX_LOADS],

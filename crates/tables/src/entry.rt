@@ -1,5 +1,5 @@
 // What is shown of a load: "number,mark,state,load rule,row rule".
-#[derive(Drop)]
+#[derive(Clone, Copy)]
 pub struct Entry {
     pub number: u8,
     pub mark: u8,

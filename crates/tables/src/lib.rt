@@ -1,4 +1,6 @@
 // The planner's tables by value: rules, loads, the book and the budget, the test of their limits, and their changes.
+#![tactic(auto)]
+
 pub mod entry;
 pub mod limits;
 pub mod load;

@@ -18,7 +18,7 @@ pub const MAX_WORTH: u16 = 1000;
 pub const MAX_KIND: u8 = 3;
 
 // A figure of a load that a line can set.
-#[derive(Drop)]
+#[derive(Clone, Copy)]
 pub enum Figure {
     Power,
     Worth,
@@ -26,7 +26,7 @@ pub enum Figure {
 
 // A load: the number of its parent, its kind, its power in watts and its worth. Only load rules of its kind serve it.
 #[repr(C)]
-#[derive(Drop)]
+#[derive(Clone, Copy)]
 pub struct Load {
     pub parent: u8,
     pub kind: u8,
@@ -36,14 +36,14 @@ pub struct Load {
 
 // Loads in order of entry. The first `count` places are in use.
 #[repr(C)]
-#[derive(Drop)]
+#[derive(Clone, Copy)]
 pub struct LoadList {
     pub items: [Load; MAX_LOADS],
     pub count: usize,
 }
 
 // A list that a load was to be added to, with 0, or with the number of the refusal.
-#[derive(Drop)]
+#[derive(Clone, Copy)]
 pub struct LoadsAppended {
     pub number: u8,
     pub list: LoadList,

@@ -14,7 +14,7 @@ pub const MAX_RULES: usize = 32;
 
 // "A state belongs to a load, a stage to a place in a row of children": what a book has of either sort, a number of states with start marks
 // and load rules, a number of stages with end marks and row rules.
-#[derive(Drop)]
+#[derive(Clone, Copy)]
 pub enum Sort {
     Load,
     Row,
@@ -23,7 +23,7 @@ pub enum Sort {
 // A transition of the tree automaton. A load rule is (state, mark, stage) with the kind of the loads that it serves, a row rule (stage, state,
 // next stage), with kind 0.
 #[repr(C)]
-#[derive(Drop)]
+#[derive(Clone, Copy)]
 pub struct Transition {
     pub from: u8,
     pub label: u8,
@@ -33,14 +33,14 @@ pub struct Transition {
 
 // Rules in order of entry. The first `count` places are in use.
 #[repr(C)]
-#[derive(Drop)]
+#[derive(Clone, Copy)]
 pub struct TransitionList {
     pub items: [Transition; MAX_RULES],
     pub count: usize,
 }
 
 // The ranges of a rule's numbers: 1 to `from`, `low` to `high`, 1 to `to`, and a kind of 0 to `kind`.
-#[derive(Drop)]
+#[derive(Clone, Copy)]
 pub struct RuleRange {
     pub from: u8,
     pub low: u8,
@@ -50,7 +50,7 @@ pub struct RuleRange {
 }
 
 // A list that a rule was to be added to, with 0, or with the number of the refusal.
-#[derive(Drop)]
+#[derive(Clone, Copy)]
 pub struct Appended {
     pub number: u8,
     pub list: TransitionList,

@@ -12,7 +12,7 @@ use marks::Marks;
 
 // The rule book: a tree automaton with its start states and end stages.
 #[repr(C)]
-#[derive(Drop)]
+#[derive(Clone, Copy)]
 pub struct StoredBook {
     pub states: u8,
     pub stages: u8,
@@ -24,7 +24,7 @@ pub struct StoredBook {
 
 // The book, the loads and the budget in watts.
 #[repr(C)]
-#[derive(Drop)]
+#[derive(Clone, Copy)]
 pub struct StoredTables {
     pub book: StoredBook,
     pub loads: LoadList,
@@ -32,7 +32,7 @@ pub struct StoredTables {
 }
 
 // The tables after a change, with 0, or as they were, with the number of the refusal.
-#[derive(Drop)]
+#[derive(Clone, Copy)]
 pub struct Added {
     pub number: u8,
     pub tables: StoredTables,
