@@ -1,0 +1,16 @@
+-- `next_rule` meets its contract: the rules from j below i do not begin there. Assumes nothing.
+use Prim.Native.Nat.{ℕ, ◌+◌, ◌-◌, ◌≤◌, ◌<◌}
+use mathlib.Core.Path.{◌≡◌, ◌∙◌, sym, ap}
+use mathlib.Core.List.{List}
+use mathlib.Core.Logic.{◌⊎◌, inl, inr}
+use native.Mathlib.Nat.{eq-or-lt_of_le}
+use native.Mathlib.Omega.{arith}
+use Rattle.cells.specs.declared.outline.Rules.{Rules}
+use Rattle.cells.specs.Outline.{rule_in}
+use Rattle.cells.proofs.outline.next_rule.Given as goal
+
+abbrev pub invariant-loop-i : goal.invariant-loop-i
+invariant-loop-i l = (l.j ≤ l.i) × (l.i ≤ l.r.count) × Passed l.o l.r l.j l.i
+
+abbrev pub decreases-loop-i : goal.decreases-loop-i
+decreases-loop-i l = l.r.count - l.i

@@ -1,0 +1,18 @@
+-- `flat` meets its contract: before each turn the strip is raised below the allowance, and as it came from there on. Assumes nothing.
+use Prim.Native.Nat.{◌≤◌, ◌-◌}
+use mathlib.Core.Path.{◌≡◌, refl, sym, ◌∙◌}
+use native.Mathlib.Omega.{arith}
+use borrow.Author.Rules.{rules}
+use lib.ListN.{length, length-set}
+use Rattle.meaning.specs.Cell.{empty}
+use Rattle.meaning.proofs.Cell.{⊕-empty}
+use Rattle.cells.specs.Strip.{moved}
+use Rattle.cells.proofs.Strips.{Part, part_none, part-more, part-done, moved_at, moved_none}
+use Rattle.cells.proofs.strip.flat.Given as goal
+
+abbrev pub invariant-loop-a : goal.invariant-loop-a
+invariant-loop-a l =
+    (l.from ≤ l.a) × (l.shift ≤ l.a) × (length l.strip ≡ length l.initial.strip) × Part l.initial.strip l.strip l.from l.a (moved l.shift l.v (λ _. empty))
+
+abbrev pub decreases-loop-a : goal.decreases-loop-a
+decreases-loop-a l = l.to - l.a

@@ -1,0 +1,18 @@
+-- `lift` meets its contract: before each turn the strip is raised below the allowance, and as it came from there on. Assumes nothing.
+use Prim.Native.Nat.{◌≤◌, ◌-◌}
+use mathlib.Core.Path.{◌≡◌, refl, sym, ap, ◌∙◌}
+use native.Mathlib.Omega.{arith}
+use borrow.Author.Rules.{rules}
+use lib.ListN.{length, length-set}
+use Rattle.meaning.specs.Cell.{◌⊕◌}
+use Rattle.cells.specs.Work.{cells_from}
+use Rattle.cells.specs.Strip.{moved}
+use Rattle.cells.proofs.Strips.{Part, part_none, part-more, part-done, joined-le, moved_at, moved_none}
+use Rattle.cells.proofs.strip.lift.Given as goal
+
+abbrev pub invariant-loop-a : goal.invariant-loop-a
+invariant-loop-a l =
+    (l.from ≤ l.a) × (l.shift ≤ l.a) × (length l.strip ≡ length l.initial.strip) × Part l.initial.strip l.strip l.from l.a (moved l.shift l.own (cells_from l.cells l.at))
+
+abbrev pub decreases-loop-a : goal.decreases-loop-a
+decreases-loop-a l = l.to - l.a

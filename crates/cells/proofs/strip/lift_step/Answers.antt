@@ -1,0 +1,10 @@
+-- `lift_step` meets its contract: a cell that is no worse than the empty set's adds as much to each cell that is not 0. Assumes nothing.
+use native.Mathlib.Omega.{arith}
+use borrow.Author.Rules.{rules}
+use Rattle.cells.proofs.Strips.{raised-more}
+use Rattle.cells.proofs.strip.lift_step.Goals as goal
+
+pub returns : goal.returns
+returns c =
+    let s = c.args in
+    λ k. raised-more k s.c s.v s.from _ (omega arith) c.later-start.ensures c.rise.ensures

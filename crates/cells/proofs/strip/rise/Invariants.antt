@@ -1,0 +1,16 @@
+-- `rise` meets its contract: before each turn the strip is raised below the allowance, and as it came from there on. Assumes nothing.
+use Prim.Native.Nat.{◌+◌, ◌-◌, ◌≤◌}
+use mathlib.Core.Path.{◌≡◌, refl, ap}
+use native.Mathlib.Omega.{arith}
+use borrow.Author.Rules.{rules}
+use lib.ListN.{length, length-set}
+use Rattle.cells.specs.Work.{cells_from}
+use Rattle.cells.proofs.Strips.{Part, part_none, part-more, part-done}
+use Rattle.cells.proofs.strip.rise.Given as goal
+
+abbrev pub invariant-loop-a : goal.invariant-loop-a
+invariant-loop-a l =
+    (l.from ≤ l.a) × (length l.strip ≡ length l.initial.strip) × Part l.initial.strip l.strip l.from l.a (λ b. cells_from l.cells l.at (b - l.shift) + l.more)
+
+abbrev pub decreases-loop-a : goal.decreases-loop-a
+decreases-loop-a l = l.to - l.a

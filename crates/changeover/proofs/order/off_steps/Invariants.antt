@@ -1,0 +1,16 @@
+-- `off_steps` meets its contract: the steps that were put and those that are to come are all. Assumes nothing.
+use Prim.Native.Nat.{◌-◌, ◌≤◌}
+use mathlib.Core.Path.{◌≡◌, sym, ap₂, subst}
+use mathlib.Core.Bool.{◌&&◌, not}
+use native.Mathlib.Omega.{arith}
+use borrow.Author.Rules.{rules}
+use Rattle.marks.specs.Sets.{has_load}
+use Rattle.changeover.specs.Steps.{goes_off}
+use Rattle.changeover.proofs.Orders.{OffSoFar, off-none, off-turn, off-room, off-all}
+use Rattle.changeover.proofs.order.off_steps.Given as goal
+
+abbrev pub invariant-loop-k : goal.invariant-loop-k
+invariant-loop-k l = (l.k ≤ l.loads) × OffSoFar (has_load l.old) (has_load l.new) l.loads l.k l.order
+
+abbrev pub decreases-loop-k : goal.decreases-loop-k
+decreases-loop-k l = l.k

@@ -1,0 +1,35 @@
+-- `look_up` meets its contract: each part of the list is filled from its front with the loads' figures. Assumes nothing.
+use Prim.Native.Nat.{ℕ, suc, ◌-◌, ◌*◌, ◌≤◌, ◌<◌}
+use mathlib.Core.Path.{◌≡◌, refl, sym, ap, ◌∙◌}
+use mathlib.Core.List.{List}
+use native.Mathlib.Omega.{arith}
+use borrow.Author.Rules.{rules}
+use lib.ListN.{length, get_or}
+use lib.Seq.{get_or-take}
+use Rattle.lists.proofs.Arrays.{of_map}
+use Rattle.tables.specs.declared.rule.Sort.TheVariants as sort
+use Rattle.tables.specs.declared.rule.TransitionList.{TransitionList}
+use Rattle.tables.specs.declared.load.Load.{Load}
+use Rattle.tables.specs.declared.load.LoadList.{LoadList}
+use Rattle.tables.specs.Tables.{no_load}
+use Rattle.tables.specs.Limits.{max_loads}
+use Rattle.tables.specs.Stored.{rules_of, loads_of, book_of, tables_of}
+use Rattle.judge.specs.declared.figures.Step.{Step}
+use Rattle.judge.specs.Verdict.{proposed}
+use Rattle.judge.specs.Figures.{step_of}
+use Rattle.tables.proofs.Kept.{kept, few-loads}
+use Rattle.judge.proofs.Places.{Filled, fill_none, fill-next, fill-before, fill-after}
+use Rattle.judge.proofs.figures.look_up.Given as goal
+
+abbrev pub invariant-loop-i : goal.invariant-loop-i
+invariant-loop-i l =
+    (l.i ≤ l.i-end)
+    × (l.i-end ≤ max_loads)
+    × (length l.run ≡ 3 * l.i-end)
+    × Filled (4 * max_loads) 0 (λ j. (step_for l.load_rules l.row_rules l.run j (load_in l.loads j)).begin) l.figures l.i
+    × Filled (4 * max_loads) max_loads (λ j. (step_for l.load_rules l.row_rules l.run j (load_in l.loads j)).stage) l.figures l.i
+    × Filled (4 * max_loads) (2 * max_loads) (λ j. (step_for l.load_rules l.row_rules l.run j (load_in l.loads j)).next) l.figures l.i
+    × Filled (4 * max_loads) (3 * max_loads) (parent_of l.loads) l.figures l.i
+
+abbrev pub decreases-loop-i : goal.decreases-loop-i
+decreases-loop-i l = l.i-end - l.i

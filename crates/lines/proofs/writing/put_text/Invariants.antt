@@ -1,0 +1,14 @@
+-- `put_text` meets its contract. The invariant: the bytes below i are written. Assumes nothing.
+use Prim.Native.Nat.{◌-◌, ◌+◌, ◌≤◌}
+use native.Mathlib.Omega.{arith}
+use borrow.Author.Rules.{rules}
+use lib.ListN.{length, take}
+use Rattle.lines.specs.Answers.{Wrote}
+use Rattle.lines.proofs.Wrote.{wrote-length, text-none, text-more, text-all}
+use Rattle.lines.proofs.writing.put_text.Given as goal
+
+abbrev pub invariant-loop-i : goal.invariant-loop-i
+invariant-loop-i l = (l.i ≤ length l.text) × Wrote l.initial.out l.out l.at (l.at + l.i) (take l.i l.text)
+
+abbrev pub decreases-loop-i : goal.decreases-loop-i
+decreases-loop-i l = length l.text - l.i

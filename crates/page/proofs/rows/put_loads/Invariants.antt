@@ -1,0 +1,19 @@
+-- `put_loads` meets its contract. The invariant: the rows of the first i loads are written. Assumes nothing.
+use Prim.Native.Nat.{ℕ, ◌+◌, ◌-◌, ◌≤◌}
+use mathlib.Core.List.{List}
+use native.Mathlib.Omega.{arith}
+use Rattle.marks.specs.Sets.{mark_in}
+use Rattle.marks.specs.declared.LoadSet.{LoadSet}
+use Rattle.lines.specs.Answers.{Wrote}
+use Rattle.lines.proofs.Wrote.{wrote_none, wrote-length, part_room, part-more, part-all}
+use Rattle.tables.specs.declared.load.LoadList.{LoadList}
+use Rattle.tables.specs.Stored.{loads_of}
+use Rattle.page.specs.Rows.{load_row_count, row_of, load_rows}
+use Rattle.page.proofs.RowText.{row-length, rows_none, rows_more, rows-length}
+use Rattle.page.proofs.rows.put_loads.Given as goal
+
+abbrev pub invariant-loop-i : goal.invariant-loop-i
+invariant-loop-i l = (l.i ≤ load_row_count) × Wrote l.initial.page l.page l.at l.next (text l.loads l.set l.first l.i)
+
+abbrev pub decreases-loop-i : goal.decreases-loop-i
+decreases-loop-i l = load_row_count - l.i

@@ -1,0 +1,28 @@
+-- `Planner::budget` meets its contract. Assumes nothing.
+use mathlib.Core.Path.{ap, ◌∙◌}
+use mathlib.Core.List.{[]}
+use borrow.Author.Rules.{rules}
+use borrow.Author.Tests.{le-leb, lt-leb}
+use Rattle.tables.specs.declared.tables.StoredTables.{StoredTables}
+use Rattle.tables.specs.Limits.{max_budget, budget_in}
+use Rattle.tables.specs.Stored.{tables_of}
+use Rattle.tables.specs.Operations.{budget_changed}
+use Rattle.tables.proofs.Changes.{budget-changed}
+use Rattle.calls.specs.Rows.{changing}
+use Rattle.calls.proofs.State.{is-stored}
+use Rattle.planner.proofs.Commands.{out_of_range, accepts}
+use Rattle.planner.proofs.Planner.budget.Goals as goal
+
+pub returns-then-watts : goal.returns-then-watts
+unfolding changing
+returns-then-watts c =
+    let w = c.args.watts in
+    out_of_range c.args.self c.requires (budget_in w) [] _ (lt-leb w max_budget c.if-watts.true) c.told.ensures
+
+pub returns : goal.returns
+unfolding changing
+returns c =
+    let s = c.args.self.tables in
+    let w = c.args.watts in
+    accepts c.args.self c.requires (budget_in w) _ (le-leb w max_budget c.if-watts.false)
+    _ (c.set_budget.ensures ∙ ap (λ (x : StoredTables). budget_changed x w) (is-stored s c.requires.tables) ∙ budget-changed (tables_of s) w) c.told-2.ensures

@@ -1,0 +1,18 @@
+-- `Planner::clear` meets its contract. Assumes nothing.
+use Prim.Native.Nat.{ℕ}
+use mathlib.Core.Path.{sym, ap, ◌∙◌}
+use borrow.Author.Rules.{rules}
+use Rattle.tables.specs.Tables.{fresh}
+use Rattle.tables.specs.Stored.{stored}
+use Rattle.calls.specs.Rows.{changing}
+use Rattle.calls.specs.Causes.{lowest}
+use Rattle.calls.proofs.State.{places}
+use Rattle.planner.specs.Changes.{told, told_by}
+use Rattle.planner.proofs.Planner.clear.Goals as goal
+
+pub returns : goal.returns
+unfolding told_by changing lowest
+returns c =
+    let p = c.args.self in
+    c.told.ensures ∙ ap (told 0) c.fresh.ensures
+    ∙ ap (λ (n : ℕ). told 0 (stored (fresh n))) (sym (places p.tables c.requires.tables))

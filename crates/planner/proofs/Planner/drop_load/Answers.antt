@@ -1,0 +1,16 @@
+-- `Planner::drop_load` meets its contract. Assumes nothing.
+use borrow.Author.Rules.{rules}
+use Rattle.planner.proofs.Commands.{no-load, load-stays, load-leaves}
+use Rattle.planner.proofs.Planner.drop_load.Goals as goal
+
+pub returns-then-not-between : goal.returns-then-not-between
+returns-then-not-between c =
+    no-load c.args.self c.requires c.args.number c.between.ensures c.if-not-between.true c.told.ensures
+
+pub returns-then-has_children : goal.returns-then-has_children
+returns-then-has_children c =
+    load-stays c.args.self c.requires c.args.number c.between.ensures c.if-not-between.false c.has_children.ensures c.if-has_children.true c.told-then-has_children.ensures
+
+pub returns : goal.returns
+returns c =
+    load-leaves c.args.self c.requires c.args.number c.between.ensures c.if-not-between.false c.has_children.ensures c.if-has_children.false _ c.drop_load.ensures c.told-2.ensures

@@ -1,0 +1,19 @@
+-- `LoadList::remove` meets its contract. The loop's invariant: the places below i hold what they will, the others what they did. Assumes nothing.
+use Prim.Native.Nat.{◌-◌, ◌≤◌}
+use mathlib.Core.Path.{◌≡◌, sym, ap, ◌∙◌}
+use native.Mathlib.Omega.{arith}
+use borrow.Author.Rules.{rules}
+use lib.ListN.{length}
+use Rattle.lists.proofs.Arrays.{of_map}
+use Rattle.marks.proofs.Laws.{within-over}
+use Rattle.tables.specs.Limits.{max_loads}
+use Rattle.tables.specs.Changes.{reparented}
+use Rattle.tables.proofs.Removed.{came_to, none_came, next-came, all-came, removed-in, removed-out, removed-past}
+use Rattle.tables.proofs.load.LoadList.remove.Given as goal
+
+abbrev pub invariant-loop-i : goal.invariant-loop-i
+invariant-loop-i l =
+    (l.number - 1 ≤ l.i) × (l.i ≤ max_loads) × (l.next.items ≡ came_to l.self l.number l.i)
+
+abbrev pub decreases-loop-i : goal.decreases-loop-i
+decreases-loop-i l = max_loads - l.i

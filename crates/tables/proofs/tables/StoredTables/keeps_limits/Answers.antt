@@ -1,0 +1,25 @@
+-- `StoredTables::keeps_limits` meets its contract: the lengths of the arrays come from the type. Assumes nothing.
+use mathlib.Core.Path.{◌≡◌}
+use mathlib.Core.Bool.{◌&&◌}
+use native.Mathlib.Omega.{arith}
+use borrow.Author.Rules.{rules}
+use Rattle.lists.proofs.Arrays.{of_map}
+use Rattle.tables.specs.declared.rule.Sort.TheVariants as sort
+use Rattle.tables.specs.Limits.{budget_in, max_loads}
+use Rattle.tables.specs.Stored.{places_of, keeps_limits, Lengths}
+use Rattle.tables.proofs.Stored.{keeps-exactly}
+use Rattle.tables.proofs.Places.{tables-placed}
+use Rattle.tables.proofs.tables.StoredTables.keeps_limits.Goals as goal
+
+lengths : (c : tie.Start) → Lengths c.args.self
+lengths c = record { rules = elim [ sort.Load ↦ search (rules, of_map) | sort.Row ↦ search (rules, of_map) ] }
+
+placed : (c : tie.Start) → places_of c.args.self.loads ≡ max_loads
+placed c = search (rules, of_map)
+
+pub returns : goal.returns
+returns c =
+    let s = c.args.self in
+    let e : c.keeps_limits.result && c.keeps_limits-2.result && budget_in s.budget ≡ keeps_limits s =
+    rw (c.keeps_limits.ensures, c.keeps_limits-2.ensures) (tables-placed s (omega (arith, placed c))) in
+    (e, rw e (keeps-exactly s (lengths c) max_loads (placed c)))
