@@ -1,5 +1,4 @@
 -- `half_with` meets its contract. Assumes nothing.
-use borrow.Author.Rules.{rules}
 use Rattle.marks.proofs.Laws.{with-zero, with-over, with_in}
 use Rattle.marks.proofs.half_with.Goals as goal
 

@@ -1,6 +1,5 @@
 -- `LoadSet::count` meets its contract: the counts of both halves together. Assumes nothing.
 use native.Mathlib.Omega.{arith}
-use borrow.Author.Rules.{rules}
 use Rattle.marks.specs.Sets.{half_width, size_of}
 use Rattle.marks.proofs.Sets.{size-most}
 use Rattle.marks.proofs.LoadSet.count.Goals as goal

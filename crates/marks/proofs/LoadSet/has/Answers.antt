@@ -1,7 +1,6 @@
 -- `LoadSet::has` meets its contract. Assumes nothing.
 use mathlib.Core.Path.{◌∙◌}
 use native.Mathlib.Omega.{arith}
-use borrow.Author.Rules.{rules}
 use Rattle.marks.proofs.Sets.{has-low, has-high}
 use Rattle.marks.proofs.LoadSet.has.Goals as goal
 

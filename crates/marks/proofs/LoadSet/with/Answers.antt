@@ -1,7 +1,6 @@
 -- `LoadSet::with` meets its contract. Assumes nothing.
 use mathlib.Core.Path.{ap, ◌∙◌}
 use native.Mathlib.Omega.{arith}
-use borrow.Author.Rules.{rules}
 use Prim.Native.Nat.{ℕ}
 use Rattle.marks.specs.declared.LoadSet.{LoadSet}
 use Rattle.marks.proofs.Sets.{joined-low, joined-high}

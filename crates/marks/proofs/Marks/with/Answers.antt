@@ -1,7 +1,6 @@
 -- `Marks::with` meets its contract. Assumes nothing.
 use mathlib.Core.Path.{ap}
 use Prim.Native.Nat.{ℕ}
-use borrow.Author.Rules.{rules}
 use Rattle.marks.specs.declared.Marks.{Marks}
 use Rattle.marks.proofs.Laws.{with-zero, with-over, with_in}
 use Rattle.marks.proofs.Marks.with.Goals as goal
