@@ -108,10 +108,10 @@ module _ (t : Tables) where
   unfolding book_begun stored
   book-begun s g = refl
 
-  pub mark_set : (k : Sort) (q : ℕ) → mark_set (stored t) k q ≡ stored (mark t k q)
+  pub mark-set : (k : Sort) (q : ℕ) → mark_set (stored t) k q ≡ stored (mark t k q)
   unfolding mark_set stored stored_book
-  mark_set sort.Load q = refl
-  mark_set sort.Row q = refl
+  mark-set sort.Load q = refl
+  mark-set sort.Row q = refl
 
   pub budget-changed : (w : ℕ) → budget_changed (stored t) w ≡ stored (set_budget t w)
   unfolding budget_changed stored

@@ -6,7 +6,7 @@ use borrow.Author.Tests.{leb-true, le-leb}
 use lib.Dec.{leb}
 use lib.ListN.{length}
 use Rattle.lists.specs.Tests.{every_from}
-use Rattle.lists.proofs.Bools.{and_left, and_right, and-true}
+use Rattle.lists.proofs.Bools.{and_left, and_right}
 use Rattle.tables.specs.declared.rule.Sort.TheVariants as sort
 use Rattle.tables.specs.Tables.{Sort, Book, Tables, size_for, marks_for, rules_for}
 use Rattle.tables.specs.Limits.{size_in, marks_in, range_for, rules_in, sort_in, book_in, budget_in, load_in, most_places, loads_in, limits, Limits}

@@ -50,8 +50,8 @@ abbrev pub no_plan : ℕ
 no_plan = 12
 
 -- request Six: "13, a page to draw on not of 160 bytes"
-abbrev pub not_aPage : ℕ
-not_aPage = 13
+abbrev pub not_a_page : ℕ
+not_a_page = 13
 
 -- request Eight: "14, `save1` while some load or load rule has a kind other than 0"
 abbrev pub kinds_in_use : ℕ

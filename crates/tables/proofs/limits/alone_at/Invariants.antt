@@ -1,10 +1,8 @@
 -- `alone_at` meets its contract. The loop's invariant: what was found, with what is left to look at, decides. Assumes nothing.
 use Prim.Native.Nat.{◌-◌}
-use mathlib.Core.Path.{◌≡◌, refl}
-use borrow.Author.Rules.{rules}
 use lib.ListN.{get_or}
 use Rattle.tables.specs.Places.{alone}
-use Rattle.tables.proofs.Packed.{Decides, decides-more, decides-end}
+use Rattle.tables.proofs.Packed.{Decides}
 use Rattle.tables.proofs.limits.alone_at.Given as goal
 
 abbrev pub invariant-loop-j : goal.invariant-loop-j

@@ -1,5 +1,4 @@
 -- `Load::in_range` meets its contract. Assumes nothing.
-use borrow.Author.Rules.{rules}
 use Rattle.tables.proofs.Places.{load-range}
 use Rattle.tables.proofs.load.Load.in_range.Goals as goal
 

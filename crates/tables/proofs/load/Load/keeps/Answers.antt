@@ -1,5 +1,4 @@
 -- `Load::keeps` meets its contract. Assumes nothing.
-use borrow.Author.Rules.{rules}
 use Rattle.tables.specs.Places.{load_keeps}
 use Rattle.tables.proofs.load.Load.keeps.Goals as goal
 

@@ -1,5 +1,4 @@
 -- `Load::reparented` meets its contract. Assumes nothing.
-use borrow.Author.Rules.{rules}
 use borrow.Author.Tests.{lt-ltb, le-ltb}
 use Rattle.tables.proofs.load.Load.reparented.Goals as goal
 

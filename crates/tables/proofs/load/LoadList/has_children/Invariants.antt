@@ -1,13 +1,8 @@
 -- `LoadList::has_children` meets its contract. The loop's invariant: what is left to look at decides. Assumes nothing.
 use Prim.Native.Nat.{◌-◌}
-use mathlib.Core.Path.{◌≡◌, refl}
-use borrow.Author.Rules.{rules}
-use lib.ListN.{length}
+use mathlib.Core.Path.{◌≡◌}
 use Rattle.lists.specs.Tests.{some}
 use Rattle.lists.specs.Arrays.{rest}
-use Rattle.lists.proofs.Arrays.{of_map}
-use Rattle.lists.proofs.Tests.{look-end, look-past, look_hit, look-miss}
-use Rattle.tables.specs.Tables.{no_load}
 use Rattle.tables.specs.Limits.{max_loads}
 use Rattle.tables.specs.Stored.{loads_of}
 use Rattle.tables.specs.Changes.{is_child, has_children}

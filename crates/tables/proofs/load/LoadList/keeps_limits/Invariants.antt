@@ -1,15 +1,9 @@
 -- `LoadList::keeps_limits` meets its contract. The loop's invariant: every place below i was tested. Assumes nothing.
 use Prim.Native.Nat.{◌-◌, ◌≤◌}
-use mathlib.Core.Path.{◌≡◌, sym}
-use native.Mathlib.Omega.{arith}
-use borrow.Author.Rules.{rules}
-use lib.ListN.{length}
+use mathlib.Core.Path.{◌≡◌}
 use Rattle.lists.specs.Tests.{all_below}
-use Rattle.lists.proofs.Arrays.{of_map}
-use Rattle.lists.proofs.Tests.{below-zero, below_step}
 use Rattle.tables.specs.Limits.{max_loads}
 use Rattle.tables.specs.Places.{load_place}
-use Rattle.tables.proofs.Places.{load_at, loads-placed}
 use Rattle.tables.proofs.load.LoadList.keeps_limits.Given as goal
 
 abbrev pub invariant-loop-i : goal.invariant-loop-i

@@ -1,14 +1,8 @@
 -- `LoadList::remove` meets its contract. The loop's invariant: the places below i hold what they will, the others what they did. Assumes nothing.
 use Prim.Native.Nat.{◌-◌, ◌≤◌}
-use mathlib.Core.Path.{◌≡◌, sym, ap, ◌∙◌}
-use native.Mathlib.Omega.{arith}
-use borrow.Author.Rules.{rules}
-use lib.ListN.{length}
-use Rattle.lists.proofs.Arrays.{of_map}
-use Rattle.marks.proofs.Laws.{within-over}
+use mathlib.Core.Path.{◌≡◌}
 use Rattle.tables.specs.Limits.{max_loads}
-use Rattle.tables.specs.Changes.{reparented}
-use Rattle.tables.proofs.Removed.{came_to, none_came, next-came, all-came, removed-in, removed-out, removed-past}
+use Rattle.tables.proofs.Removed.{came_to}
 use Rattle.tables.proofs.load.LoadList.remove.Given as goal
 
 abbrev pub invariant-loop-i : goal.invariant-loop-i

@@ -1,5 +1,4 @@
 -- `LoadList::set_figure` meets its contract. Assumes nothing.
-use borrow.Author.Rules.{rules}
 use Rattle.tables.specs.Operations.{figure_set}
 use Rattle.tables.proofs.load.LoadList.set_figure.Goals as goal
 

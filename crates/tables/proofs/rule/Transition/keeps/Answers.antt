@@ -1,5 +1,4 @@
 -- `Transition::keeps` meets its contract. Assumes nothing.
-use borrow.Author.Rules.{rules}
 use Rattle.tables.specs.Places.{rule_keeps}
 use Rattle.tables.proofs.rule.Transition.keeps.Goals as goal
 

@@ -1,16 +1,9 @@
 -- `TransitionList::keeps_limits` meets its contract. The loop's invariant: every place below i was tested. Assumes nothing.
 use Prim.Native.Nat.{◌-◌, ◌≤◌}
-use mathlib.Core.Path.{◌≡◌, sym}
-use native.Mathlib.Omega.{arith}
-use borrow.Author.Rules.{rules}
-use lib.ListN.{length}
+use mathlib.Core.Path.{◌≡◌}
 use Rattle.lists.specs.Tests.{all_below}
-use Rattle.lists.proofs.Arrays.{of_map}
-use Rattle.lists.proofs.Tests.{below-zero, below_step}
 use Rattle.tables.specs.Limits.{max_rules}
 use Rattle.tables.specs.Places.{rule_place}
-use Rattle.tables.proofs.Packed.{rule-at}
-use Rattle.tables.proofs.Places.{rules-few, rules-many}
 use Rattle.tables.proofs.rule.TransitionList.keeps_limits.Given as goal
 
 abbrev pub invariant-loop-i : goal.invariant-loop-i

@@ -1,10 +1,8 @@
 -- `TransitionList::packed` meets its contract. The loop's invariant: the rules below place i are packed. Assumes nothing.
-use Prim.Native.Nat.{◌-◌, ◌≤◌}
 use mathlib.Core.Path.{◌≡◌, refl}
 use native.Mathlib.Omega.{arith}
 use borrow.Author.Rules.{rules}
 use Rattle.tables.specs.Limits.{max_rules}
-use Rattle.tables.specs.Places.{AllPacked}
 use Rattle.tables.proofs.Packed.{packed_none, packed_more}
 use Rattle.tables.proofs.rule.TransitionList.packed.Goals as goal
 

@@ -1,5 +1,4 @@
 -- `StoredBook::keeps_limits` meets its contract. Assumes nothing.
-use borrow.Author.Rules.{rules}
 use Rattle.tables.proofs.Places.{book-placed}
 use Rattle.tables.proofs.tables.StoredBook.keeps_limits.Goals as goal
 

@@ -1,5 +1,4 @@
 -- `StoredBook::sort_keeps` meets its contract. Assumes nothing.
-use borrow.Author.Rules.{rules}
 use Rattle.tables.proofs.Places.{sort-placed}
 use Rattle.tables.proofs.tables.StoredBook.sort_keeps.Goals as goal
 

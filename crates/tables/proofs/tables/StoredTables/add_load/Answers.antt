@@ -1,5 +1,4 @@
 -- `StoredTables::add_load` meets its contract. Assumes nothing.
-use borrow.Author.Rules.{rules}
 use Rattle.tables.specs.Operations.{load_added}
 use Rattle.tables.proofs.tables.StoredTables.add_load.Goals as goal
 

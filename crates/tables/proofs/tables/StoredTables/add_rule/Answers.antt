@@ -1,5 +1,4 @@
 -- `StoredTables::add_rule` meets its contract. Assumes nothing.
-use borrow.Author.Rules.{rules}
 use Rattle.tables.specs.Operations.{rule_added}
 use Rattle.tables.proofs.tables.StoredTables.add_rule.Goals as goal
 

@@ -1,6 +1,5 @@
 -- `StoredTables::drop_load` meets its contract. Assumes nothing.
 use mathlib.Core.Path.{◌∙◌}
-use borrow.Author.Rules.{rules}
 use Rattle.tables.specs.Operations.{load_dropped}
 use Rattle.tables.proofs.tables.StoredTables.drop_load.Goals as goal
 

@@ -1,5 +1,4 @@
 -- `StoredTables::fresh` meets its contract. Assumes nothing.
-use borrow.Author.Rules.{rules}
 use Rattle.lists.specs.Arrays.{laid}
 use Rattle.tables.specs.Tables.{fresh}
 use Rattle.tables.specs.Stored.{stored}

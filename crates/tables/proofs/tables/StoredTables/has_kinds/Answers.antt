@@ -1,5 +1,4 @@
 -- `StoredTables::has_kinds` meets its contract. Assumes nothing.
-use borrow.Author.Rules.{rules}
 use Rattle.tables.specs.Stored.{book_of, tables_of}
 use Rattle.tables.specs.Kinds.{has_kinds}
 use Rattle.tables.proofs.tables.StoredTables.has_kinds.Goals as goal

@@ -11,15 +11,11 @@ use Rattle.tables.proofs.Stored.{keeps-exactly}
 use Rattle.tables.proofs.Places.{tables-placed}
 use Rattle.tables.proofs.tables.StoredTables.keeps_limits.Goals as goal
 
-lengths : (c : tie.Start) → Lengths c.args.self
-lengths c = record { rules = elim [ sort.Load ↦ search (rules, of_map) | sort.Row ↦ search (rules, of_map) ] }
-
-placed : (c : tie.Start) → places_of c.args.self.loads ≡ max_loads
-placed c = search (rules, of_map)
-
 pub returns : goal.returns
 returns c =
     let s = c.args.self in
+    let lengths : Lengths s = record { rules = elim [ sort.Load ↦ search (rules, of_map) | sort.Row ↦ search (rules, of_map) ] } in
+    let placed : places_of s.loads ≡ max_loads = search (rules, of_map) in
     let e : c.keeps_limits.result && c.keeps_limits-2.result && budget_in s.budget ≡ keeps_limits s =
-    rw (c.keeps_limits.ensures, c.keeps_limits-2.ensures) (tables-placed s (omega (arith, placed c))) in
-    (e, rw e (keeps-exactly s (lengths c) max_loads (placed c)))
+    rw (c.keeps_limits.ensures, c.keeps_limits-2.ensures) (tables-placed s (omega arith)) in
+    record { equation = e; exactly = rw e (keeps-exactly s lengths max_loads placed) }

@@ -1,6 +1,5 @@
 -- `StoredTables::mark` meets its contract. Assumes nothing.
 use mathlib.Core.Path.{◌∙◌}
-use borrow.Author.Rules.{rules}
 use Rattle.tables.specs.Operations.{mark_set}
 use Rattle.tables.proofs.tables.StoredTables.mark.Goals as goal
 

@@ -1,6 +1,5 @@
 -- `StoredTables::new_book` meets its contract. Assumes nothing.
 use mathlib.Core.Path.{◌∙◌}
-use borrow.Author.Rules.{rules}
 use Rattle.tables.specs.Operations.{book_begun}
 use Rattle.tables.proofs.tables.StoredTables.new_book.Goals as goal
 

@@ -1,6 +1,5 @@
 -- `StoredTables::set_figure` meets its contract. Assumes nothing.
 use mathlib.Core.Path.{◌∙◌}
-use borrow.Author.Rules.{rules}
 use Rattle.tables.specs.Operations.{figure_changed}
 use Rattle.tables.proofs.tables.StoredTables.set_figure.Goals as goal
 
