@@ -1,7 +1,6 @@
 -- `mark_in` meets its contract. Assumes nothing.
 use mathlib.Core.Path.{sym, ap, ◌∙◌}
 use mathlib.Core.Bool.{Bool}
-use borrow.Author.Rules.{rules}
 use Rattle.lists.specs.Argmax.{guard}
 use Rattle.runs.proofs.run.mark_in.Goals as goal
 

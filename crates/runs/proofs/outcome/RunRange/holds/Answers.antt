@@ -1,5 +1,4 @@
 -- `RunRange::holds` meets its contract. Assumes nothing.
-use borrow.Author.Rules.{rules}
 use Rattle.runs.proofs.Places.{figures-range}
 use Rattle.runs.proofs.outcome.RunRange.holds.Goals as goal
 

@@ -1,6 +1,5 @@
 -- `Run::entry` meets its contract. Assumes nothing.
 use native.Mathlib.Numerals.{add-one}
-use borrow.Author.Rules.{rules}
 use Rattle.runs.proofs.run.Run.entry.Goals as goal
 
 pub returns : goal.returns

@@ -1,9 +1,7 @@
 -- `Run::figures_keep` meets its contract. The loop's invariant: the figures of the first i loads were tested. Assumes nothing.
-use Prim.Native.Nat.{◌-◌, ◌≤◌}
 use mathlib.Core.Path.{◌≡◌, sym, ap, ◌∙◌}
 use native.Mathlib.Omega.{arith}
 use borrow.Author.Rules.{rules}
-use Rattle.lists.specs.Tests.{all_below}
 use Rattle.lists.proofs.Tests.{below-zero, below_step}
 use Rattle.runs.specs.Runs.{entry_at}
 use Rattle.runs.specs.Outcome.{figures_in}

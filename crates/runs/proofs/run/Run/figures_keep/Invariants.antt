@@ -1,13 +1,9 @@
 -- `Run::figures_keep` meets its contract. The loop's invariant: the figures of the first i loads were tested. Assumes nothing.
 use Prim.Native.Nat.{◌-◌, ◌≤◌}
-use mathlib.Core.Path.{◌≡◌, sym, ap, ◌∙◌}
-use native.Mathlib.Omega.{arith}
-use borrow.Author.Rules.{rules}
+use mathlib.Core.Path.{◌≡◌}
 use Rattle.lists.specs.Tests.{all_below}
-use Rattle.lists.proofs.Tests.{below-zero, below_step}
 use Rattle.runs.specs.Runs.{entry_at}
 use Rattle.runs.specs.Outcome.{figures_in}
-use Rattle.runs.specs.Places.{figures_keep}
 use Rattle.runs.proofs.run.Run.figures_keep.Given as goal
 
 abbrev pub invariant-loop-i : goal.invariant-loop-i

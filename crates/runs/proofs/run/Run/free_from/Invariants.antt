@@ -1,14 +1,11 @@
 -- `Run::free_from` meets its contract. The loop's invariant: every place below i was tested. Assumes nothing.
 use Prim.Native.Nat.{◌-◌, ◌≤◌}
-use mathlib.Core.Path.{◌≡◌, refl, sym}
+use mathlib.Core.Path.{◌≡◌}
 use mathlib.Core.Bool.{◌||◌}
-use native.Mathlib.Omega.{arith}
-use borrow.Author.Rules.{rules}
 use lib.Dec.{ltb}
 use Rattle.lists.specs.Tests.{all_below}
-use Rattle.lists.proofs.Tests.{below-zero, below_step}
 use Rattle.tables.specs.Limits.{max_loads}
-use Rattle.runs.specs.Places.{zero_at, free_from}
+use Rattle.runs.specs.Places.{zero_at}
 use Rattle.runs.proofs.run.Run.free_from.Given as goal
 
 abbrev pub invariant-loop-i : goal.invariant-loop-i

@@ -1,5 +1,4 @@
 -- `Run::with` meets its contract. Assumes nothing.
-use borrow.Author.Rules.{rules}
 use borrow.Author.Tests.{eq-eqb, ne_eqb}
 use Rattle.runs.specs.Runs.{with_entry}
 use Rattle.runs.proofs.run.Run.with.Goals as goal
