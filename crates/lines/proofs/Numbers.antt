@@ -148,8 +148,8 @@ pub record Digit (d v b : ℕ) : Type 0 where
   pub small : v * 10 + (b - nought) < 10 ^ (d + 1)
   pub fits : v * 10 + (b - nought) < 10 ^ most_digits
 
-pub is_digit : (d v b : ℕ) → v < 10 ^ d → may_follow d b ≡ true → Digit d v b
-is_digit d v b h m =
+pub is-digit : (d v b : ℕ) → v < 10 ^ d → may_follow d b ≡ true → Digit d v b
+is-digit d v b h m =
     let few = ltb-true d most_digits (and_right (is_digit b) (ltb d most_digits) m) in
     let r = digit-range b (and_left (is_digit b) (ltb d most_digits) m) in
     let next : 10 ^ (d + 1) ≡ 10 ^ d * 10 = rw add-one (pow-suc 10 d) in

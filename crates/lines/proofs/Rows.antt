@@ -1,9 +1,9 @@
--- The rows of the table as numbers: what the loops over them find, and the command of the row at a place. Assumes nothing.
-use Prim.Native.Nat.{ℕ, zero, suc, ◌+◌, ◌/◌, ◌%◌, ◌≤◌, ◌<◌}
+-- The rows of the table as numbers: what the loops over them find, and the command of a word and numbers. Assumes nothing.
+use Prim.Native.Nat.{ℕ, ◌+◌, ◌/◌, ◌%◌, ◌≤◌, ◌<◌}
 use mathlib.Core.Path.{◌≡◌, refl}
 use mathlib.Core.Bool.{Bool, true, false, ◌&&◌, not}
 use mathlib.Core.List.{List, [], ◌∷◌}
-use native.Mathlib.Nat.{le_trans, le_refl, le_of_suc-le-suc}
+use native.Mathlib.Nat.{le_trans, le_refl}
 use native.Mathlib.Numerals.{add-one}
 use native.Mathlib.Omega.{arith}
 use borrow.Author.Tests.{not-true, not-false, leb-true, ltb-true}
@@ -101,25 +101,7 @@ module _ (k c : ℕ) (xs : List ℕ) (i : ℕ) where
   unfolding most_from
   most-turn h t e r q = rw (q, ← e, drop-cons xs i 0, add-one i)
 
--- ---- the command at a place
-command-past : (ns : List ℕ) (xs : List Form) (i : ℕ) → length (rows xs) ≤ i → Broken ≡ command_at xs i ns
-command-past ns [] i h = refl
-command-past ns (numbers w n f ∷ xs) zero h = absurd (omega arith)
-command-past ns (numbers w n f ∷ xs) (suc i) h = command-past ns xs i (le_of_suc-le-suc h)
-command-past ns (bits w f ∷ xs) i h = command-past ns xs i h
-
--- none of the numbers below n, as a `match` with an arm for each of them leaves it
-abbrev pub NoneBelow : ℕ → ℕ → Type 0
-NoneBelow zero i = Unit {0}
-NoneBelow (suc n) i = NoneBelow n i × (i ≡ n → ⊥)
-
-none_below : (n i : ℕ) → NoneBelow n i → n ≤ i
-none_below zero i h = omega arith
-none_below (suc n) i h = omega (arith, none_below n i h.0, h.1)
-
-pub command-rest : (ns : List ℕ) (i : ℕ) → NoneBelow (length (rows table)) i → Broken ≡ command_at table i ns
-command-rest ns i h = command-past ns table i (none_below (length (rows table)) i h)
-
+-- ---- the command of a word's number and of the numbers after it
 module _ (c : ℕ) (n : Numbers) where
   pub not-numbers : not n.ok ≡ true → Broken ≡ with_numbers c n
   unfolding with_numbers

@@ -1,5 +1,5 @@
 -- The lines of a save: they are those of its changes, each short, read back, and with no padding. Assumes nothing.
-use Prim.Native.Nat.{ℕ, ◌+◌, ◌≤◌}
+use Prim.Native.Nat.{ℕ, ◌≤◌}
 use mathlib.Core.Path.{◌≡◌, refl, sym, ap, ◌∙◌}
 use mathlib.Core.List.{List, [], ◌∷◌, ◌++◌, map, append_assoc, append-nil}
 use native.Mathlib.Omega.{arith}
@@ -20,7 +20,7 @@ use Rattle.lines.specs.Saved.{saved, changes_text}
 use Rattle.lines.specs.Input.{lines}
 use Rattle.lines.specs.ReadBack.{ReadBack, SaveLines}
 use Rattle.lines.proofs.Decimal.{decimal-digits}
-use Rattle.lines.proofs.Without.{Without, none, byte, without-append, without-digits, lines-first}
+use Rattle.lines.proofs.Without.{Without, byte, without-append, without-digits, lines-first}
 use Rattle.lines.proofs.Padding.{decimal-unpadded}
 use Rattle.lines.proofs.Written.{letters-without, line-fields, change-row, written-parses}
 use Rattle.lines.proofs.SaveText.{FewDigits, saved-few, saved-same, line-length, weight-few, digits-short, digits-five, save-fits}

@@ -1,13 +1,9 @@
 -- `numbers_of` meets its contract. The invariant: what all rows give is what those from here on give. Assumes nothing.
 use Prim.Native.Nat.{◌-◌}
-use mathlib.Core.Path.{◌≡◌, refl, sym, ◌∙◌}
-use mathlib.Core.Bool.{true, false}
-use mathlib.Core.Logic.{⊎_elim}
-use borrow.Author.Rules.{rules}
+use mathlib.Core.Path.{◌≡◌}
 use lib.ListN.{length, drop}
 use Rattle.lines.specs.Grammar.{table}
 use Rattle.lines.specs.Reading.{rows, most_from, most_after}
-use Rattle.lines.proofs.Rows.{most-end, most-turn}
 use Rattle.lines.proofs.reading.numbers_of.Given as goal
 
 abbrev pub invariant-loop-i : goal.invariant-loop-i

@@ -1,13 +1,9 @@
 -- `read_bits` meets its contract. The invariant: what all the bits give is what those from here on give. Assumes nothing.
 use Prim.Native.Nat.{◌+◌, ◌-◌}
-use mathlib.Core.Path.{◌≡◌, sym, ◌∙◌}
-use mathlib.Core.Logic.{⊎_elim}
-use native.Mathlib.Omega.{arith}
-use borrow.Author.Rules.{rules}
-use borrow.Author.Tests.{le-leb, lt-leb}
+use mathlib.Core.Path.{◌≡◌}
 use lib.ListN.{length, drop}
 use Rattle.lines.specs.Reading.{bits_of}
-use Rattle.lines.proofs.Bits.{bits_from, bits-begin, bits_none, bits-all, bits-on, bits-off, bits-bad}
+use Rattle.lines.proofs.Bits.{bits_from}
 use Rattle.lines.proofs.reading.read_bits.Given as goal
 
 abbrev pub invariant-loop-at : goal.invariant-loop-at

@@ -1,15 +1,11 @@
 -- `read_numbers` meets its contract. The invariants: what the fields after the word give is what the rest of the line gives from here.
 -- Assumes nothing.
 use Prim.Native.Nat.{◌-◌, ◌^◌, ◌≤◌, ◌<◌}
-use mathlib.Core.Path.{◌≡◌, sym, ◌∙◌}
-use mathlib.Core.Logic.{⊎_elim}
-use native.Mathlib.Omega.{arith}
-use borrow.Author.Rules.{rules}
-use borrow.Author.Tests.{not-true, not-false}
-use lib.ListN.{length, get_or, length-set}
+use mathlib.Core.Path.{◌≡◌}
+use lib.ListN.{length}
 use Rattle.lines.specs.Grammar.{most_digits}
 use Rattle.lines.specs.Reading.{fields_after, most_numbers, numbers_in}
-use Rattle.lines.proofs.Numbers.{after, from, begin, at-end, at-comma, too_many, digit, bad, ends-comma, ends-line, none-comma, none-line, Digit, is_digit}
+use Rattle.lines.proofs.Numbers.{after, from}
 use Rattle.lines.proofs.reading.read_numbers.Given as goal
 
 abbrev pub invariant-loop-at : goal.invariant-loop-at

@@ -1,9 +1,7 @@
 -- `read_word` meets its contract. The invariant: no comma yet, and the number of the bytes so far. Assumes nothing.
 use Prim.Native.Nat.{◌-◌}
-use native.Mathlib.Omega.{arith}
-use borrow.Author.Rules.{rules}
-use lib.ListN.{length, get_or}
-use Rattle.lines.proofs.Words.{Letters, letters-none, letters-more, Next, next, ends-comma, ends-line, too_long}
+use lib.ListN.{length}
+use Rattle.lines.proofs.Words.{Letters}
 use Rattle.lines.proofs.reading.read_word.Given as goal
 
 abbrev pub invariant-loop-at : goal.invariant-loop-at

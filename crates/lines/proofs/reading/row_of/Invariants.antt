@@ -1,11 +1,8 @@
 -- `row_of` meets its contract. The invariant: no row before this place is the one. Assumes nothing.
 use Prim.Native.Nat.{◌-◌, ◌≤◌}
-use mathlib.Core.Path.{sym}
-use borrow.Author.Rules.{rules}
 use lib.ListN.{length}
 use Rattle.lines.specs.Grammar.{table}
 use Rattle.lines.specs.Reading.{rows, place_of}
-use Rattle.lines.proofs.Before.{first-here, first_more, first-end}
 use Rattle.lines.proofs.reading.row_of.Given as goal
 
 abbrev pub invariant-loop-i : goal.invariant-loop-i

@@ -1,6 +1,5 @@
 -- `with_numbers` meets its contract: the command of the row that has the word and so many numbers. Assumes nothing.
 use mathlib.Core.Path.{◌∙◌}
-use borrow.Author.Rules.{rules}
 use Rattle.lines.proofs.Rows.{not-numbers, some-numbers}
 use Rattle.lines.proofs.reading.with_numbers.Goals as goal
 

@@ -2,15 +2,14 @@
 use Prim.Native.Nat.{ℕ, ◌+◌, ◌≤◌}
 use mathlib.Core.List.{List, map}
 use native.Mathlib.Omega.{arith}
-use borrow.Author.Rules.{rules}
 use lib.ListN.{length, length-append}
 use Rattle.tables.specs.declared.rule.Sort.{Sort}
 use Rattle.tables.specs.declared.rule.Sort.TheVariants as sort
 use Rattle.tables.specs.declared.tables.StoredBook.{StoredBook}
-use Rattle.tables.specs.Stored.{held_size, held_marks, held_rules, rules_of}
+use Rattle.tables.specs.Stored.{held_size, held_marks, held_rules, rules_of, book_of}
 use Rattle.lines.specs.declared.SaveForm.{SaveForm}
 use Rattle.lines.specs.declared.SaveForm.TheVariants.{Kinds}
-use Rattle.lines.specs.Saved.{size_change, mark_changes, rule_change, changes_text}
+use Rattle.lines.specs.Saved.{size_change, book_changes, mark_changes, rule_change, changes_text}
 use Rattle.lines.proofs.Wrote.{wrote_then}
 use Rattle.lines.proofs.Saves.{book-text}
 use Rattle.lines.proofs.saving.write_book.Goals as goal
@@ -26,44 +25,44 @@ abbrev rules : SaveForm → StoredBook → Sort → List ℕ
 rules f b k = changes_text f (map (rule_change k) (rules_of (held_rules b k)))
 
 -- the room, part by part
-room : (c : tie.Start) → let b = c.args.book in let f = c.args.form in
-    c.args.at + (length (size b) + length (marks b sort.Load) + length (marks b sort.Row) + length (rules f b sort.Load) + length (rules f b sort.Row)) ≤ length c.args.out.now
-room c = simp length-append at (rw book-text at c.requires.1)
+room : (f : SaveForm) (b : StoredBook) (at n : ℕ) → at + length (changes_text f (book_changes (book_of b))) ≤ n
+    → at + (length (size b) + length (marks b sort.Load) + length (marks b sort.Row) + length (rules f b sort.Load) + length (rules f b sort.Row)) ≤ n
+room f b at n h = simp length-append at (rw book-text at h)
 
 pub write_size-a-requires : goal.write_size-a-requires
-write_size-a-requires c = let r = room c in omega arith
+write_size-a-requires c = let r = room c.args.form c.args.book _ _ c.requires.1 in omega arith
 
 pub write_marks-b-requires : goal.write_marks-b-requires
 write_marks-b-requires c =
-    let r = room c in
-    omega (arith, c.write_size-a.ensures.end, c.write_size-a.auto.0)
+    let r = room c.args.form c.args.book _ _ c.requires.1 in
+    omega (arith, c.write_size-a.ensures.end, c.write_size-a.auto.out)
 
 pub write_marks-c-requires : goal.write_marks-c-requires
 write_marks-c-requires c =
-    let r = room c in
-    omega (arith, c.write_marks-b.ensures.end, c.write_marks-b.auto.0, c.write_size-a.ensures.end, c.write_size-a.auto.0)
+    let r = room c.args.form c.args.book _ _ c.requires.1 in
+    omega (arith, c.write_marks-b.ensures.end, c.write_marks-b.auto.out, c.write_size-a.ensures.end, c.write_size-a.auto.out)
 
 pub write_rules-d-requires : goal.write_rules-d-requires
 write_rules-d-requires c =
-    let r = room c in (
+    let r = room c.args.form c.args.book _ _ c.requires.1 in (
       c.requires.0 sort.Load,
-      omega (arith, c.write_marks-c.ensures.end, c.write_marks-c.auto.0, c.write_marks-b.ensures.end, c.write_marks-b.auto.0, c.write_size-a.ensures.end, c.write_size-a.auto.0),
+      omega (arith, c.write_marks-c.ensures.end, c.write_marks-c.auto.out, c.write_marks-b.ensures.end, c.write_marks-b.auto.out, c.write_size-a.ensures.end, c.write_size-a.auto.out),
     )
 
 pub write_rules-requires : goal.write_rules-requires
 write_rules-requires c =
-    let r = room c in (
+    let r = room c.args.form c.args.book _ _ c.requires.1 in (
       c.requires.0 sort.Row,
       omega (
         arith,
         c.write_rules-d.ensures.end,
-        c.write_rules-d.auto.0,
+        c.write_rules-d.auto.out,
         c.write_marks-c.ensures.end,
-        c.write_marks-c.auto.0,
+        c.write_marks-c.auto.out,
         c.write_marks-b.ensures.end,
-        c.write_marks-b.auto.0,
+        c.write_marks-b.auto.out,
         c.write_size-a.ensures.end,
-        c.write_size-a.auto.0,
+        c.write_size-a.auto.out,
       ),
     )
 

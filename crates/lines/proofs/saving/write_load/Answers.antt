@@ -1,5 +1,4 @@
 -- `write_load` meets its contract: its word and its numbers, with its kind where the form has it. Assumes nothing.
-use borrow.Author.Rules.{rules}
 use Rattle.lines.specs.Grammar.{line_of}
 use Rattle.lines.proofs.Saves.{kind-room, kind-wrote}
 use Rattle.lines.proofs.saving.write_load.Goals as goal
@@ -11,4 +10,4 @@ write_line-requires c =
 
 pub returns : goal.returns
 unfolding line_of
-returns c =  kind-wrote c.args.form _ _ _ _ _ c.number_count.ensures c.write_line.ensures
+returns c = kind-wrote c.args.form _ _ _ _ _ c.number_count.ensures c.write_line.ensures

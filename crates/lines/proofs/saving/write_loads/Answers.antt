@@ -1,17 +1,13 @@
 -- `write_loads` meets its contract. The invariant: the lines of the first i loads are written. Assumes nothing.
-use Prim.Native.Nat.{ℕ, ◌+◌, ◌-◌, ◌≤◌, ◌<◌}
+use Prim.Native.Nat.{ℕ, ◌+◌, ◌≤◌, ◌<◌}
 use mathlib.Core.Path.{◌≡◌}
 use mathlib.Core.List.{List, ◌++◌, map}
 use native.Mathlib.Omega.{arith}
-use borrow.Author.Rules.{rules}
 use lib.ListN.{length, take, get_or}
-use Rattle.lists.proofs.Arrays.{of_map}
 use Rattle.tables.specs.declared.load.Load.{Load}
 use Rattle.tables.specs.Tables.{no_load}
-use Rattle.tables.specs.Limits.{max_loads}
 use Rattle.lines.specs.declared.SaveForm.{SaveForm}
 use Rattle.lines.specs.Written.{change_line}
-use Rattle.lines.specs.Answers.{Wrote}
 use Rattle.lines.specs.Saved.{load_change, changes_text}
 use Rattle.lines.proofs.Wrote.{wrote_none, wrote-length, part_room, part-more, part-all}
 use Rattle.lines.proofs.Saves.{each_next}
@@ -24,12 +20,8 @@ text f xs i = changes_text f (map load_change (take i xs))
 abbrev part : SaveForm → List Load → ℕ → List ℕ
 part f xs i = change_line f (load_change (get_or xs i no_load))
 
-len : (c : tie.Start invariant-loop decreases-loop) → length c.args.t4.items ≡ max_loads
-len c = search (rules, of_map)
-
-next-part : (c : tie.Start invariant-loop decreases-loop) → let l = c.args.t4 in
-    (i : ℕ) → i < l.count → text c.args.form l.items (i + 1) ≡ text c.args.form l.items i ++ part c.args.form l.items i
-next-part c i h = each_next c.args.form load_change no_load c.args.t4.items i (omega (arith, len c, c.requires.0))
+next-part : (f : SaveForm) (xs : List Load) (n : ℕ) → n ≤ length xs → (i : ℕ) → i < n → text f xs (i + 1) ≡ text f xs i ++ part f xs i
+next-part f xs n l i h = each_next f load_change no_load xs i (omega arith)
 
 pub loop-i-init : goal.loop-i-init
 unfolding changes_text
@@ -37,31 +29,19 @@ loop-i-init c = (omega arith, wrote_none _ _)
 
 pub write_load-next-requires : goal.write_load-next-requires
 write_load-next-requires c =
-    let x = c.args.t4 in
-    part_room (text c.args.form x.items) (part c.args.form x.items) x.count (next-part c) c.loop-i.i c.loop-i-test.true c.loop-i.invariant.1 c.requires.1
+    let x = c.args.loads in
+    part_room (text c.args.form x.items) (part c.args.form x.items) x.count (next-part c.args.form x.items x.count (omega arith)) c.loop-i.i c.loop-i-test.true c.loop-i.invariant.1 c.requires.1
 
 pub loop-i-preserved : goal.loop-i-preserved
 loop-i-preserved c =
-    let x = c.args.t4 in
+    let x = c.args.loads in
     let less = c.loop-i-test.true in
-    (omega (arith, less), part-more (text c.args.form x.items) (part c.args.form x.items) x.count (next-part c) c.loop-i.i less c.loop-i.invariant.1 c.write_load-next.ensures)
+    (omega (arith, less), part-more (text c.args.form x.items) (part c.args.form x.items) x.count (next-part c.args.form x.items x.count (omega arith)) c.loop-i.i less c.loop-i.invariant.1 c.write_load-next.ensures)
 
 pub shape_of-out : goal.shape_of-out
 shape_of-out c = wrote-length c.loop-i.invariant.1
 
 pub returns : goal.returns
 returns c =
-    let x = c.args.t4 in
-    part-all (text c.args.form x.items) (part c.args.form x.items) x.count (next-part c) c.loop-i.i c.loop-i.invariant.0 c.loop-i-test.false c.loop-i.invariant.1
-
-pub offset_bounds-loads-i : goal.offset_bounds-loads-i
-offset_bounds-loads-i c = omega arith
-
-pub bounds-loads-i : goal.bounds-loads-i
-bounds-loads-i c = omega (arith, len c, c.requires.0)
-
-pub overflow_step-i : goal.overflow_step-i
-overflow_step-i c = omega arith
-
-pub loop-i-smaller : goal.loop-i-smaller
-loop-i-smaller c = omega arith
+    let x = c.args.loads in
+    part-all (text c.args.form x.items) (part c.args.form x.items) x.count (next-part c.args.form x.items x.count (omega arith)) c.loop-i.i c.loop-i.invariant.0 c.loop-i-test.false c.loop-i.invariant.1

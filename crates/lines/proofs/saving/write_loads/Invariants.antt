@@ -1,24 +1,13 @@
 -- `write_loads` meets its contract. The invariant: the lines of the first i loads are written. Assumes nothing.
-use Prim.Native.Nat.{ℕ, ◌+◌, ◌-◌, ◌≤◌, ◌<◌}
-use mathlib.Core.Path.{◌≡◌}
-use mathlib.Core.List.{List, ◌++◌, map}
-use native.Mathlib.Omega.{arith}
-use borrow.Author.Rules.{rules}
-use lib.ListN.{length, take, get_or}
-use Rattle.lists.proofs.Arrays.{of_map}
-use Rattle.tables.specs.declared.load.Load.{Load}
-use Rattle.tables.specs.Tables.{no_load}
-use Rattle.tables.specs.Limits.{max_loads}
-use Rattle.lines.specs.declared.SaveForm.{SaveForm}
-use Rattle.lines.specs.Written.{change_line}
+use Prim.Native.Nat.{◌-◌, ◌≤◌}
+use mathlib.Core.List.{map}
+use lib.ListN.{take}
 use Rattle.lines.specs.Answers.{Wrote}
 use Rattle.lines.specs.Saved.{load_change, changes_text}
-use Rattle.lines.proofs.Wrote.{wrote_none, wrote-length, part_room, part-more, part-all}
-use Rattle.lines.proofs.Saves.{each_next}
 use Rattle.lines.proofs.saving.write_loads.Given as goal
 
 abbrev pub invariant-loop-i : goal.invariant-loop-i
-invariant-loop-i l = (l.i ≤ l.loads.count) × Wrote l.initial.out l.out l.at l.next (text l.form l.loads.items l.i)
+invariant-loop-i l = (l.i ≤ l.loads.count) × Wrote l.initial.out l.out l.at l.next (changes_text l.form (map load_change (take l.i l.loads.items)))
 
 abbrev pub decreases-loop-i : goal.decreases-loop-i
 decreases-loop-i l = l.loads.count - l.i

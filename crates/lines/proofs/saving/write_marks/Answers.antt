@@ -1,11 +1,10 @@
 -- `write_marks` meets its contract. The invariant: the lines of the marks up to number i are written. Assumes nothing.
-use Prim.Native.Nat.{ℕ, ◌+◌, ◌-◌, ◌≤◌}
+use Prim.Native.Nat.{ℕ, ◌+◌}
 use mathlib.Core.List.{List}
 use native.Mathlib.Omega.{arith}
 use Rattle.marks.specs.declared.Marks.{Marks}
 use Rattle.tables.specs.declared.rule.Sort.{Sort}
 use Rattle.lines.specs.declared.SaveForm.TheVariants.{Kinds}
-use Rattle.lines.specs.Answers.{Wrote}
 use Rattle.lines.specs.Saved.{mark_if_set, mark_changes, changes_text}
 use Rattle.lines.proofs.Wrote.{wrote_none, wrote-length, part_room, part-more, part-all}
 use Rattle.lines.proofs.Saves.{mark-next}
@@ -40,12 +39,3 @@ pub returns : goal.returns
 returns c =
     let a = c.args in
     part-all (text a.sort a.marks) (part a.sort a.marks) a.size (λ i h. mark-next Kinds a.sort a.marks i) c.loop-i.i c.loop-i.invariant.0 c.loop-i-test.false c.loop-i.invariant.1
-
-pub overflow_add-i : goal.overflow_add-i
-overflow_add-i c = omega arith
-
-pub overflow_step-i : goal.overflow_step-i
-overflow_step-i c = omega arith
-
-pub loop-i-smaller : goal.loop-i-smaller
-loop-i-smaller c = omega arith

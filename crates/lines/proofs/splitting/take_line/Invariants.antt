@@ -1,9 +1,7 @@
 -- `take_line` meets its contract. The invariant: no line feed yet, and the bytes so far are in the line as far as there is room. Assumes nothing.
 use Prim.Native.Nat.{◌-◌}
-use mathlib.Core.Logic.{⊎_elim}
-use borrow.Author.Rules.{rules}
 use lib.ListN.{length}
-use Rattle.lines.proofs.Taking.{Taking, taking-none, taking-put, taking-drop, taking-feed, taking-all}
+use Rattle.lines.proofs.Taking.{Taking}
 use Rattle.lines.proofs.splitting.take_line.Given as goal
 
 abbrev pub invariant-loop-at : goal.invariant-loop-at

@@ -1,6 +1,5 @@
 -- `put_field` meets its contract: the number, then the byte. Assumes nothing.
 use native.Mathlib.Omega.{arith}
-use borrow.Author.Rules.{rules}
 use Rattle.lines.specs.Text.{field}
 use Rattle.lines.proofs.Answers.{field-length}
 use Rattle.lines.proofs.Wrote.{wrote_then}
@@ -11,7 +10,7 @@ put_decimal-next-requires c = let a = c.args in omega (arith, c.requires, field-
 
 pub put-requires : goal.put-requires
 put-requires c =
-    omega (arith, c.requires, field-length c.args.n c.args.after, c.put_decimal-next.ensures.end, c.put_decimal-next.auto.0)
+    omega (arith, c.requires, field-length c.args.n c.args.after, c.put_decimal-next.ensures.end, c.put_decimal-next.auto.out)
 
 pub returns : goal.returns
 unfolding field

@@ -1,14 +1,11 @@
 -- `put_numbers` meets its contract. The invariant: the first i numbers are written. Assumes nothing.
-use Prim.Native.Nat.{ℕ, ◌+◌, ◌-◌, ◌≤◌, ◌<◌}
+use Prim.Native.Nat.{ℕ, ◌+◌, ◌≤◌, ◌<◌}
 use mathlib.Core.Path.{◌≡◌}
 use mathlib.Core.List.{List, [], ◌∷◌, ◌++◌}
 use native.Mathlib.Omega.{arith}
-use borrow.Author.Rules.{rules}
 use lib.ListN.{length, take, get_or}
 use Rattle.lines.specs.Text.{comma, decimal}
-use Rattle.lines.specs.Reading.{most_numbers}
 use Rattle.lines.specs.Written.{parted, line}
-use Rattle.lines.specs.Answers.{Wrote}
 use Rattle.lines.proofs.Wrote.{wrote_none, wrote-length, part_room, part-more, part-all}
 use Rattle.lines.proofs.Saves.{line-next}
 use Rattle.lines.proofs.writing.put_numbers.Goals as goal
@@ -27,19 +24,16 @@ pub loop-i-init : goal.loop-i-init
 unfolding parted
 loop-i-init c = (omega arith, wrote_none _ _)
 
-len : (c : tie.Start invariant-loop decreases-loop) → length c.args.t3 ≡ most_numbers
-len c = search rules
-
 pub put_number-next-requires : goal.put_number-next-requires
 put_number-next-requires c =
-    part_room (text c.args.t3) (part c.args.t3) c.args.count (next-part c.args.t3 c.args.count (omega (arith, len c, c.requires.0)))
+    part_room (text c.args.v) (part c.args.v) c.args.count (next-part c.args.v c.args.count (omega arith))
     c.loop-i.i c.loop-i-test.true c.loop-i.invariant.1 c.requires.1
 
 pub loop-i-preserved : goal.loop-i-preserved
 loop-i-preserved c =
     let less = c.loop-i-test.true in (
       omega (arith, less),
-      part-more (text c.args.t3) (part c.args.t3) c.args.count (next-part c.args.t3 c.args.count (omega (arith, len c, c.requires.0)))
+      part-more (text c.args.v) (part c.args.v) c.args.count (next-part c.args.v c.args.count (omega arith))
           c.loop-i.i less c.loop-i.invariant.1 c.put_number-next.ensures,
     )
 
@@ -48,11 +42,5 @@ shape_of-out c = wrote-length c.loop-i.invariant.1
 
 pub returns : goal.returns
 returns c =
-    part-all (text c.args.t3) (part c.args.t3) c.args.count (next-part c.args.t3 c.args.count (omega (arith, len c, c.requires.0)))
+    part-all (text c.args.v) (part c.args.v) c.args.count (next-part c.args.v c.args.count (omega arith))
     c.loop-i.i c.loop-i.invariant.0 c.loop-i-test.false c.loop-i.invariant.1
-
-pub overflow_step-i : goal.overflow_step-i
-overflow_step-i c = omega arith
-
-pub loop-i-smaller : goal.loop-i-smaller
-loop-i-smaller c = omega arith

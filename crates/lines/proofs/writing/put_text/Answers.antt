@@ -1,9 +1,6 @@
 -- `put_text` meets its contract. The invariant: the bytes below i are written. Assumes nothing.
-use Prim.Native.Nat.{◌-◌, ◌+◌, ◌≤◌}
 use native.Mathlib.Omega.{arith}
 use borrow.Author.Rules.{rules}
-use lib.ListN.{length, take}
-use Rattle.lines.specs.Answers.{Wrote}
 use Rattle.lines.proofs.Wrote.{wrote-length, text-none, text-more, text-all}
 use Rattle.lines.proofs.writing.put_text.Goals as goal
 

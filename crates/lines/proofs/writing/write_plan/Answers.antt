@@ -1,30 +1,21 @@
 -- `write_plan` meets its contract: the text, then its three numbers. Assumes nothing.
-use Prim.Native.Nat.{◌+◌, ◌≤◌}
 use native.Mathlib.Omega.{arith}
-use borrow.Author.Rules.{rules}
-use lib.ListN.{length}
-use Rattle.lines.specs.Text.{comma, line_feed, field}
 use Rattle.lines.specs.Answers.{plan_line}
 use Rattle.lines.proofs.Answers.{plan-length}
 use Rattle.lines.proofs.Wrote.{wrote_then}
 use Rattle.lines.proofs.writing.write_plan.Goals as goal
 
--- the room, field by field
-room : (c : tie.Start)
-    → c.args.at + (5 + length (field c.args.worth comma) + length (field c.args.power comma) + length (field c.args.n line_feed)) ≤ length c.args.out.now
-room c = rw plan-length at c.requires
-
 pub put_text-a-requires : goal.put_text-a-requires
-put_text-a-requires c = let r = room c in omega arith
+put_text-a-requires c = omega (arith, plan-length c.args.worth c.args.power c.args.n)
 
 pub put_field-b-requires : goal.put_field-b-requires
-put_field-b-requires c = let r = room c in omega arith
+put_field-b-requires c = omega (arith, plan-length c.args.worth c.args.power c.args.n)
 
 pub put_field-c-requires : goal.put_field-c-requires
-put_field-c-requires c = let r = room c in omega arith
+put_field-c-requires c = omega (arith, plan-length c.args.worth c.args.power c.args.n)
 
 pub put_field-requires : goal.put_field-requires
-put_field-requires c = let r = room c in omega arith
+put_field-requires c = omega (arith, plan-length c.args.worth c.args.power c.args.n)
 
 pub returns : goal.returns
 unfolding plan_line

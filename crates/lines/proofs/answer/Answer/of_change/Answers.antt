@@ -1,7 +1,6 @@
 -- `Answer::of_change` meets its contract. Assumes nothing.
 use Prim.Native.Nat.{ℕ, zero, suc}
 use mathlib.Core.Path.{◌≡◌, refl}
-use borrow.Author.Rules.{rules}
 use Rattle.lines.specs.declared.answer.Answer.TheVariants.{Refused}
 use Rattle.lines.specs.Answers.{answer_of}
 use Rattle.lines.proofs.answer.Answer.of_change.Goals as goal
