@@ -5,7 +5,7 @@ use mathlib.Core.Bool.{Bool, false}
 use mathlib.Core.List.{List, [], ◌∷◌}
 use Rattle.tables.specs.Limits.{most_places}
 use Rattle.calls.specs.State.{State, StoredState, fresh, stored_state, Within}
-use Rattle.calls.specs.Calls.{Done, after, answer, handled, called}
+use Rattle.calls.specs.Calls.{Done, after, answer, handled}
 use Rattle.calls.specs.Demand2.{PlanRight}
 use Rattle.calls.specs.Last.{current_after, current, kept_outcome, Lasts}
 use Rattle.calls.specs.Need.{NeedRight, Needs}

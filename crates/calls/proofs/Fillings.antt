@@ -1,9 +1,8 @@
 -- Portions in a list of calls: while a filling's work is handed on, its cells hold what they are to hold. Assumes nothing.
-use Prim.Native.Nat.{ℕ, zero, suc, min, ◌+◌, ◌≤◌, ◌<◌}
+use Prim.Native.Nat.{ℕ, zero, suc, min, ◌+◌, ◌<◌}
 use mathlib.Core.Path.{◌≡◌, refl, sym, ap, ap₂, subst, ◌∙◌}
-use mathlib.Core.Bool.{Bool, true, false, ◌&&◌, ◌||◌}
+use mathlib.Core.Bool.{Bool, true, false}
 use mathlib.Core.List.{List, [], ◌∷◌}
-use mathlib.Core.Logic.{◌⊎◌, inl, inr}
 use native.Mathlib.Omega.{arith}
 use borrow.Author.Tests.{eqb-true, eqb-false}
 use lib.Dec.{eqb}
@@ -14,7 +13,7 @@ use Rattle.meaning.specs.Cells.{cells_of, Holding}
 use Rattle.meaning.proofs.Portions.{cells-best}
 use Rattle.calls.specs.State.{State, Within}
 use Rattle.calls.specs.Rows.{Row, changes, shows, works}
-use Rattle.calls.specs.Effects.{acted, filled_by, state_by}
+use Rattle.calls.specs.Effects.{state_by}
 use Rattle.calls.specs.Calls.{Call, row_for, number_for, after, answer}
 use Rattle.calls.specs.Demand2.{PlanRight}
 use Rattle.calls.specs.Portions.{PortionCall, Portion, plan_call, portion_number, open_cells, portion_fills, count_by, with_filled, after_portion, Portioned}

@@ -48,6 +48,7 @@ lowest-given (c ∷ cs) h = go c.applies refl (lowest-given cs) h
 
 pub lowest-least : (m : ℕ) (cs : List Cause) → Rising m cs → (k : ℕ) → Applies k cs → (m ≤ lowest cs) × (lowest cs ≤ k)
 unfolding lowest
+lowest-least m [] a k x = elim x [ ]
 lowest-least m (c ∷ cs) a k (here p e) = rw e (omega (arith, a.0))
 lowest-least m (c ∷ cs) a k (there q) = go c.applies (lowest-least c.number cs a.1 k q)
   where

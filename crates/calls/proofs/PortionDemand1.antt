@@ -3,43 +3,40 @@
 use Prim.Native.Nat.{ℕ, zero, suc, min, ◌+◌, ◌-◌, ◌≤◌, ◌<◌}
 use mathlib.Core.Path.{◌≡◌, refl, sym, ap, subst, ◌∙◌}
 use mathlib.Core.Bool.{Bool, true, false}
-use mathlib.Core.List.{List, [], ◌∷◌, ◌++◌}
+use mathlib.Core.List.{List}
 use mathlib.Core.Logic.{◌⊎◌, inl, inr, ⊎_elim}
 use native.Mathlib.Omega.{arith}
 use native.Mathlib.Nat.{eq-zero-or-pos}
-use lib.Dec.{eqb, lit≤}
+use lib.Dec.{lit≤}
 use lib.ListN.{length, take, drop, replicate, length-replicate}
 use lib.Seq.{drop_at, drop-drop}
 use Rattle.lines.specs.Answers.{refused, run_bytes}
 use Rattle.lines.proofs.Answers.{refused-fits}
 use Rattle.tables.specs.Refusals as no
-use Rattle.tables.specs.Tables.{Tables}
-use Rattle.tables.specs.Limits.{Limits}
 use Rattle.tables.specs.declared.entry.Entry.{Entry}
 use Rattle.meaning.specs.Cells.{cells_of}
 use Rattle.runs.proofs.Stored.{lines-in}
 use Rattle.runs.specs.Outcome.{range_of}
 use Rattle.calls.specs.State.{State, StoredState, stored_state, state_of, keeps, Within, Kept, Sized}
-use Rattle.calls.specs.Rows.{◌if◌, plan_text}
+use Rattle.calls.specs.Rows.{plan_text}
 use Rattle.calls.specs.Causes.{lowest, Lowest}
 use Rattle.calls.specs.Printing.{zeroed, has_outcome}
 use Rattle.calls.specs.Calls.{Reply, cleared}
-use Rattle.calls.specs.Portions.{PortionCall, PortionDone, plan_call, portion_causes, portion_number, open_cells, portion_fills, count_by, with_filled, after_portion, silent, Fills, Shows, Answers, Portioned, portion_refused, portioned_if, Portions}
+use Rattle.calls.specs.Portions.{PortionCall, PortionDone, plan_call, portion_causes, portion_number, open_cells, portion_fills, count_by, with_filled, silent, Fills, Shows, Portioned, portion_refused, portioned_if, Portions}
 use Rattle.calls.specs.Demand1.{portion_causes_of, portion_refusal, PortionDemand1}
 use Rattle.calls.proofs.State.{keeps-kept, kept-within, kept-stored}
-use Rattle.calls.proofs.Numbers.{Rising, lowest-given, lowest-least}
+use Rattle.calls.proofs.Numbers.{Ascending, rising, lowest-given, lowest-least}
 use Rattle.calls.proofs.Fits.{lines_fit}
-use Rattle.calls.proofs.Work.{clash}
 use Rattle.calls.proofs.Demand1.{stored-before, stored-behind}
-use Rattle.calls.proofs.Portions.{Passes, passes, min-left, min-right}
+use Rattle.calls.proofs.Portions.{passes, min-left, min-right}
 
 -- the lowest number that applies is given, each exactly in its case
-in_order : (p : StoredState) (c : PortionCall) → Rising 1 (portion_causes_of p c)
+in_order : (p : StoredState) (c : PortionCall) → Ascending 1 (portion_causes_of p c)
 unfolding portion_causes
-in_order p c = (lit≤ tt, (lit≤ tt, (lit≤ tt, (lit≤ tt, (lit≤ tt, tt)))))
+in_order p c = (lit≤ tt, (lit≤ tt, (lit≤ tt, (lit≤ tt, (lit≤ tt, lit≤ tt)))))
 
 exactly : (p : StoredState) (c : PortionCall) → Lowest (portion_causes_of p c) (portion_refusal p c)
-exactly p c = record { given = lowest-given (portion_causes_of p c); least = lowest-least 1 (portion_causes_of p c) (in_order p c) }
+exactly p c = record { given = lowest-given (portion_causes_of p c); least = lowest-least 1 (portion_causes_of p c) (rising 1 (portion_causes_of p c) (in_order p c)) }
 
 -- ---- refused: everything is left as it was
 refused-right : (p : StoredState) (c : PortionCall) (n : ℕ) → portion_refusal p c ≡ n → 0 < n → PortionDemand1 p c (portion_refused p c n)

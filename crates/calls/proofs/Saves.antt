@@ -28,7 +28,7 @@ use Rattle.tables.specs.Refusals as no
 use Rattle.tables.specs.Tables.{Tables}
 use Rattle.tables.specs.Limits.{Limits}
 use Rattle.tables.specs.Stored.{stored}
-use Rattle.runs.specs.Outcome.{Outcome, nothing}
+use Rattle.runs.specs.Outcome.{nothing}
 use Rattle.calls.specs.State.{State, StoredState, stored_state, state_of, Within, Kept}
 use Rattle.calls.specs.Rows.{◌if◌, changes, changing, row}
 use Rattle.calls.specs.Causes.{lowest, refusal}
