@@ -13,8 +13,8 @@ use Rattle.meaning.specs.Cells.{row_cells}
 use Rattle.meaning.specs.Agree.{first}
 use Rattle.meaning.proofs.SameRows.{best-same}
 use Rattle.cells.specs.Problem.{plan_problem, loads_for, shape_of}
-use Rattle.cells.specs.Work.{place_of, cells_needed, row_for}
-use Rattle.cells.specs.Claims.{Agree, Left, row_cell_in, RowsAgree}
+use Rattle.cells.specs.Work.{row_for}
+use Rattle.cells.specs.Claims.{Left, row_cell_in, RowsAgree}
 use Rattle.cells.proofs.Places.{place-room}
 use Rattle.cells.proofs.Stretches.{loads-long, cell_row}
 use Rattle.cells.proofs.Filling.{holds-none}

@@ -18,8 +18,8 @@ rule-at l j h = get_or-take l.count l.items j no_rule h
 pub rules-length : (l : TransitionList) → l.count ≤ length l.items → length (rules_of l) ≡ l.count
 rules-length l h = length-take-le l.count l.items h
 
-pub load_at : (l : LoadList) (j : ℕ) → j < l.count → get_or (loads_of l) j no_load ≡ get_or l.items j no_load
-load_at l j h = get_or-take l.count l.items j no_load h
+pub load-at : (l : LoadList) (j : ℕ) → j < l.count → get_or (loads_of l) j no_load ≡ get_or l.items j no_load
+load-at l j h = get_or-take l.count l.items j no_load h
 
 pub loads-length : (l : LoadList) → l.count ≤ length l.items → length (loads_of l) ≡ l.count
 loads-length l h = length-take-le l.count l.items h
@@ -27,7 +27,7 @@ loads-length l h = length-take-le l.count l.items h
 -- load k, as its place in the array holds it
 pub load_stored : (l : LoadList) (k : ℕ) → 0 < k → k ≤ l.count → get_or l.items (k - 1) no_load ≡ load_at (loads_of l) k
 load_stored l zero h m = absurd (omega arith)
-load_stored l (suc j) h m = let e : suc j - 1 ≡ j = omega arith in rw e (sym (load_at l j m))
+load_stored l (suc j) h m = let e : suc j - 1 ≡ j = omega arith in rw e (sym (load-at l j m))
 
 -- the numbers of the rules on paper are in range
 module _ {l : TransitionList} {low high g : ℕ} (ok : RulesIn l low high g) where

@@ -1,7 +1,7 @@
 -- The outline of a problem: what a search reads of the tables, looked up once and lent as numbers.
 -- It stands for "a row is to be worked out from the few figures it needs, with no whole planner copied for each child" of request Seven of
 -- paper 02. Assumes nothing.
-use Rattle.std.specs.Prelude.{ℕ, ◌+◌, ◌-◌, ◌*◌, ◌≤◌, ◌<◌, ◌≡◌, Bool, true, false, List, eqb, leb, length, get_or, set}
+use Rattle.std.specs.Prelude.{ℕ, ◌+◌, ◌-◌, ◌*◌, ◌≤◌, ◌<◌, ◌≡◌, Bool, true, List, eqb, leb, length, get_or, set}
 use Rattle.lists.specs.Tests.{pick}
 use Rattle.lists.specs.Argmax.{guard, Greatest, argmax}
 use Rattle.tables.specs.declared.rule.Transition.{Transition}

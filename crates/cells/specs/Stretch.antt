@@ -9,7 +9,7 @@ use Rattle.cells.specs.declared.problem.Shape.{Shape}
 use Rattle.cells.specs.declared.outline.Lead.{Lead}
 use Rattle.cells.specs.declared.outline.Joint.{Joint}
 use Rattle.cells.specs.Problem.{item_of}
-use Rattle.cells.specs.Outline.{of_row, joint_in, rules_in, best_in, Outlines}
+use Rattle.cells.specs.Outline.{joint_in, rules_in, best_in, Outlines}
 use Rattle.cells.specs.Work.{place_of, held_branch, held_row, Filled}
 use Rattle.cells.specs.Strip.{Rising}
 

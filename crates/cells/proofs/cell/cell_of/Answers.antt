@@ -1,6 +1,5 @@
 -- `cell_of` meets its contract. Assumes nothing.
 use native.Mathlib.Omega.{arith}
-use borrow.Author.Rules.{rules}
 use Rattle.cells.proofs.Numbers.{cell-is}
 use Rattle.cells.proofs.cell.cell_of.Goals as goal
 

@@ -1,6 +1,5 @@
 -- `floor_of` meets its contract. Assumes nothing.
 use native.Mathlib.Omega.{arith}
-use borrow.Author.Rules.{rules}
 use Rattle.meaning.specs.Cell.{floor}
 use Rattle.cells.proofs.cell.floor_of.Goals as goal
 

@@ -2,9 +2,7 @@
 use Prim.Native.Nat.{ℕ}
 use mathlib.Core.Path.{◌≡◌, refl, sym, ap, ◌∙◌}
 use mathlib.Core.Bool.{Bool, true, false, ◌&&◌}
-use mathlib.Core.Logic.{⊎_elim}
 use native.Mathlib.Omega.{arith}
-use borrow.Author.Rules.{rules}
 use lib.Dec.{eqb}
 use Rattle.lists.specs.Argmax.{guard}
 use Rattle.marks.specs.declared.LoadSet.{LoadSet}
@@ -13,6 +11,7 @@ use Rattle.tables.specs.declared.load.Load.{Load}
 use Rattle.meaning.specs.Forest.{Item, planned, checked}
 use Rattle.cells.specs.Problem.{items_if, any_mark, item_of}
 use Rattle.cells.proofs.outline.item_of.Goals as goal
+use Rattle.cells.proofs.outline.item_of.Goals.{then-has, else-has}
 
 true-right : (b : Bool) → b && true ≡ b
 true-right true = refl
@@ -42,8 +41,8 @@ pub returns-then-fixed : goal.returns-then-fixed
 returns-then-fixed c =
     let s = c.args in
     let by = fixed s.fixed s.set s.k s.l c.if-fixed.true _ c.has.ensures in
-    (⊎_elim (λ w. by true w.0.taken _ w.1) (λ w. by false w.0.left _ w.1) c.if-has.branch, omega arith, omega arith)
+    (elim c.if-has.branch [ then-has w ↦ by true w.if-has.true _ w.mark-is | else-has w ↦ by false w.if-has.false _ w.mark-is ], omega arith, omega arith)
 
 pub returns : goal.returns
-returns c = 
+returns c =
     (free c.args.fixed c.args.set c.args.k c.args.l c.if-fixed.false, c.requires.0, c.requires.1)

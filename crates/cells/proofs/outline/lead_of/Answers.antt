@@ -1,5 +1,4 @@
 -- `lead_of` meets its contract. Assumes nothing.
-use borrow.Author.Rules.{rules}
 use Rattle.cells.proofs.outline.lead_of.Goals as goal
 
 pub returns : goal.returns

@@ -1,5 +1,5 @@
 -- `next_rule` meets its contract: the rules from j below i do not begin there. Assumes nothing.
-use Prim.Native.Nat.{ℕ, ◌+◌, ◌-◌, ◌≤◌, ◌<◌}
+use Prim.Native.Nat.{ℕ, ◌+◌, ◌<◌}
 use mathlib.Core.Path.{◌≡◌, ◌∙◌, sym, ap}
 use mathlib.Core.List.{List}
 use mathlib.Core.Logic.{◌⊎◌, inl, inr}
@@ -7,11 +7,8 @@ use native.Mathlib.Nat.{eq-or-lt_of_le}
 use native.Mathlib.Omega.{arith}
 use Rattle.cells.specs.declared.outline.Rules.{Rules}
 use Rattle.cells.specs.Outline.{rule_in}
+use Rattle.cells.proofs.outline.next_rule.Invariants.{Passed}
 use Rattle.cells.proofs.outline.next_rule.Goals as goal
-
--- the rules from j below i are passed
-abbrev Passed : List ℕ → Rules → (j i : ℕ) → Type 0
-Passed o r j i = (m : ℕ) → j ≤ m → m < i → (rule_in o r.at m).from ≡ r.from → ⊥
 
 passed-more : (o : List ℕ) (r : Rules) (j i : ℕ) → Passed o r j i → ((rule_in o r.at i).from ≡ r.from → ⊥) → Passed o r j (i + 1)
 passed-more o r j i h n m l k = go (eq-or-lt_of_le (omega arith))
@@ -23,28 +20,10 @@ passed-more o r j i h n m l k = go (eq-or-lt_of_le (omega arith))
 pub loop-i-init : goal.loop-i-init
 loop-i-init c = (omega arith, omega arith, λ m l k e. absurd (omega arith))
 
-pub overflow_mul-i : goal.overflow_mul-i
-overflow_mul-i c = omega arith
-
-pub overflow_add-r : goal.overflow_add-r
-overflow_add-r c = omega arith
-
-pub offset_bounds-o-r : goal.offset_bounds-o-r
-offset_bounds-o-r c = omega arith
-
-pub bounds-o-r : goal.bounds-o-r
-bounds-o-r c = omega arith
-
 pub returns-then-o-r : goal.returns-then-o-r
 returns-then-o-r c =
     let l = c.loop-i in
     record { low = omega arith; high = omega arith; passed = l.invariant.2; found = λ h. c.if-o-r.true }
-
-pub overflow_add-i : goal.overflow_add-i
-overflow_add-i c = omega arith
-
-pub loop-i-smaller : goal.loop-i-smaller
-loop-i-smaller c = omega arith
 
 pub loop-i-preserved : goal.loop-i-preserved
 loop-i-preserved c =

@@ -1,15 +1,12 @@
 -- `put_loads` meets its contract: before each turn the loads after load i are written. Assumes nothing.
 use Prim.Native.Nat.{ℕ, suc, ◌+◌, ◌-◌, ◌≤◌, ◌<◌}
 use mathlib.Core.Path.{◌≡◌, refl, sym, ap, subst, ◌∙◌}
-use mathlib.Core.Bool.{Bool}
 use mathlib.Core.List.{List}
 use native.Mathlib.Numerals.{add-one}
 use native.Mathlib.Omega.{arith}
 use lib.ListN.{length, get_or, replicate}
-use Rattle.marks.specs.declared.LoadSet.{LoadSet}
 use Rattle.tables.specs.declared.load.Load.{Load}
 use Rattle.tables.specs.declared.load.LoadList.{LoadList}
-use Rattle.tables.specs.declared.tables.StoredBook.{StoredBook}
 use Rattle.tables.specs.Tables.{no_load}
 use Rattle.tables.specs.Limits.{max_loads, max_worth}
 use Rattle.meaning.specs.Cell.{power_limit}
@@ -17,14 +14,11 @@ use Rattle.cells.specs.declared.problem.Problem.{Problem}
 use Rattle.cells.specs.declared.problem.StoredItem.{StoredItem}
 use Rattle.cells.specs.Problem.{items_for, item_of, LoadsIn}
 use Rattle.cells.specs.Outline.{outline_size, with_load, LoadsPut}
-use Rattle.cells.proofs.Tables.{load_at}
+use Rattle.cells.proofs.Tables.{load-at}
 use Rattle.cells.proofs.Strips.{zeros}
 use Rattle.cells.proofs.Outlining.{zeros-long, loads-none, loads-more}
+use Rattle.cells.proofs.outline.put_loads.Invariants.{problem}
 use Rattle.cells.proofs.outline.put_loads.Goals as goal
-
--- a problem with these loads: the loop knows no more of it
-abbrev problem : LoadList → Bool → LoadSet → StoredBook → (budget : ℕ) → Problem
-problem l fixed σ b n = record { tables = record { book = b; loads = l; budget = n }; fixed = fixed; set = σ }
 
 -- the zeros at the start
 zero-at : (o : List ℕ) → o ≡ replicate outline_size 0 → (m : ℕ) → get_or o m 0 ≡ 0
@@ -33,17 +27,17 @@ zero-at o e m = ap (λ (x : List ℕ). get_or x m 0) e ∙ zeros outline_size m
 -- a load as its place in the array holds it
 module _ (l : LoadList) (ok : LoadsIn l) (j : ℕ) (h : j < l.count) where
   figures : ((get_or l.items j no_load).power < power_limit) × ((get_or l.items j no_load).worth ≤ max_worth)
-  figures = subst (λ (x : Load). (x.power < power_limit) × (x.worth ≤ max_worth)) (load_at l j h) (ok.powers j, ok.worths j)
+  figures = subst (λ (x : Load). (x.power < power_limit) × (x.worth ≤ max_worth)) (load-at l j h) (ok.powers j, ok.worths j)
 
   under : (get_or l.items j no_load).parent ≤ j
-  under = subst (λ (x : Load). x.parent ≤ j) (load_at l j h) (ok.parents j)
+  under = subst (λ (x : Load). x.parent ≤ j) (load-at l j h) (ok.parents j)
 
 -- a turn, as the code numbers the loads
 turn : (p : Problem) → LoadsIn p.tables.loads → p.tables.loads.count ≤ max_loads → {z o : List ℕ} (j : ℕ) → j < p.tables.loads.count
     → length o ≡ outline_size → LoadsPut p z (suc j) o → (i : StoredItem) → item_of i ≡ items_for p (j + 1) (get_or p.tables.loads.items j no_load)
     → i.power < power_limit → i.worth ≤ max_worth → LoadsPut p z j (with_load o (j + 1) (get_or p.tables.loads.items j no_load).parent i)
 turn p ok few {z} {o} j h n put i e a b =
-    let f = load_at p.tables.loads j h in
+    let f = load-at p.tables.loads j h in
     subst (λ x. LoadsPut p z j (with_load o x (get_or p.tables.loads.items j no_load).parent i)) (sym (add-one j))
     (subst (λ (x : Load). LoadsPut p z j (with_load o (suc j) x.parent i)) f
     (loads-more p ok few j n put h i
@@ -51,43 +45,28 @@ turn p ok few {z} {o} j h n put i e a b =
 
 pub loop-i-init : goal.loop-i-init
 loop-i-init c =
-    (omega arith, refl, λ b n. loads-none _ c.requires.0.loads c.requires.0.sane.loads _ (zero-at _ c.requires.1))
-
-pub overflow_sub-i : goal.overflow_sub-i
-overflow_sub-i c = omega arith
+    (omega arith, refl, λ b n. loads-none _ c.requires.lawful.loads c.requires.lawful.sane.loads _ (zero-at _ c.requires.o_value))
 
 pub offset_bounds-loads-i : goal.offset_bounds-loads-i
-offset_bounds-loads-i c = omega (arith, c.requires.0.sane.loads)
+offset_bounds-loads-i c = omega (arith, c.requires.lawful.sane.loads)
 
 pub bounds-loads-i : goal.bounds-loads-i
-bounds-loads-i c = omega (arith, c.requires.0.sane.loads)
-
-pub overflow_add-i : goal.overflow_add-i
-overflow_add-i c = omega arith
+bounds-loads-i c = omega (arith, c.requires.lawful.sane.loads)
 
 pub item_of-item-requires : goal.item_of-item-requires
-item_of-item-requires c = 
-    figures c.args.p.tables.loads c.requires.0.loads _ (omega arith)
-
-pub overflow_add-i-in-loop-i : goal.overflow_add-i-in-loop-i
-overflow_add-i-in-loop-i c = omega arith
-
-pub overflow_cast-l : goal.overflow_cast-l
-overflow_cast-l c = omega (arith, c.struct_known-1.given)
+item_of-item-requires c =
+    figures c.args.p.tables.loads c.requires.lawful.loads _ (omega arith)
 
 pub put_load-requires : goal.put_load-requires
 put_load-requires c =
     let l = c.loop-i in
     let e = c.item_of-item.ensures in (
-      l.invariant.1 ∙ zeros-long _ c.requires.1,
-      omega (arith, c.requires.0.sane.loads),
-      omega (arith, c.requires.0.sane.loads, under c.args.p.tables.loads c.requires.0.loads (l.i - 1) (omega arith)),
+      l.invariant.1 ∙ zeros-long _ c.requires.o_value,
+      omega (arith, c.requires.lawful.sane.loads),
+      omega (arith, c.requires.lawful.sane.loads, under c.args.p.tables.loads c.requires.lawful.loads (l.i - 1) (omega arith)),
       e.1,
       e.2,
     )
-
-pub loop-i-smaller : goal.loop-i-smaller
-loop-i-smaller c = omega arith
 
 pub loop-i-preserved : goal.loop-i-preserved
 loop-i-preserved c =
@@ -96,11 +75,11 @@ loop-i-preserved c =
     let ls = c.args.p.tables.loads in
     let e : l.i ≡ suc (l.i - 1) = omega arith in (
       omega arith,
-      c.o-1.given ∙ l.invariant.1,
+      omega arith,
       λ b n.
           let p = problem ls c.args.p.fixed c.args.p.set b n in
           subst (λ x. LoadsPut p c.args.o.now (l.i - 1) x) (sym c.put_load.ensures)
-          (turn p c.requires.0.loads c.requires.0.sane.loads (l.i - 1) (omega arith) (l.invariant.1 ∙ zeros-long _ c.requires.1)
+          (turn p c.requires.lawful.loads c.requires.lawful.sane.loads (l.i - 1) (omega arith) (l.invariant.1 ∙ zeros-long _ c.requires.o_value)
           (subst (λ x. LoadsPut p c.args.o.now x l.o) e (l.invariant.2 b n)) i.result i.ensures.0 i.ensures.1 i.ensures.2),
     )
 

@@ -1,10 +1,8 @@
 -- `put_rules` meets its contract: before each turn the rules below are written. Assumes nothing.
-use Prim.Native.Nat.{◌+◌, ◌-◌, ◌≤◌}
-use mathlib.Core.Path.{◌≡◌, refl, sym, subst, ◌∙◌}
-use native.Mathlib.Omega.{arith}
+use Prim.Native.Nat.{◌-◌, ◌≤◌}
+use mathlib.Core.Path.{◌≡◌}
 use lib.ListN.{length}
 use Rattle.cells.specs.Outline.{RulesPut}
-use Rattle.cells.proofs.Outlining.{rules-none, rules-more}
 use Rattle.cells.proofs.outline.put_rules.Given as goal
 
 abbrev pub invariant-loop-j : goal.invariant-loop-j

@@ -1,7 +1,6 @@
 -- `draw_of` meets its contract. Assumes nothing.
 use Prim.Native.Nat.{ℕ, zero, suc}
 use mathlib.Core.Path.{◌≡◌, refl}
-use borrow.Author.Rules.{rules}
 use Rattle.meaning.specs.Sets.{counted}
 use Rattle.cells.proofs.problem.draw_of.Goals as goal
 

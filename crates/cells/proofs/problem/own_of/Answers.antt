@@ -2,7 +2,6 @@
 use Prim.Native.Nat.{ℕ, zero, suc}
 use mathlib.Core.Path.{◌≡◌, refl, ◌∙◌}
 use native.Mathlib.Omega.{arith}
-use borrow.Author.Rules.{rules}
 use Rattle.meaning.specs.Sets.{counted}
 use Rattle.meaning.specs.Cell.{cell, empty}
 use Rattle.cells.proofs.Numbers.{empty-is}
@@ -22,4 +21,4 @@ returns-then-mark-eq0 c = let i = c.args.i in (empty-is ∙ off _ i.power i.wort
 pub returns : goal.returns
 returns c =
     let i = c.args.i in
-    (c.«cell-of».ensures.0 ∙ on _ i.power i.worth c.if-mark-eq0.false, c.«cell-of».ensures.1)
+    (c.cell_of.ensures.0 ∙ on _ i.power i.worth c.if-mark-eq0.false, c.cell_of.ensures.1)

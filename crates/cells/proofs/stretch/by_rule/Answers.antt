@@ -3,7 +3,6 @@ use Prim.Native.Nat.{ℕ}
 use mathlib.Core.Path.{◌≡◌, sym, ap, ◌∙◌}
 use mathlib.Core.Bool.{Bool, true, false}
 use mathlib.Core.List.{List}
-use borrow.Author.Rules.{rules}
 use Rattle.meaning.specs.Best.{load_reach, row_reach}
 use Rattle.cells.specs.declared.problem.Shape.{Shape}
 use Rattle.cells.specs.declared.outline.Lead.{Lead}
@@ -24,28 +23,35 @@ module _ (sh : Shape) (w : List ℕ) (t : Joint) (x : Lead) (a : ℕ) where
 
 pub raise_split-requires : goal.raise_split-requires
 raise_split-requires c =
-    let j = c.requires.0.1 in
-    let r = c.requires.0.2 in
+    let j = c.requires.ready.1 in
+    let r = c.requires.ready.2 in
     let q = r.state c.if-t.true in
-    (c.requires.0.0, ((j.low, j.high, j.rest, c.requires.1.0, c.requires.1.1), (q.0, q.1, r.low, r.high)))
+    record {
+      ready = c.requires.ready.0;
+      k_nonzero = (j.low, j.high, j.rest, c.requires.to_bound.0, c.requires.to_bound.1);
+      q_nonzero = (q.0, q.1, r.low, r.high);
+    }
 
 pub returns-then-t : goal.returns-then-t
 returns-then-t c =
     let e = c.if-t.true in
-    let r = c.requires.0.2 in
+    let r = c.requires.ready.2 in
     let q = r.state e in
     λ h. raised-agree (c.raise_split.ensures ((h e).branches c.args.lead.label q.0 q.1) ((h e).rows c.args.lead.stage r.low r.high)) _
     (λ a l m. of_row c.args.sh c.args.work.now c.args.t c.args.lead a e)
 
 pub own_of-own-requires : goal.own_of-own-requires
 own_of-own-requires c =
-    let j = c.requires.0.1 in
+    let j = c.requires.ready.1 in
     (j.power, j.worth)
 
 pub lift_row-requires : goal.lift_row-requires
 lift_row-requires c =
-    let r = c.requires.0.2 in
-    (c.requires.0.0, (c.requires.0.1.rest, r.low, r.high, c.requires.1.0, c.requires.1.1, c.own_of-own.ensures.1))
+    let r = c.requires.ready.2 in
+    record {
+      ready = c.requires.ready.0;
+      load_le_loads = (c.requires.ready.1.rest, r.low, r.high, c.requires.to_bound.0, c.requires.to_bound.1, c.own_of-own.ensures.1);
+    }
 
 pub returns-then-serves : goal.returns-then-serves
 returns-then-serves c =

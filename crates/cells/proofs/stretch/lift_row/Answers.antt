@@ -4,7 +4,6 @@ use mathlib.Core.Path.{◌≡◌, refl, sym, ap, ◌∙◌, subst}
 use mathlib.Core.Bool.{Bool, true, false}
 use mathlib.Core.List.{List}
 use native.Mathlib.Omega.{arith}
-use borrow.Author.Rules.{rules}
 use lib.Dec.{leb}
 use Rattle.lists.specs.Argmax.{guard}
 use Rattle.marks.specs.Bits.{has_mark}
@@ -53,7 +52,7 @@ pub lift-requires : goal.lift-requires
 lift-requires c =
     let h = place-room c.args.sh c.args.row.load (c.args.sh.states + (c.args.row.stage - 1)) (omega arith) (omega arith) (omega arith) in
     let e = c.place-at.ensures in
-    let r = c.requires.0.room in
+    let r = c.requires.ready.room in
     (omega arith, omega arith, omega arith)
 
 pub returns : goal.returns

@@ -1,14 +1,10 @@
 -- `raise` meets its contract: before each turn the strip is raised to the best of the rules below the next one. Assumes nothing.
 use Prim.Native.Nat.{◌-◌, ◌≤◌, ◌<◌}
-use mathlib.Core.Path.{◌≡◌, refl, ◌∙◌, subst}
-use native.Mathlib.Omega.{arith}
-use borrow.Author.Rules.{rules}
+use mathlib.Core.Path.{◌≡◌}
 use lib.ListN.{length}
 use Rattle.cells.specs.Outline.{rule_in}
 use Rattle.cells.specs.Stretch.{reach_of, Sound}
-use Rattle.cells.proofs.Strips.{raised-agree, raised-start}
-use Rattle.cells.proofs.Served.{reach-leading, fits-leading}
-use Rattle.cells.proofs.Rules.{term, Ruled, strip-passed, strip-raised}
+use Rattle.cells.proofs.Rules.{Ruled}
 use Rattle.cells.proofs.stretch.raise.Given as goal
 
 abbrev pub invariant-loop-j : goal.invariant-loop-j

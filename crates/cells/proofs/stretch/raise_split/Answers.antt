@@ -4,7 +4,6 @@ use mathlib.Core.Path.{◌≡◌, sym, ap, ◌∙◌, subst}
 use mathlib.Core.Bool.{Bool, true, false}
 use mathlib.Core.List.{List}
 use native.Mathlib.Omega.{arith}
-use borrow.Author.Rules.{rules}
 use Rattle.lists.specs.Argmax.{guard}
 use Rattle.marks.specs.Bits.{has_mark}
 use Rattle.meaning.specs.Cell.{power_limit, empty}
@@ -45,7 +44,7 @@ pub lift-requires : goal.lift-requires
 lift-requires c =
     let h = place-room c.args.sh c.args.k (c.args.q - 1) (omega arith) (omega arith) (omega arith) in
     let e = c.place-x.ensures in
-    let r = c.requires.0.room in
+    let r = c.requires.ready.room in
     (omega arith, omega arith, omega arith)
 
 pub returns-then-has : goal.returns-then-has
@@ -66,7 +65,7 @@ share-requires c =
     let h2 = place-room c.args.sh c.args.row.load (c.args.sh.states + (c.args.row.stage - 1)) (omega arith) (omega arith) (omega arith) in
     let e = c.place-x.ensures in
     let e2 = c.place-y.ensures in
-    let r = c.requires.0.room in
+    let r = c.requires.ready.room in
     (omega arith, omega arith, omega arith)
 
 pub returns : goal.returns

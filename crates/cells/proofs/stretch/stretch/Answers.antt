@@ -3,7 +3,6 @@ use Prim.Native.Nat.{ℕ, ◌+◌, ◌≤◌, ◌<◌}
 use mathlib.Core.Path.{◌≡◌, sym, ap, ◌∙◌, subst}
 use mathlib.Core.List.{List}
 use native.Mathlib.Omega.{arith}
-use borrow.Author.Rules.{rules}
 use lib.ListN.{get_or, length-replicate}
 use Rattle.cells.specs.declared.problem.Shape.{Shape}
 use Rattle.cells.specs.declared.outline.Joint.{Joint}
@@ -31,31 +30,27 @@ module _ (sh : Shape) (o w v s : List ℕ) (k x from to : ℕ) where
   }
 
 pub joint_at-t-requires : goal.joint_at-t-requires
-joint_at-t-requires c =  (c.requires.0.1.long, omega (arith, c.requires.1.1, c.requires.0.0.sane.loads))
+joint_at-t-requires c = (c.requires.ready.1.long, omega (arith, c.requires.k_nonzero.1, c.requires.ready.0.sane.loads))
 
 pub rules_at-r-requires : goal.rules_at-r-requires
-rules_at-r-requires c =  (c.requires.0.1.long, omega (arith, c.requires.1.2, c.requires.0.0.sane.states, c.requires.0.0.sane.stages))
+rules_at-r-requires c = (c.requires.ready.1.long, omega (arith, c.requires.k_nonzero.2, c.requires.ready.0.sane.states, c.requires.ready.0.sane.stages))
 
 pub raise-requires : goal.raise-requires
 raise-requires c =
-    let s = c.before in
     let z = length-replicate {A = ℕ} 512 0 in
-    let f = looked-up s.args.sh s.args.o.now s.requires.0.1 s.args.k s.args.x s.requires.1.0 s.requires.1.1 _ _ c.joint-at.ensures c.rules-at.ensures in
-    ((s.requires.0.0, f.0, f.1), (s.requires.1.4, omega (arith, s.requires.1.4, s.requires.0.0.sane.budget)))
+    let f = looked-up c.args.sh c.args.o.now c.requires.ready.1 c.args.k c.args.x c.requires.k_nonzero.0 c.requires.k_nonzero.1 _ _ c.joint_at-t.ensures c.rules_at-r.ensures in
+    record { ready = (c.requires.ready.0, f.0, f.1); to_bound = (c.requires.k_nonzero.4, omega (arith, c.requires.k_nonzero.4, c.requires.ready.0.sane.budget)) }
 
 pub place-at-requires : goal.place-at-requires
-place-at-requires c = let s = c.before in (s.requires.0.0.sane, (s.requires.1.1, s.requires.1.2))
+place-at-requires c = record { sane = c.requires.ready.0.sane; k_le_loads = (c.requires.k_nonzero.1, c.requires.k_nonzero.2) }
 
 pub store-requires : goal.store-requires
 store-requires c =
-    let s = c.before in
-    let n = s.requires.1 in
-    let r = place-room s.args.sh s.args.k s.args.x n.0 n.1 n.2 in
-    let z = c.strip-2-1.given in
-    (n.3, omega (arith, n.4, s.requires.0.0.sane.budget), omega (arith, c.place-at.ensures, s.requires.0.0.room, n.4))
+    let n = c.requires.k_nonzero in
+    let r = place-room c.args.sh c.args.k c.args.x n.0 n.1 n.2 in
+    (n.3, omega (arith, n.4, c.requires.ready.0.sane.budget), omega (arith, c.place-at.ensures, c.requires.ready.0.room, n.4))
 
 pub returns : goal.returns
 returns c =
-    let s = c.before in
-    worked s.args.sh s.args.o.now s.args.work.now _ _ s.args.k s.args.x s.args.from s.args.to _ _ _
-    c.place-at.ensures c.joint-at.ensures c.rules-at.ensures (λ g. zeros-raised 512 (c.raise.ensures g)) c.store.ensures
+    worked c.args.sh c.args.o.now c.args.work.now _ _ c.args.k c.args.x c.args.from c.args.to _ _ _
+    c.place-at.ensures c.joint_at-t.ensures c.rules_at-r.ensures (λ g. zeros-raised 512 (c.raise.ensures g)) c.store.ensures

@@ -1,13 +1,10 @@
 -- `flat` meets its contract: before each turn the strip is raised below the allowance, and as it came from there on. Assumes nothing.
 use Prim.Native.Nat.{◌≤◌, ◌-◌}
-use mathlib.Core.Path.{◌≡◌, refl, sym, ◌∙◌}
-use native.Mathlib.Omega.{arith}
-use borrow.Author.Rules.{rules}
-use lib.ListN.{length, length-set}
+use mathlib.Core.Path.{◌≡◌}
+use lib.ListN.{length}
 use Rattle.meaning.specs.Cell.{empty}
-use Rattle.meaning.proofs.Cell.{⊕-empty}
 use Rattle.cells.specs.Strip.{moved}
-use Rattle.cells.proofs.Strips.{Part, part_none, part-more, part-done, moved_at, moved_none}
+use Rattle.cells.proofs.Strips.{Part}
 use Rattle.cells.proofs.strip.flat.Given as goal
 
 abbrev pub invariant-loop-a : goal.invariant-loop-a

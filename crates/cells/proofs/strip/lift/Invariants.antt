@@ -1,13 +1,10 @@
 -- `lift` meets its contract: before each turn the strip is raised below the allowance, and as it came from there on. Assumes nothing.
 use Prim.Native.Nat.{◌≤◌, ◌-◌}
-use mathlib.Core.Path.{◌≡◌, refl, sym, ap, ◌∙◌}
-use native.Mathlib.Omega.{arith}
-use borrow.Author.Rules.{rules}
-use lib.ListN.{length, length-set}
-use Rattle.meaning.specs.Cell.{◌⊕◌}
+use mathlib.Core.Path.{◌≡◌}
+use lib.ListN.{length}
 use Rattle.cells.specs.Work.{cells_from}
 use Rattle.cells.specs.Strip.{moved}
-use Rattle.cells.proofs.Strips.{Part, part_none, part-more, part-done, joined-le, moved_at, moved_none}
+use Rattle.cells.proofs.Strips.{Part}
 use Rattle.cells.proofs.strip.lift.Given as goal
 
 abbrev pub invariant-loop-a : goal.invariant-loop-a

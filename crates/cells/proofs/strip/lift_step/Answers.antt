@@ -1,6 +1,5 @@
 -- `lift_step` meets its contract: a cell that is no worse than the empty set's adds as much to each cell that is not 0. Assumes nothing.
 use native.Mathlib.Omega.{arith}
-use borrow.Author.Rules.{rules}
 use Rattle.cells.proofs.Strips.{raised-more}
 use Rattle.cells.proofs.strip.lift_step.Goals as goal
 

@@ -1,6 +1,5 @@
 -- `lighter` is safe and ends. Assumes nothing.
 use Prim.Native.Nat.{◌-◌, ◌≤◌}
-use borrow.Author.Rules.{rules}
 use Rattle.cells.proofs.strip.lighter.Given as goal
 
 abbrev pub invariant-loop-b : goal.invariant-loop-b

@@ -1,9 +1,6 @@
 -- `passed` meets its contract: what is passed over grows by a stride. Assumes nothing.
 use Prim.Native.Nat.{◌+◌, ◌-◌}
 use native.Mathlib.Omega.{arith}
-use borrow.Author.Rules.{rules}
-use Rattle.cells.specs.Work.{cells_from}
-use Rattle.cells.specs.Strip.{Passed}
 use Rattle.cells.proofs.Shares.{passed_none, passed_then, passed-stride}
 use Rattle.cells.proofs.strip.passed.Goals as goal
 
@@ -11,7 +8,7 @@ pub loop-c-init : goal.loop-c-init
 loop-c-init c = passed_none c.requires.0
 
 pub returns-then-held-last : goal.returns-then-held-last
-returns-then-held-last c = (c.loop-c.invariant, λ l e. absurd (omega arith))
+returns-then-held-last c = record { over = c.loop-c.invariant; far = λ l e. absurd (omega arith) }
 
 pub loop-c-preserved : goal.loop-c-preserved
 loop-c-preserved c =
@@ -20,4 +17,4 @@ loop-c-preserved c =
     passed_then l.invariant (passed-stride l.c (l.c + (s.stride - 1)) _ (omega arith) (omega arith) (omega arith) (omega arith))
 
 pub returns : goal.returns
-returns c = (c.loop-c.invariant, λ l e. absurd (omega arith))
+returns c = record { over = c.loop-c.invariant; far = λ l e. absurd (omega arith) }

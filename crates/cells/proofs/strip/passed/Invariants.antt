@@ -1,10 +1,7 @@
 -- `passed` meets its contract: what is passed over grows by a stride. Assumes nothing.
-use Prim.Native.Nat.{◌+◌, ◌-◌}
-use native.Mathlib.Omega.{arith}
-use borrow.Author.Rules.{rules}
+use Prim.Native.Nat.{◌-◌}
 use Rattle.cells.specs.Work.{cells_from}
 use Rattle.cells.specs.Strip.{Passed}
-use Rattle.cells.proofs.Shares.{passed_none, passed_then, passed-stride}
 use Rattle.cells.proofs.strip.passed.Given as goal
 
 abbrev pub invariant-loop-c : goal.invariant-loop-c

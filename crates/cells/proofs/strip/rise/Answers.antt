@@ -1,11 +1,9 @@
 -- `rise` meets its contract: before each turn the strip is raised below the allowance, and as it came from there on. Assumes nothing.
-use Prim.Native.Nat.{◌+◌, ◌-◌, ◌≤◌}
-use mathlib.Core.Path.{◌≡◌, refl, ap}
+use Prim.Native.Nat.{◌+◌}
+use mathlib.Core.Path.{refl, ap}
 use native.Mathlib.Omega.{arith}
-use borrow.Author.Rules.{rules}
-use lib.ListN.{length, length-set}
-use Rattle.cells.specs.Work.{cells_from}
-use Rattle.cells.proofs.Strips.{Part, part_none, part-more, part-done}
+use lib.ListN.{length-set}
+use Rattle.cells.proofs.Strips.{part_none, part-more, part-done}
 use Rattle.cells.proofs.strip.rise.Goals as goal
 
 pub loop-a-init : goal.loop-a-init

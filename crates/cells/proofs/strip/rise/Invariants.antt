@@ -1,11 +1,9 @@
 -- `rise` meets its contract: before each turn the strip is raised below the allowance, and as it came from there on. Assumes nothing.
 use Prim.Native.Nat.{◌+◌, ◌-◌, ◌≤◌}
-use mathlib.Core.Path.{◌≡◌, refl, ap}
-use native.Mathlib.Omega.{arith}
-use borrow.Author.Rules.{rules}
-use lib.ListN.{length, length-set}
+use mathlib.Core.Path.{◌≡◌}
+use lib.ListN.{length}
 use Rattle.cells.specs.Work.{cells_from}
-use Rattle.cells.proofs.Strips.{Part, part_none, part-more, part-done}
+use Rattle.cells.proofs.Strips.{Part}
 use Rattle.cells.proofs.strip.rise.Given as goal
 
 abbrev pub invariant-loop-a : goal.invariant-loop-a

@@ -1,5 +1,4 @@
 -- `share` meets its contract: either of the two may lead. Assumes nothing.
-use borrow.Author.Rules.{rules}
 use Rattle.cells.proofs.Strips.{raised-agree}
 use Rattle.cells.proofs.Shares.{shares-swap}
 use Rattle.cells.proofs.strip.share.Goals as goal

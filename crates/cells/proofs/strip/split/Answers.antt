@@ -1,11 +1,9 @@
 -- `split` meets its contract: before each turn the strip is raised to the parts below the next step. Assumes nothing.
-use Prim.Native.Nat.{ℕ, ◌+◌, ◌-◌, ◌≤◌}
-use mathlib.Core.Path.{◌≡◌, refl, ◌∙◌, subst}
+use Prim.Native.Nat.{ℕ, ◌+◌}
+use mathlib.Core.Path.{◌≡◌, refl, subst}
 use mathlib.Core.List.{List}
 use native.Mathlib.Numerals.{add-one}
 use native.Mathlib.Omega.{arith}
-use borrow.Author.Rules.{rules}
-use lib.ListN.{length}
 use Rattle.cells.specs.Work.{cells_from}
 use Rattle.cells.specs.Strip.{moved, Raised, Rising, Passed}
 use Rattle.cells.proofs.Shares.{passed-starts, Shared, before, shared-none, shared-skip, shared-take, shared-done}
@@ -29,9 +27,9 @@ turn s t w x y from to c p v e u r n q =
 pub loop-c-init : goal.loop-c-init
 loop-c-init c =
     let s = c.args in (
-      c.next_step-c.ensures.0.high,
+      c.next_step-c.ensures.over.high,
       refl,
-      start s.strip.now s.cells.now s.x s.y s.from s.to _ c.next_step-c.ensures.0,
+      start s.strip.now s.cells.now s.x s.y s.from s.to _ c.next_step-c.ensures.over,
     )
 
 pub loop-c-preserved : goal.loop-c-preserved
@@ -39,11 +37,11 @@ loop-c-preserved c =
     let l = c.loop-c in
     let f = c.next_step-first.ensures in
     let s = c.args in (
-      c.next_step-c-in-loop-c.ensures.0.high,
-      c.strip-1.given ∙ l.invariant.1,
+      c.next_step-c-in-loop-c.ensures.over.high,
+      omega arith,
       turn s.strip.now l.strip s.cells.now s.x s.y s.from s.to l.c l.invariant.2
-          _ c.held-v.ensures _ (λ k. c.lift_step.ensures (passed-starts k f.0 f.1))
-          _ c.next_step-c-in-loop-c.ensures.0,
+          _ c.held-v.ensures _ (λ k. c.lift_step.ensures (passed-starts k f.over f.step))
+          _ c.next_step-c-in-loop-c.ensures.over,
     )
 
 pub returns : goal.returns

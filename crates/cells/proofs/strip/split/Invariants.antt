@@ -1,14 +1,9 @@
 -- `split` meets its contract: before each turn the strip is raised to the parts below the next step. Assumes nothing.
-use Prim.Native.Nat.{ℕ, ◌+◌, ◌-◌, ◌≤◌}
-use mathlib.Core.Path.{◌≡◌, refl, ◌∙◌, subst}
-use mathlib.Core.List.{List}
-use native.Mathlib.Numerals.{add-one}
-use native.Mathlib.Omega.{arith}
-use borrow.Author.Rules.{rules}
+use Prim.Native.Nat.{◌-◌, ◌≤◌}
+use mathlib.Core.Path.{◌≡◌}
 use lib.ListN.{length}
 use Rattle.cells.specs.Work.{cells_from}
-use Rattle.cells.specs.Strip.{moved, Raised, Rising, Passed}
-use Rattle.cells.proofs.Shares.{passed-starts, Shared, before, shared-none, shared-skip, shared-take, shared-done}
+use Rattle.cells.proofs.Shares.{Shared}
 use Rattle.cells.proofs.strip.split.Given as goal
 
 abbrev pub invariant-loop-c : goal.invariant-loop-c

@@ -1,10 +1,8 @@
 -- `store` meets its contract: before each turn the allowances below are stored. Assumes nothing.
 use Prim.Native.Nat.{◌≤◌, ◌-◌}
-use mathlib.Core.Path.{◌≡◌, refl, subst}
-use native.Mathlib.Omega.{arith}
-use lib.ListN.{length, length-set}
+use mathlib.Core.Path.{◌≡◌}
+use lib.ListN.{length}
 use Rattle.cells.specs.Strip.{Stored}
-use Rattle.cells.proofs.Strips.{stored-none, stored_more}
 use Rattle.cells.proofs.strip.store.Given as goal
 
 abbrev pub invariant-loop-a : goal.invariant-loop-a

@@ -1,11 +1,9 @@
 -- `clear` meets its contract: before turn i the first i cells are 0, and the others as they came. Assumes nothing.
-use Prim.Native.Nat.{◌-◌, ◌≤◌}
 use mathlib.Core.Path.{◌≡◌, refl, ap, ◌∙◌}
-use mathlib.Core.List.{◌++◌}
 use native.Mathlib.Omega.{arith}
 use borrow.Author.Rules.{rules}
 use borrow.Author.Fill.{fill_none, fill_more}
-use lib.ListN.{length, set, drop, replicate, length-set}
+use lib.ListN.{set, length-set}
 use Rattle.cells.proofs.work.clear.Goals as goal
 
 pub loop-i-preserved : goal.loop-i-preserved
@@ -18,9 +16,6 @@ returns c = let e : c.loop-i.i ≡ c.args.n = omega arith in c.loop-i.invariant.
 
 pub loop-i-init : goal.loop-i-init
 loop-i-init c = (search rules, fill_none _ 0, refl)
-
-pub bounds-work-i : goal.bounds-work-i
-bounds-work-i c = omega arith
 
 pub shape_of-work : goal.shape_of-work
 shape_of-work c = c.loop-i.invariant.2

@@ -1,11 +1,8 @@
 -- `clear` meets its contract: before turn i the first i cells are 0, and the others as they came. Assumes nothing.
 use Prim.Native.Nat.{◌-◌, ◌≤◌}
-use mathlib.Core.Path.{◌≡◌, refl, ap, ◌∙◌}
+use mathlib.Core.Path.{◌≡◌}
 use mathlib.Core.List.{◌++◌}
-use native.Mathlib.Omega.{arith}
-use borrow.Author.Rules.{rules}
-use borrow.Author.Fill.{fill_none, fill_more}
-use lib.ListN.{length, set, drop, replicate, length-set}
+use lib.ListN.{length, drop, replicate}
 use Rattle.cells.proofs.work.clear.Given as goal
 
 abbrev pub invariant-loop-i : goal.invariant-loop-i
