@@ -1,17 +1,22 @@
 -- The lowest rule that reaches the best is found by comparing, and what is chosen by it is what the definition chooses. Assumes nothing.
-use Prim.Native.Nat.{ℕ, suc, ◌+◌, ◌-◌, ◌<◌}
+use Prim.Native.Nat.{ℕ, suc, ◌+◌, ◌-◌, ◌≤◌, ◌<◌}
 use mathlib.Core.Path.{◌≡◌, refl, sym, ap, ap₂, ◌∙◌}
 use mathlib.Core.Bool.{Bool, true, false}
 use mathlib.Core.List.{List}
+use mathlib.Core.Logic.{◌⊎◌, inl, inr}
+use native.Mathlib.Nat.{eq-or-lt_of_le}
+use native.Mathlib.Omega.{arith}
+use native.Mathlib.Decide.{dec_lt}
 use native.Mathlib.Numerals.{add-one}
-use Rattle.lists.specs.Argmax.{argmax}
+use Rattle.lists.proofs.Argmax.{argmax-bound}
 use Rattle.cells.specs.declared.problem.Shape.{Shape}
 use Rattle.cells.specs.declared.outline.Lead.{Lead}
 use Rattle.cells.specs.declared.outline.Joint.{Joint}
 use Rattle.cells.specs.declared.outline.Rules.{Rules}
-use Rattle.cells.specs.Outline.{rule_in, lead_in, best_in}
+use Rattle.cells.specs.Outline.{rule_in, lead_in, best_in, NextRule}
 use Rattle.cells.specs.Stretch.{leading, reach_of}
-use Rattle.cells.proofs.Rules.{term}
+use Rattle.cells.proofs.Rules.{term, term-met, term-passed}
+use Rattle.cells.proofs.Served.{reach-leading}
 use Rattle.engine.specs.declared.choice.Choice.{Choice}
 use Rattle.engine.specs.Search.{share_if, share_of, choice_by, choice_in}
 use Rattle.engine.proofs.Search.{argmax-met}
@@ -51,3 +56,30 @@ module _ (sh : Shape) (o w : List ℕ) (t : Joint) (r : Rules) (c j : ℕ) where
   chosen_is h pos e first x s ex es =
       by-lead x s ex es
       ∙ ap (λ i. choice_by sh w t c i (rule_in o r.at i)) (sym (argmax-met (term o r (reach_of sh w t c)) r.count j h pos e first))
+
+module _ (sh : Shape) (o w : List ℕ) (t : Joint) (r : Rules) (c goal : ℕ) where
+  -- no rule below j reaches the goal, if that is the best
+  abbrev pub Missed : ℕ → Type 0
+  Missed j = goal ≡ (best_in o r (reach_of sh w t c)).value → 0 < goal → (m : ℕ) → m < j → term o r (reach_of sh w t c) m ≡ goal → ⊥
+
+  pub pass : (j i : ℕ) → Missed j → NextRule o r j i → Missed i
+  pass j i h n e pos m l q = go (dec_lt m j)
+    where
+      go : Dec (m < j) → ⊥
+      go (yes k) = h e pos m k q
+      go (no k) = absurd (omega (arith, term-passed o r (reach_of sh w t c) m (n.passed m (omega arith) l)))
+
+  pub miss : (j : ℕ) → Missed j → (goal ≡ (best_in o r (reach_of sh w t c)).value → 0 < goal → term o r (reach_of sh w t c) j ≡ goal → ⊥) → Missed (j + 1)
+  miss j h k e pos m l q = go (eq-or-lt_of_le (omega arith))
+    where
+      go : (m ≡ j) ⊎ (m < j) → ⊥
+      go (inl u) = k e pos (rw u at q)
+      go (inr u) = h e pos m u q
+
+  -- what rule j reaches, by what it leads to, and that it is no more than the best
+  module _ (j : ℕ) (x : Lead) (h : j < r.count) (b : (rule_in o r.at j).from ≡ r.from) (e : x ≡ lead_in o r.at j) where
+    pub by-rule : reach_of sh w t c (leading x) ≡ term o r (reach_of sh w t c) j
+    by-rule = reach-leading sh o r.at j x e w t c ∙ sym (term-met o r (reach_of sh w t c) j b)
+
+    pub no_more : goal ≡ (best_in o r (reach_of sh w t c)).value → reach_of sh w t c (leading x) ≤ goal
+    no_more q = omega (arith, by-rule, argmax-bound (term o r (reach_of sh w t c)) r.count j h)

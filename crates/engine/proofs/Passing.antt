@@ -1,5 +1,5 @@
 -- The pass: what is chosen for a load that was reached is the run's, and the rows that it leads to are part of the run. Assumes nothing.
-use Prim.Native.Nat.{ℕ, zero, suc, ◌+◌, ◌-◌, ◌≤◌, ◌<◌}
+use Prim.Native.Nat.{ℕ, zero, suc, ◌-◌, ◌≤◌, ◌<◌}
 use mathlib.Core.Path.{◌≡◌, refl, sym, ap, ap₂, ◌∙◌}
 use mathlib.Core.Bool.{Bool, true, false}
 use mathlib.Core.List.{[], ◌∷◌, ◌++◌}
@@ -8,7 +8,7 @@ use native.Mathlib.Nat.{eq-or-lt_of_le, le_refl, sub-le, le_trans}
 use native.Mathlib.Omega.{arith}
 use borrow.Author.Tests.{eqb-true, eqb-false, le-leb}
 use lib.Dec.{eqb}
-use lib.ListN.{length, get_or, set, length-set}
+use lib.ListN.{get_or, set, length-set}
 use lib.Seq.{get_or-set_same, get_or-set_other}
 use Rattle.tables.specs.Limits.{max_loads}
 use Rattle.tables.specs.Stored.{book_of}
@@ -25,7 +25,7 @@ use Rattle.runs.specs.declared.run.Run.{Run}
 use Rattle.engine.specs.declared.pass.Rows.{Rows}
 use Rattle.engine.specs.declared.pass.Pass.{Pass}
 use Rattle.runs.specs.Runs.{run_of, with_entry}
-use Rattle.engine.specs.Parts.{start_best, load_rule, row_rule}
+use Rattle.engine.specs.Parts.{start_best, load_rule}
 use Rattle.engine.specs.Pass.{entries_for, load_choice, row_choice, within, entered, passed_load, BranchEntered, RowEntered, Opens, Known, Full, Passed}
 use Rattle.runs.proofs.Runs.{order-length, order-next, run-snoc}
 use Rattle.engine.proofs.Parts.{load-reached, row-found, share-reached, root-part, below-part, shown-mark, shown-rules, branch-part, later-part}

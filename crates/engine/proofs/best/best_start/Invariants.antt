@@ -1,18 +1,12 @@
 -- `best_start` meets its contract: the best of the states up to s is kept. Assumes nothing.
-use Prim.Native.Nat.{suc, ◌-◌, ◌≤◌}
-use mathlib.Core.Path.{◌≡◌, ap, ◌∙◌}
-use native.Mathlib.Omega.{arith}
-use borrow.Author.Rules.{rules}
+use Prim.Native.Nat.{suc, ◌≤◌}
+use mathlib.Core.Path.{◌≡◌}
 use Rattle.lists.specs.Argmax.{guard, argmax}
 use Rattle.marks.specs.Bits.{has_mark}
 use Rattle.cells.specs.Work.{held_branch}
 use Rattle.engine.specs.Search.{greatest_of}
-use Rattle.engine.proofs.Search.{greatest-none, greatest-turn}
 use Rattle.engine.proofs.best.best_start.Given as goal
 
 abbrev pub invariant-loop-s : goal.invariant-loop-s
 invariant-loop-s l =
     (l.s ≤ l.n) × (greatest_of l.best ≡ argmax (λ z. guard (has_mark l.sh.starts.0 (suc z)) (held_branch l.sh l.work 1 (suc z) l.c)) l.s)
-
-abbrev pub decreases-loop-s : goal.decreases-loop-s
-decreases-loop-s l = l.n - l.s

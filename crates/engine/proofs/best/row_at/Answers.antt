@@ -1,18 +1,17 @@
 -- `row_at` meets its contract: the end of a row by its stage, or a cell within the work. Assumes nothing.
-use Prim.Native.Nat.{ℕ, ◌+◌, ◌-◌, ◌<◌}
+use Prim.Native.Nat.{ℕ, ◌+◌, ◌-◌}
 use mathlib.Core.Path.{◌≡◌, sym, ap, ◌∙◌}
 use mathlib.Core.Bool.{Bool, true, false}
 use mathlib.Core.List.{List}
 use native.Mathlib.Omega.{arith}
-use borrow.Author.Rules.{rules}
-use lib.ListN.{length}
 use Rattle.lists.specs.Argmax.{guard}
 use Rattle.marks.specs.Bits.{has_mark}
 use Rattle.meaning.specs.Cell.{power_limit}
 use Rattle.cells.specs.declared.problem.Shape.{Shape}
 use Rattle.cells.specs.Work.{cells_from, held_row}
 use Rattle.cells.proofs.Numbers.{empty-is}
-use Rattle.cells.proofs.Places.{place-room, row-none, row-some}
+use Rattle.cells.proofs.Places.{row-none, row-some}
+use Rattle.engine.proofs.Search.{cell-within}
 use Rattle.engine.proofs.best.row_at.Goals as goal
 
 none : (sh : Shape) (w : List ℕ) (k g c : ℕ) → k ≡ 0 → (b : Bool) → b ≡ has_mark sh.ends.0 g → (t : Bool) → b ≡ t → guard t power_limit ≡ held_row sh w k g c
@@ -28,13 +27,6 @@ returns-then-k-eq0 c =
     let s = c.args in
     (none s.sh s.work.now s.k s.g s.c c.if-k-eq0.true _ c.has.ensures false c.if-has.false, omega arith)
 
--- the cell is within the work
-within : (c : tie.After-place) → c.place.result + c.before.before.before.before.args.c < length c.before.before.before.before.args.work.now
-within c =
-    let s = c.before.before.before.before in
-    let h = place-room s.args.sh s.args.k (s.args.sh.states + (s.args.g - 1)) (omega arith) (omega arith) (omega arith) in
-    omega (arith, h, c.place.ensures, s.requires.0.room)
-
 pub returns : goal.returns
 returns c =
     let s = c.args in (
@@ -45,10 +37,16 @@ returns c =
     )
 
 pub overflow_add-at : goal.overflow_add-at
-overflow_add-at c = omega (arith, within c)
+overflow_add-at c =
+    let s = c.args in
+    omega (arith, cell-within s.sh s.work.now c.requires.ready s.k (s.sh.states + (s.g - 1)) s.c (omega arith) (omega arith) (omega arith) (omega arith) _ c.place-at.ensures)
 
 pub offset_bounds-work-at : goal.offset_bounds-work-at
-offset_bounds-work-at c = omega (arith, within c)
+offset_bounds-work-at c =
+    let s = c.args in
+    omega (arith, cell-within s.sh s.work.now c.requires.ready s.k (s.sh.states + (s.g - 1)) s.c (omega arith) (omega arith) (omega arith) (omega arith) _ c.place-at.ensures)
 
 pub bounds-work-at : goal.bounds-work-at
-bounds-work-at c = within c
+bounds-work-at c =
+    let s = c.args in
+    cell-within s.sh s.work.now c.requires.ready s.k (s.sh.states + (s.g - 1)) s.c (omega arith) (omega arith) (omega arith) (omega arith) _ c.place-at.ensures

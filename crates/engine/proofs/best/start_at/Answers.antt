@@ -1,7 +1,6 @@
 -- `start_at` meets its contract. Assumes nothing.
 use mathlib.Core.Path.{sym, ap, ◌∙◌}
 use native.Mathlib.Numerals.{add-one}
-use borrow.Author.Rules.{rules}
 use Rattle.marks.specs.Bits.{has_mark}
 use Rattle.cells.specs.Work.{held_branch}
 use Rattle.engine.proofs.Search.{guard-on, guard-off}

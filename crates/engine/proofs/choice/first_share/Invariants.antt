@@ -1,12 +1,6 @@
 -- `first_share` meets its contract: the allowances below a do not reach the goal. Assumes nothing.
 use Prim.Native.Nat.{ℕ, ◌+◌, ◌-◌, ◌≤◌, ◌<◌}
-use mathlib.Core.Path.{◌≡◌, sym, ap₂, ◌∙◌}
-use mathlib.Core.Logic.{◌⊎◌, inl, inr}
-use native.Mathlib.Nat.{eq-or-lt_of_le}
-use native.Mathlib.Omega.{arith}
-use borrow.Author.Rules.{rules}
-use Rattle.meaning.specs.Cell.{◌⊕◌}
-use Rattle.meaning.proofs.Cell.{⊕-comm}
+use mathlib.Core.Path.{◌≡◌}
 use Rattle.cells.specs.Stretch.{leading}
 use Rattle.engine.specs.Search.{split_at}
 use Rattle.engine.proofs.choice.first_share.Given as goal

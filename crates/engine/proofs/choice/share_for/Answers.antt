@@ -1,16 +1,14 @@
 -- `share_for` meets its contract, for both sorts of rule. Assumes nothing.
-use Prim.Native.Nat.{ℕ, ◌+◌, ◌≤◌, ◌<◌}
+use Prim.Native.Nat.{ℕ, ◌+◌, ◌-◌, ◌≤◌, ◌<◌}
 use mathlib.Core.Path.{◌≡◌, refl, sym, ap, ◌∙◌, subst}
 use mathlib.Core.Bool.{Bool, true, false}
 use mathlib.Core.List.{List}
 use native.Mathlib.Omega.{arith}
-use borrow.Author.Rules.{rules}
-use borrow.Author.Tests.{not-true, not-false}
-use Rattle.meaning.specs.Cell.{◌⊕◌, score}
+use Rattle.meaning.specs.Cell.{◌⊕◌, draw, score}
 use Rattle.cells.specs.declared.problem.Shape.{Shape}
 use Rattle.cells.specs.declared.outline.Lead.{Lead}
 use Rattle.cells.specs.declared.outline.Joint.{Joint}
-use Rattle.cells.specs.Problem.{item_of}
+use Rattle.cells.specs.Problem.{serves_if, item_of}
 use Rattle.cells.specs.Work.{held_row}
 use Rattle.cells.specs.Stretch.{leading, reach_if}
 use Rattle.cells.proofs.Served.{unserved, ruled}
@@ -30,9 +28,9 @@ missed reach share goal c r e h = record { hit = λ l. absurd (omega arith); mis
 
 pub first_share-requires : goal.first_share-requires
 first_share-requires c =
-    let r = c.requires.0.2 in
+    let r = c.requires.ready.2 in
     let q = r.state c.if-t.true in
-    ((c.requires.0.0, c.requires.0.1), (q.0, q.1, r.low, r.high, c.requires.1))
+    record { ready = (c.requires.ready.0, c.requires.ready.1); label_nonzero = (q.0, q.1, r.low, r.high, c.requires.c_le_budget) }
 
 pub returns-then-t : goal.returns-then-t
 returns-then-t c =
@@ -40,18 +38,12 @@ returns-then-t c =
     subst (Asked s.sh s.work.now s.t s.lead s.c s.goal c.first_share.result) (sym c.if-t.true)
     (first-reaches (split_at s.sh s.work.now s.t s.c (leading s.lead)) s.goal s.c _ c.first_share.ensures)
 
-pub overflow_add-result : goal.overflow_add-result
-overflow_add-result c =  omega (arith, c.requires.1, c.requires.0.0.sane.budget)
-
 pub returns-then-not-serves : goal.returns-then-not-serves
 returns-then-not-serves c =
     let s = c.args in
     subst (Asked s.sh s.work.now s.t s.lead s.c s.goal _) (sym c.if-t.false)
     (λ pos le. missed _ _ s.goal s.c _ (omega arith)
-    (λ e. absurd (omega (arith, unserved s.t.item (leading s.lead) (held_row s.sh s.work.now s.t.rest) _ c.serves.ensures (not-true _ c.if-not-serves.true) s.c))))
-
-pub overflow_add-result-then-c-d : goal.overflow_add-result-then-c-d
-overflow_add-result-then-c-d c =  omega (arith, c.requires.1, c.requires.0.0.sane.budget)
+    (λ e. absurd (omega (arith, unserved s.t.item (leading s.lead) (held_row s.sh s.work.now s.t.rest) _ c.serves.ensures c.if-not-serves.true s.c))))
 
 pub returns-then-c-d : goal.returns-then-c-d
 returns-then-c-d c =
@@ -61,49 +53,29 @@ returns-then-c-d c =
     (λ pos le. missed _ _ s.goal s.c _ (omega arith)
     (λ e. absurd (omega (
       arith,
-      ruled s.t.item (leading s.lead) row _ c.serves.ensures (not-false _ c.if-not-serves.false) _ _ c.draw_of-d.ensures refl s.c,
+      ruled s.t.item (leading s.lead) row _ c.serves.ensures c.if-not-serves.false _ _ c.draw_of-d.ensures refl s.c,
       moved_none c.draw_of-d.result (score (item_of s.t.item) s.lead.label) (row s.lead.stage) s.c c.if-c-d.true,
     ))))
 
-pub own_of-own-requires : goal.own_of-own-requires
-own_of-own-requires c = let j = c.requires.0.1 in (j.power, j.worth)
-
-pub row_at-row-requires : goal.row_at-row-requires
-row_at-row-requires c =
-    let r = c.requires.0.2 in
-    (c.requires.0.0, (c.requires.0.1.rest, r.low, r.high, omega (arith, c.requires.1)))
-
-pub join-requires : goal.join-requires
-join-requires c = (c.own_of-own.ensures.1, c.row_at-row.ensures.1)
-
 -- the rule reaches the load's cell joined with the row's
-joined : (c : tie.After-join) → (let s = c.before.before.before.before.before.before.before.before.before.args in
-    c.join.result ≡ reach_if false s.sh s.work.now s.t s.c (leading s.lead))
-joined c =
-    let o = c.before.before in
-    let d = o.before.before in
-    let v = d.before.before in
-    let s = v.before.before.before.args in
-    let row = held_row s.sh s.work.now s.t.rest in
-    c.join.ensures
-    ∙ ap (λ y. o.own_of_lem.result ⊕ y) c.before.row_at.ensures.0
-    ∙ sym (moved_at d.draw-of.result o.own_of_lem.result (row s.lead.stage) s.c (omega (arith, o.before.if3.false)))
-    ∙ ruled s.t.item (leading s.lead) row _ v.serves.ensures (not-false _ d.before.if2.false) _ _ d.draw-of.ensures o.own_of_lem.ensures.0 s.c
+joined : (sh : Shape) (w : List ℕ) (t : Joint) (x : Lead) (c : ℕ) (b : Bool) → b ≡ serves_if t.item.kind t.item.mark x.kind x.label → b ≡ true
+    → (d own row j : ℕ) → d ≡ draw (item_of t.item) x.label → d ≤ c → own ≡ score (item_of t.item) x.label
+    → row ≡ held_row sh w t.rest x.stage (c - d) → j ≡ own ⊕ row → j ≡ reach_if false sh w t c (leading x)
+joined sh w t x c b eb on d own row j ed l eo er ej =
+    ej ∙ ap (λ y. own ⊕ y) er ∙ sym (moved_at d own (held_row sh w t.rest x.stage) c l)
+    ∙ ruled t.item (leading x) (held_row sh w t.rest) b eb on d own ed eo c
 
 pub returns-then-join-goal : goal.returns-then-join-goal
 returns-then-join-goal c =
     let s = c.args in
     subst (Asked s.sh s.work.now s.t s.lead s.c s.goal _) (sym c.if-t.false)
     (λ pos le. record {
-      hit = λ l. (sym (joined c) ∙ c.if-join-goal.true, c.draw_of-d.ensures);
+      hit = λ l. (sym (joined s.sh s.work.now s.t s.lead s.c _ c.serves.ensures c.if-not-serves.false _ _ _ _ c.draw_of-d.ensures (omega arith) c.own_of-own.ensures.0 c.row_at-row.ensures.0 c.join.ensures) ∙ c.if-join-goal.true, c.draw_of-d.ensures);
       miss = λ l. absurd (omega (arith, c.if-c-d.false));
     })
-
-pub overflow_add-result-2 : goal.overflow_add-result-2
-overflow_add-result-2 c =  omega (arith, c.requires.1, c.requires.0.0.sane.budget)
 
 pub returns : goal.returns
 returns c =
     let s = c.args in
     subst (Asked s.sh s.work.now s.t s.lead s.c s.goal _) (sym c.if-t.false)
-    (λ pos le. missed _ _ s.goal s.c _ (omega arith) (λ e. c.if-join-goal.false (joined c ∙ e)))
+    (λ pos le. missed _ _ s.goal s.c _ (omega arith) (λ e. c.if-join-goal.false (joined s.sh s.work.now s.t s.lead s.c _ c.serves.ensures c.if-not-serves.false _ _ _ _ c.draw_of-d.ensures (omega arith) c.own_of-own.ensures.0 c.row_at-row.ensures.0 c.join.ensures ∙ e)))

@@ -1,5 +1,5 @@
 -- `figures_of` meets its contract: what was added and what is still to come is the whole sum. Assumes nothing.
-use Prim.Native.Nat.{suc, ◌-◌, ◌*◌, ◌≤◌}
+use Prim.Native.Nat.{suc}
 use mathlib.Core.Path.{◌≡◌, ap, ap₂, sym, ◌∙◌}
 use native.Mathlib.Omega.{arith}
 use native.Mathlib.Numerals.{add-one}
@@ -16,7 +16,7 @@ use Rattle.tables.specs.Stored.{loads_of}
 use Rattle.meaning.specs.Sets.{counted}
 use Rattle.marks.specs.Sets.{mark_in}
 use Rattle.engine.specs.Figures.{power_in, worth_in}
-use Rattle.engine.proofs.Sums.{Added, added_none, added_more, added-all}
+use Rattle.engine.proofs.Sums.{added_none, added_more, added-all}
 use Rattle.engine.proofs.figures.figures_of.Goals as goal
 
 pub loop-i-init : goal.loop-i-init
@@ -25,7 +25,7 @@ loop-i-init c = (omega arith, omega arith, omega arith, added_none _ _, added_no
 pub loop-i-preserved : goal.loop-i-preserved
 loop-i-preserved c =
     let l = c.loop-i in
-    let ls = c.args.t1 in
+    let ls = c.args.loads in
     let full : length ls.items ≡ max_loads = search (rules, of_map) in
     let n : length (loads_of ls) ≡ ls.count = length-take-le ls.count ls.items (omega arith) in
     let on : guard c.has-on.result 1 ≡ mark_in c.args.set (suc l.i) =
@@ -41,30 +41,9 @@ loop-i-preserved c =
 pub returns : goal.returns
 returns c =
     let l = c.loop-i in
-    let ls = c.args.t1 in
+    let ls = c.args.loads in
     let full : length ls.items ≡ max_loads = search (rules, of_map) in
     let n : length (loads_of ls) ≡ ls.count = length-take-le ls.count ls.items (omega arith) in
     ap₂ (λ p w. record { power = p; worth = w })
     (added-all (power_in (mark_in c.args.set)) (loads_of ls) l.power l.i (omega arith) l.invariant.3)
     (added-all (worth_in (mark_in c.args.set)) (loads_of ls) l.worth l.i (omega arith) l.invariant.4)
-
-pub offset_bounds-loads-i : goal.offset_bounds-loads-i
-offset_bounds-loads-i c = omega arith
-
-pub bounds-loads-i : goal.bounds-loads-i
-bounds-loads-i c = omega arith
-
-pub overflow_add-i : goal.overflow_add-i
-overflow_add-i c = omega arith
-
-pub overflow_add-power : goal.overflow_add-power
-overflow_add-power c = omega (arith, c.counted_if-power.ensures.1)
-
-pub overflow_add-worth : goal.overflow_add-worth
-overflow_add-worth c = omega (arith, c.counted_if-worth.ensures.1)
-
-pub overflow_step-i : goal.overflow_step-i
-overflow_step-i c = omega arith
-
-pub loop-i-smaller : goal.loop-i-smaller
-loop-i-smaller c = omega arith

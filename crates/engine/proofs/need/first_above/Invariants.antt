@@ -1,13 +1,10 @@
 -- `first_above` meets its contract: the first is among the allowances from c on. Assumes nothing.
-use Prim.Native.Nat.{ℕ, ◌+◌, ◌-◌, ◌≤◌, ◌<◌}
-use mathlib.Core.Path.{◌≡◌, sym, ap, ◌∙◌}
-use native.Mathlib.Omega.{arith}
-use borrow.Author.Tests.{le-ltb, lt-ltb}
+use Prim.Native.Nat.{◌-◌, ◌≤◌}
+use mathlib.Core.Path.{◌≡◌}
 use lib.Dec.{ltb}
 use Rattle.lists.specs.Tests.{first_from}
-use Rattle.lists.specs.Argmax.{Greatest}
-use Rattle.lists.proofs.Tests.{first-here, first-later}
 use Rattle.engine.specs.Search.{root_best}
+use Rattle.engine.proofs.Search.{from}
 use Rattle.engine.proofs.need.first_above.Given as goal
 
 abbrev pub invariant-loop-c : goal.invariant-loop-c

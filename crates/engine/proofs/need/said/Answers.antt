@@ -1,6 +1,5 @@
 -- `said` meets its contract: 9, then 15, then the least budget. Assumes nothing.
 use mathlib.Core.Path.{ap}
-use borrow.Author.Rules.{rules}
 use borrow.Author.Tests.{eq-eqb, ne_eqb, lt-ltb, le-ltb}
 use Rattle.engine.specs.declared.figures.Figures.{Figures}
 use Rattle.engine.specs.Need.{need_by}

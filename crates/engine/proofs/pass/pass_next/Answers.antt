@@ -6,7 +6,6 @@ use mathlib.Core.List.{List}
 use native.Mathlib.Nat.{min-eq_left, min-le_right}
 use native.Mathlib.Numerals.{add-one}
 use native.Mathlib.Omega.{arith}
-use borrow.Author.Rules.{rules}
 use lib.ListN.{get_or}
 use Rattle.tables.specs.Limits.{max_loads}
 use Rattle.meaning.specs.Cell.{power_limit}
@@ -16,7 +15,7 @@ use Rattle.cells.proofs.InRange.{outline-fits}
 use Rattle.engine.specs.declared.choice.Choice.{Choice}
 use Rattle.engine.specs.declared.pass.Rows.{Rows}
 use Rattle.engine.specs.declared.pass.Pass.{Pass}
-use Rattle.engine.specs.Pass.{Complete, load_choice, row_choice, within, entered, passed_load, BranchEntered, Known, Passed}
+use Rattle.engine.specs.Pass.{Complete, load_choice, row_choice, within, entered, passed_load, BranchEntered, Known, Passed, Readable}
 use Rattle.engine.proofs.Passing.{within_same, branch-entered, row-state, row-known, pass_step}
 use Rattle.engine.proofs.Reading.{Promised, budget-is, load_is, row_is}
 use Rattle.engine.proofs.pass.pass_next.Goals as goal
@@ -87,60 +86,59 @@ module _ (p : Problem) (sh : Shape) (o w : List ℕ) (all : Complete p sh o w) (
           ∙ ap₂ (λ (r d : Choice). after (suc n) r d (entered s.rows here.rest here.stage here.left)) er ed
 
 -- ---- along the code, whatever the cells hold
-few : (s : tie.Start) → s.args.n < max_loads
-few s = omega (arith, s.requires.2, s.requires.0.ready.sane.loads)
+few : (sh : Shape) (o w : List ℕ) → Readable sh o w → sh.loads ≤ max_loads
+few sh o w r = r.ready.sane.loads
 
 -- there is a stage where there is a state
-staged : (s : tie.Start) → 0 < s.args.sh.stages
-staged s =
-    let k = s.requires.0 in
+staged : (sh : Shape) (o w : List ℕ) → Readable sh o w → 0 < sh.states → 0 < sh.stages
+staged sh o w k l =
     let e = k.outlined.shape in
-    let g = k.outlined.lawful.staged (omega (arith, s.requires.1, ap (λ (y : Shape). y.states) e)) in
+    let g = k.outlined.lawful.staged (omega (arith, l, ap (λ (y : Shape). y.states) e)) in
     omega (arith, g, ap (λ (y : Shape). y.stages) e)
 
 -- what follows a choice is in range
-follows : (s : tie.Start) (d : Choice) (c : ℕ) → c ≤ s.args.sh.budget → (d.rest ≤ s.args.sh.loads) × (d.left ≤ c) → (d.rest ≤ max_loads) × (d.left < power_limit)
-follows s d c l h = let k = s.requires.0.ready.sane in (omega (arith, h.0, k.loads), omega (arith, h.1, k.budget))
+follows : (sh : Shape) (o w : List ℕ) → Readable sh o w → (d : Choice) (c : ℕ) → c ≤ sh.budget → (d.rest ≤ sh.loads) × (d.left ≤ c)
+    → (d.rest ≤ max_loads) × (d.left < power_limit)
+follows sh o w r d c l h = let k = r.ready.sane in (omega (arith, h.0, k.loads), omega (arith, h.1, k.budget))
 
 pub within-stage-requires : goal.within-stage-requires
-within-stage-requires c = staged c
+within-stage-requires c = let a = c.args in staged a.sh a.o.now a.work.now c.requires.0 c.requires.1
 
 -- the allowances are within the budget
 lesser-in : (x y r : ℕ) → r ≡ min x y → r ≤ y
 lesser-in x y r e = omega (arith, min-le_right x y)
 
-left_in : (c : tie.After-lesser) → c.lesser.result ≤ c.before.before.before.before.before.before.before.args.sh.budget
-left_in c = lesser-in _ _ _ c.lesser.ensures
-
-share_in : (c : tie.After-lesser2) → c.lesser2.result ≤ c.before.before.before.before.before.before.before.before.before.before.before.args.sh.budget
-share_in c = lesser-in _ _ _ c.lesser2.ensures
-
 pub choose-r-requires : goal.choose-r-requires
 choose-r-requires c =
     let k = c.requires.0 in
-    ((k.ready, outline-fits k.problem _ _ k.outlined), (omega arith, omega (arith, c.requires.2), omega (arith, c.within-stage.ensures.1), left_in c))
+    record {
+      ready = (k.ready, outline-fits k.problem _ _ k.outlined);
+      k_nonzero = (omega arith, omega (arith, c.requires.2), omega (arith, c.within-stage.ensures.1), lesser-in _ _ _ c.lesser-left.ensures);
+    }
 
 pub choose-c-requires : goal.choose-c-requires
 choose-c-requires c =
     let k = c.requires.0 in
-    ((k.ready, outline-fits k.problem _ _ k.outlined), (omega arith, omega (arith, c.requires.2), omega (arith, c.within-state.ensures.1), share_in c))
+    record {
+      ready = (k.ready, outline-fits k.problem _ _ k.outlined);
+      k_nonzero = (omega arith, omega (arith, c.requires.2), omega (arith, c.within-state.ensures.1), lesser-in _ _ _ c.lesser-share.ensures);
+    }
 
 pub with-later-requires : goal.with-later-requires
 with-later-requires c =
-    follows c c.choose-r.result _ (left_in c) c.choose-r.ensures.1
+    let a = c.args in
+    follows a.sh a.o.now a.work.now c.requires.0 c.choose-r.result _ (lesser-in _ _ _ c.lesser-left.ensures) c.choose-r.ensures.bounds
 
 pub with-requires : goal.with-requires
 with-requires c =
-    let f = follows c c.choose-c.result _ (share_in c) c.choose-c.ensures.1 in
-    (omega arith, omega (arith, few c), f.0, f.1)
+    let a = c.args in
+    let f = follows a.sh a.o.now a.work.now c.requires.0 c.choose-c.result _ (lesser-in _ _ _ c.lesser-share.ensures) c.choose-c.ensures.bounds in
+    (omega arith, omega (arith, few a.sh a.o.now a.work.now c.requires.0, c.requires.2), f.0, f.1)
 
 pub returns : goal.returns
 returns c =
     let a = c.args in
     λ p all h low high.
-    let er = row-choice p a.sh a.o.now a.work.now all a.n a.s h low high _ _ c.within-stage.ensures.0 c.lesser-left.ensures _ c.choose-r.ensures.0 in
-    let el = load-choice p a.sh a.o.now a.work.now all a.n a.s h low high _ _ er _ _ c.within-state.ensures.0 c.lesser-share.ensures c.choose-c.ensures.0 in
+    let er = row-choice p a.sh a.o.now a.work.now all a.n a.s h low high _ _ c.within-stage.ensures.0 c.lesser-left.ensures _ c.choose-r.ensures.right in
+    let el = load-choice p a.sh a.o.now a.work.now all a.n a.s h low high _ _ er _ _ c.within-state.ensures.0 c.lesser-share.ensures c.choose-c.ensures.right in
     passed p a.sh a.o.now a.work.now all a.n a.s h low high _ _ er el _ c.with-later.ensures _ c.with.ensures
-
-pub overflow_add-n-3 : goal.overflow_add-n-3
-overflow_add-n-3 c = let h = few c in omega arith

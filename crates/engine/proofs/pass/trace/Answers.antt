@@ -1,5 +1,5 @@
 -- `trace` meets its contract: the loads are passed one by one. Assumes nothing.
-use Prim.Native.Nat.{ℕ, suc, ◌+◌, ◌-◌, ◌≤◌, ◌<◌}
+use Prim.Native.Nat.{ℕ, suc, ◌+◌, ◌<◌}
 use mathlib.Core.Path.{◌≡◌, refl, sym, ap, ap₂, ◌∙◌, subst}
 use mathlib.Core.List.{List, []}
 use native.Mathlib.Nat.{le_refl}
@@ -8,7 +8,7 @@ use native.Mathlib.Omega.{arith}
 use Rattle.lists.specs.Arrays.{laid}
 use Rattle.lists.specs.Argmax.{Greatest}
 use Rattle.lists.proofs.Argmax.{argmax-found}
-use Rattle.tables.specs.Limits.{max_states, max_loads}
+use Rattle.tables.specs.Limits.{max_loads}
 use Rattle.meaning.specs.Choice.{in_order}
 use Rattle.cells.specs.declared.problem.Problem.{Problem}
 use Rattle.cells.specs.declared.problem.Shape.{Shape}
@@ -78,39 +78,18 @@ module _ (p : Problem) (sh : Shape) (o w : List ℕ) (all : Complete p sh o w) (
         ap (λ (r : Run). record { status = 2; run = r }) (h.run ∙ ap (λ k. run_of max_loads (in_order (entries_for p) 1 k)) e)
         ∙ ap (stored_outcome max_loads) (found_some (best_for p) (in_order (entries_for p) 1 p.tables.loads.count) (omega (arith, value)))
 
-pub best_start-b-requires : goal.best_start-b-requires
-best_start-b-requires c =
-    let k = c.requires in
-    (k.ready, (omega (arith, k.some, ap (λ (y : Shape). y.loads) k.outlined.shape), le_refl _))
-
 pub returns-then-b-eq0 : goal.returns-then-b-eq0
 unfolding run_of laid mark_all
 returns-then-b-eq0 c =
     let a = c.args in
     λ p all. nothing p a.sh a.o.now a.work.now all c.best_start-b.result c.best_start-b.ensures c.if-b-eq0.true
 
--- ---- along the code, whatever the cells hold
-state : (c : tie.Else1 invariant-loop decreases-loop) → c.before.before.best-start.result.index < c.before.before.before.before.before.args.sh.states
-state c =
-    let b = c.before.before in
-    let a = b.before.before.before.args in
-    index_in a.sh a.work.now b.best-start.result b.best-start.ensures c.if1.false
-
-few : (c : tie.Else1 invariant-loop decreases-loop) → c.before.before.best-start.result.index < max_states
-few c = omega (arith, state c, c.before.before.before.before.before.requires.ready.sane.states)
-
 pub choose-requires : goal.choose-requires
 choose-requires c =
-    let k = c.requires in (
-      (k.ready, outline-fits k.problem _ _ k.outlined),
-      (omega arith, omega (arith, k.some, ap (λ (y : Shape). y.loads) k.outlined.shape), omega (arith, state c), le_refl _),
-    )
-
-pub with-s-requires : goal.with-s-requires
-with-s-requires c =
-    let k = c.requires.ready.sane in
-    let d = c.choose.ensures.1 in
-    (omega arith, omega arith, omega (arith, d.0, k.loads), omega (arith, d.1, k.budget))
+    let k = c.requires in record {
+      ready = (k.ready, outline-fits k.problem _ _ k.outlined);
+      k_nonzero = (omega arith, omega (arith, k.some, ap (λ (y : Shape). y.loads) k.outlined.shape), omega (arith, index_in c.args.sh c.args.work.now c.best_start-b.result c.best_start-b.ensures c.if-b-eq0.false), le_refl _);
+    }
 
 pub loop-i-init : goal.loop-i-init
 unfolding run_of laid mark_all
@@ -119,17 +98,13 @@ loop-i-init c =
       omega arith,
       omega (arith, c.requires.some, ap (λ (y : Shape). y.loads) c.requires.outlined.shape),
       λ p all.
-          let d = root-choice p a.sh a.o.now a.work.now all c.best_start-b.result c.best_start-b.ensures c.if-b-eq0.false _ c.choose.ensures.0 in
+          let d = root-choice p a.sh a.o.now a.work.now all c.best_start-b.result c.best_start-b.ensures c.if-b-eq0.false _ c.choose.ensures.right in
           passed p a.sh a.o.now a.work.now all c.best_start-b.result c.best_start-b.ensures c.if-b-eq0.false _ d _ c.with-s.ensures,
     )
 
 pub pass_next-s-requires : goal.pass_next-s-requires
 pass_next-s-requires c =
-    (c.requires, omega (arith, state c), c.loop-i-test.true)
-
-pub overflow_step-i : goal.overflow_step-i
-overflow_step-i c =
-    omega (arith, c.loop-i-test.true, c.requires.ready.sane.loads)
+    (c.requires, omega (arith, index_in c.args.sh c.args.work.now c.best_start-b.result c.best_start-b.ensures c.if-b-eq0.false), c.loop-i-test.true)
 
 pub loop-i-preserved : goal.loop-i-preserved
 loop-i-preserved c =
@@ -147,10 +122,7 @@ returns c =
     (omega (arith, l.invariant.1, c.loop-i-test.false, ap (λ (y : Shape). y.loads) all.outlined.shape)) (l.invariant.2 p all)
 
 pub overflow_add-q : goal.overflow_add-q
-overflow_add-q c = omega (arith, few c)
+overflow_add-q c = omega (arith, index_in c.args.sh c.args.work.now c.best_start-b.result c.best_start-b.ensures c.if-b-eq0.false, c.requires.ready.sane.states)
 
 pub overflow_cast-q : goal.overflow_cast-q
-overflow_cast-q c = omega (arith, few c)
-
-pub loop-i-smaller : goal.loop-i-smaller
-loop-i-smaller c = omega arith
+overflow_cast-q c = omega (arith, index_in c.args.sh c.args.work.now c.best_start-b.result c.best_start-b.ensures c.if-b-eq0.false, c.requires.ready.sane.states)

@@ -1,7 +1,6 @@
 -- `fill_cells` meets its contract: the outline is written, and the cells are filled by it. Assumes nothing.
 use mathlib.Core.Path.{sym, subst}
 use native.Mathlib.Omega.{arith}
-use borrow.Author.Rules.{rules}
 use Rattle.cells.specs.Problem.{Sane}
 use Rattle.cells.proofs.InRange.{outline-fits}
 use Rattle.engine.proofs.Planning.{ready, complete, rest-kept}
@@ -12,17 +11,20 @@ cells_needed-n-requires c = let d = c.outlined-sh.ensures in subst Sane (sym d.s
 
 pub fill-requires : goal.fill-requires
 fill-requires c =
-    let s = c.before in
-    let d = c.outlined.ensures in
-    ((ready s.args.p _ _ d s.args.work.now s.requires.1.1, outline-fits s.args.p _ _ d), (omega arith, omega (arith, c.cells-needed.ensures)))
+    let s = c.args in
+    let d = c.outlined-sh.ensures in
+    record {
+      ready = (ready s.p _ _ d s.work.now c.requires.count_nonzero.1, outline-fits s.p _ _ d);
+      from_le_to = (omega arith, omega (arith, c.cells_needed-n.ensures));
+    }
 
 pub returns : goal.returns
 returns c =
-    let s = c.before in
-    let d = c.outlined.ensures in (
-      d.shape,
-      (
-        complete s.args.p _ _ d s.args.work.now s.requires.1.1 _ _ c.cells-needed.ensures c.fill.ensures c.work-1.given s.requires.1.0,
-        rest-kept s.args.p _ _ d s.args.work.now s.requires.1.1 _ _ c.cells-needed.ensures c.fill.ensures c.work-1.given,
-      ),
-    )
+    let s = c.args in
+    let d = c.outlined-sh.ensures in
+    let room = c.requires.count_nonzero in
+    record {
+      shape = d.shape;
+      filled = complete s.p _ _ d s.work.now room.1 _ _ c.cells_needed-n.ensures c.fill.ensures c.fill.auto.work room.0;
+      rest = rest-kept s.p _ _ d s.work.now room.1 _ _ c.cells_needed-n.ensures c.fill.ensures c.fill.auto.work;
+    }

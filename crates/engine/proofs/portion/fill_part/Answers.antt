@@ -1,6 +1,5 @@
 -- `fill_part` meets its contract: the cells of the plan's problem are those of the tables. Assumes nothing.
 use native.Mathlib.Omega.{arith}
-use borrow.Author.Rules.{rules}
 use Rattle.cells.proofs.InRange.{outline-fits}
 use Rattle.engine.proofs.Portions.{part_filled, cells_are, ready-here}
 use Rattle.engine.proofs.portion.fill_part.Goals as goal
@@ -9,11 +8,11 @@ pub fill-requires : goal.fill-requires
 fill-requires c =
     let q = c.plan_problem-p.ensures in
     let d = c.outlined-sh.ensures in
-    let r = ready-here c.args.t c.plan_problem-p.result q.1 q.0 _ _ c.args.work.now d c.requires.1.0 c.requires.1.1 in
-    let n = cells_are c.args.t c.plan_problem-p.result q.1 q.0 _ _ c.args.work.now d c.requires.1.0 c.requires.1.1 in
-    ((r, outline-fits c.plan_problem-p.result _ _ d), (omega (arith, c.requires.1.2), omega (arith, n, c.requires.1.3)))
+    let r = ready-here c.args.t c.plan_problem-p.result q.1 q.0 _ _ c.args.work.now d c.requires.count_nonzero.0 c.requires.count_nonzero.1 in
+    let n = cells_are c.args.t c.plan_problem-p.result q.1 q.0 _ _ c.args.work.now d c.requires.count_nonzero.0 c.requires.count_nonzero.1 in
+    record { ready = (r, outline-fits c.plan_problem-p.result _ _ d); from_le_to = (omega arith, omega (arith, n)) }
 
 pub returns : goal.returns
 returns c =
     let q = c.plan_problem-p.ensures in
-    part_filled c.args.t c.plan_problem-p.result q.1 q.0 c.args.work.now _ _ _ (c.fill.ensures c.plan_problem-p.result c.outlined-sh.ensures) c.work-1.given
+    part_filled c.args.t c.plan_problem-p.result q.1 q.0 c.args.work.now _ _ _ (c.fill.ensures c.plan_problem-p.result c.outlined-sh.ensures) c.fill.auto.work

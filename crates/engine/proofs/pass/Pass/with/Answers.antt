@@ -1,6 +1,5 @@
 -- `Pass::with` meets its contract. Assumes nothing.
 use mathlib.Core.Path.{ap₂}
-use borrow.Author.Rules.{rules}
 use Rattle.engine.specs.Pass.{passed_load}
 use Rattle.engine.proofs.pass.Pass.with.Goals as goal
 

@@ -1,0 +1,27 @@
+-- `search_alone` meets its contract: the cells are filled, and the run is read back. The case in which it would call itself does not arise.
+-- Assumes nothing.
+use mathlib.Core.Path.{ap, sym, subst}
+use native.Mathlib.Omega.{arith}
+use Rattle.cells.specs.Problem.{Sane}
+use Rattle.cells.specs.Work.{cells_needed}
+use Rattle.engine.proofs.plan.+search_alone.Goals as goal
+
+-- its cells are counted
+pub cells_needed-requires : goal.cells_needed-requires
+cells_needed-requires t c = subst Sane (sym c.shape_of.ensures) c.requires.lawful.0.sane
+
+-- more than there are: that is not so
+pub search_alone-requires : goal.search_alone-requires
+search_alone-requires t c = absurd (omega (arith, ap cells_needed c.shape_of.ensures))
+
+pub returns-then-cells_needed-gt-CHECK_CELLS : goal.returns-then-cells_needed-gt-CHECK_CELLS
+returns-then-cells_needed-gt-CHECK_CELLS t c = absurd (omega (arith, ap cells_needed c.shape_of.ensures))
+
+-- the run is read
+pub trace-requires : goal.trace-requires
+trace-requires t c =
+    let k = c.fill_cells-sh.ensures.filled in
+    record { problem = c.args.p; outlined = k.outlined; ready = k.ready; some = k.some }
+
+pub returns : goal.returns
+returns t c = c.trace.ensures c.args.p c.fill_cells-sh.ensures.filled
