@@ -1,5 +1,4 @@
 -- `is_start` meets its contract. Assumes nothing.
-use borrow.Author.Rules.{rules}
 use Rattle.tables.specs.Stored.{book_of}
 use Rattle.judge.proofs.Root.{start_test}
 use Rattle.judge.proofs.is_start.Goals as goal

@@ -1,59 +1,70 @@
 -- `judge` meets its contract: each way out is an answer's own case. Assumes nothing.
+use Prim.Native.Nat.{ℕ, ◌*◌}
+use mathlib.Core.List.{List}
 use mathlib.Core.Path.{◌≡◌, sym, ◌∙◌}
-use mathlib.Core.Bool.{true}
+use mathlib.Core.Bool.{Bool, true}
 use native.Mathlib.Omega.{arith}
 use borrow.Author.Rules.{rules}
-use borrow.Author.Tests.{not-true, not-false}
 use lib.ListN.{length}
 use Rattle.lists.specs.Tests.{pick}
 use Rattle.lists.proofs.Arrays.{of_map}
 use Rattle.tables.specs.Limits.{max_loads}
+use Rattle.tables.specs.declared.tables.StoredTables.{StoredTables}
 use Rattle.tables.specs.Stored.{tables_of, keeps_limits}
 use Rattle.judge.specs.declared.Verdict.TheVariants.{Yes, No}
-use Rattle.judge.specs.Verdict.{judged}
+use Rattle.judge.specs.Verdict.{is_run, judged}
 use Rattle.tables.proofs.Kept.{kept, few-loads}
 use Rattle.judge.proofs.Answers.{limit-broken, no-loads, not_three, says}
 use Rattle.judge.proofs.judge.Goals as goal
 
 -- past the first test: the tables keep the limits, and as many loads are held as are counted
-keeps : (c : tie.Else1) → keeps_limits c.before.before.before.args.t ≡ true
-keeps c = sym c.before.keeps-limits.ensures.0 ∙ not-false c.before.keeps-limits.result c.if1.false
+keeps : (t : StoredTables) (b : Bool) → b ≡ keeps_limits t → b ≡ true → keeps_limits t ≡ true
+keeps t b e h = sym e ∙ h
 
-counted : (c : tie.Else1) → length (tables_of c.before.before.before.args.t).loads ≡ c.before.before.before.args.t.loads.count
-counted c = let t = c.before.before.before.args.t in (kept t (keeps c)).counted
+counted : (t : StoredTables) → keeps_limits t ≡ true → length (tables_of t).loads ≡ t.loads.count
+counted t h = (kept t h).counted
 
 pub returns-then-not-keeps_limits : goal.returns-then-not-keeps_limits
 returns-then-not-keeps_limits c =
     let a = c.args in
-    limit-broken a.t a.run.now (sym c.keeps_limits.ensures.0 ∙ not-true c.keeps_limits.result c.if-not-keeps_limits.true)
+    limit-broken a.t a.run.now (sym c.keeps_limits.ensures.equation ∙ c.if-not-keeps_limits.true)
 
 pub returns-then-n-eq0 : goal.returns-then-n-eq0
 returns-then-n-eq0 c =
     let a = c.args in
-    no-loads a.t a.run.now (keeps c) (counted c ∙ c.if-n-eq0.true)
+    let k = keeps a.t _ c.keeps_limits.ensures.equation c.if-not-keeps_limits.false in
+    no-loads a.t a.run.now k (counted a.t k ∙ c.if-n-eq0.true)
 
 pub overflow_mul-n : goal.overflow_mul-n
-overflow_mul-n c = let t = c.args.t in omega (arith, few-loads max_loads t (search (rules, of_map)) (kept t (keeps c)))
+overflow_mul-n c =
+    let t = c.args.t in
+    let k = keeps t _ c.keeps_limits.ensures.equation c.if-not-keeps_limits.false in
+    omega (arith, few-loads max_loads t (search (rules, of_map)) (kept t k))
 
 pub returns-then-run-n : goal.returns-then-run-n
 returns-then-run-n c =
     let a = c.args in
-    not_three a.t a.run.now (keeps c) (omega (arith, counted c, c.if-n-eq0.false)) (λ e. c.if-run-n.true (omega (arith, counted c)))
+    let k = keeps a.t _ c.keeps_limits.ensures.equation c.if-not-keeps_limits.false in
+    not_three a.t a.run.now k (omega (arith, counted a.t k, c.if-n-eq0.false)) (λ e. c.if-run-n.true (omega (arith, counted a.t k)))
 
 pub tree_runs-requires : goal.tree_runs-requires
-tree_runs-requires c = (keeps c, omega (arith, c.if-n-eq0.false), c.if-run-n.false)
+tree_runs-requires c =
+    (keeps c.args.t _ c.keeps_limits.ensures.equation c.if-not-keeps_limits.false, omega (arith, c.if-n-eq0.false), c.if-run-n.false)
 
 -- past the third: what the judge says
-answer : (c : tie.After-tree-runs)
-    → pick c.tree-runs.result Yes No ≡ (let a = c.before.before.before.before.before.before.args in judged a.t a.run.now)
-answer c =
-    let h = c.before.before.before in
-    let a = h.before.before.before.args in
-    says a.t a.run.now (keeps h) (omega (arith, counted h, c.before.before.if2.false))
-    (omega (arith, counted h, c.before.if3.false)) c.tree-runs.ensures
+answer : (t : StoredTables) (run : List ℕ) (r : Bool) → keeps_limits t ≡ true → (t.loads.count ≡ 0 → ⊥) → length run ≡ 3 * t.loads.count
+    → r ≡ is_run (tables_of t) run → pick r Yes No ≡ judged t run
+answer t run r k some three e =
+    says t run k (omega (arith, counted t k, some)) (omega (arith, counted t k, three)) e
 
 pub returns-then-tree_runs : goal.returns-then-tree_runs
-returns-then-tree_runs c = rw c.if-tree_runs.true at (answer c)
+returns-then-tree_runs c =
+    let a = c.args in
+    let k = keeps a.t _ c.keeps_limits.ensures.equation c.if-not-keeps_limits.false in
+    rw c.if-tree_runs.true at (answer a.t a.run.now _ k c.if-n-eq0.false c.if-run-n.false c.tree_runs.ensures)
 
 pub returns-else-tree_runs : goal.returns-else-tree_runs
-returns-else-tree_runs c = rw c.if-tree_runs.false at (answer c)
+returns-else-tree_runs c =
+    let a = c.args in
+    let k = keeps a.t _ c.keeps_limits.ensures.equation c.if-not-keeps_limits.false in
+    rw c.if-tree_runs.false at (answer a.t a.run.now _ k c.if-n-eq0.false c.if-run-n.false c.tree_runs.ensures)

@@ -1,5 +1,4 @@
 -- `step_of` meets its contract: the rules and the two tests are those of the definition. Assumes nothing.
-use borrow.Author.Rules.{rules}
 use Rattle.judge.specs.Figures.{step_of}
 use Rattle.judge.proofs.figures.step_of.Goals as goal
 

@@ -1,15 +1,11 @@
 -- `child_after` meets its contract: no load that was passed has the parent p. Assumes nothing.
-use Prim.Native.Nat.{◌-◌, ◌≤◌, ◌<◌}
-use mathlib.Core.Path.{◌≡◌, refl, sym, ◌∙◌}
-use mathlib.Core.List.{List}
+use Prim.Native.Nat.{◌<◌}
+use mathlib.Core.Path.{refl, sym, ◌∙◌}
 use native.Mathlib.Numerals.{add-one}
 use native.Mathlib.Omega.{arith}
 use borrow.Author.Rules.{rules}
 use lib.ListN.{length}
-use Rattle.tables.specs.declared.load.Load.{Load}
-use Rattle.meaning.specs.Forest.{after}
 use Rattle.meaning.proofs.Tree.{after-end, after-here, after-skip}
-use Rattle.judge.specs.Figures.{ParentsOf}
 use Rattle.judge.proofs.Left.{none_left, fewer-left}
 use Rattle.judge.proofs.walk.child_after.Goals as goal
 
@@ -20,12 +16,12 @@ pub returns-then-figures-i : goal.returns-then-figures-i
 returns-then-figures-i c =
     let a = c.args in
     let i = c.loop-i.i in
-    let inv = c.loop-i.invariant in (
-      λ ls e h.
+    let inv = c.loop-i.invariant in record {
+      found = λ ls e h.
           let l : i < length ls = omega arith in
-          add-one i ∙ sym (inv.2 ls e h ∙ after-here ls i a.p l (sym (h i l) ∙ c.if-figures-i.true)),
-      (omega arith, fewer-left a.n a.k i (omega arith) inv.0 (omega arith)),
-    )
+          add-one i ∙ sym (inv.2 ls e h ∙ after-here ls i a.p l (sym (h i l) ∙ c.if-figures-i.true));
+      falls = (omega arith, fewer-left a.n a.k i (omega arith) inv.0 (omega arith));
+    }
 
 pub loop-i-preserved : goal.loop-i-preserved
 loop-i-preserved c =
@@ -43,19 +39,4 @@ pub returns : goal.returns
 returns c =
     let a = c.args in
     let inv = c.loop-i.invariant in
-    (λ ls e h. sym (inv.2 ls e h ∙ after-end ls _ a.p (omega arith)), (omega arith, none_left a.n a.k (omega arith) (omega arith)))
-
-pub overflow_add-i : goal.overflow_add-i
-overflow_add-i c = omega arith
-
-pub bounds-figures-i : goal.bounds-figures-i
-bounds-figures-i c = omega arith
-
-pub overflow_add-result : goal.overflow_add-result
-overflow_add-result c = omega arith
-
-pub overflow_step-i : goal.overflow_step-i
-overflow_step-i c = omega arith
-
-pub loop-i-smaller : goal.loop-i-smaller
-loop-i-smaller c = omega arith
+    record { found = λ ls e h. sym (inv.2 ls e h ∙ after-end ls _ a.p (omega arith)); falls = (omega arith, none_left a.n a.k (omega arith) (omega arith)) }

@@ -2,7 +2,6 @@
 use Prim.Native.Nat.{◌*◌}
 use mathlib.Core.Path.{ap, ◌∙◌}
 use native.Mathlib.Omega.{arith}
-use borrow.Author.Rules.{rules}
 use lib.ListN.{length}
 use Rattle.tables.specs.Limits.{max_loads}
 use Rattle.meaning.specs.Forest.{after}
@@ -12,9 +11,9 @@ use Rattle.judge.proofs.walk.next_sibling.Goals as goal
 
 pub returns : goal.returns
 returns c =
-    let a = c.args in (
-      λ ls e h.
+    let a = c.args in record {
+      found = λ ls e h.
           let parent = at_load (λ k. (load_at ls k).parent) a.figures.now (3 * max_loads) (length ls) h a.k (omega arith) (omega arith) in
-          c.child_after.ensures.0 ls e h ∙ ap (after ls a.k) (c.of_load.ensures ∙ parent),
-      c.child_after.ensures.1,
-    )
+          c.child_after.ensures.found ls e h ∙ ap (after ls a.k) (c.of_load.ensures ∙ parent);
+      falls = c.child_after.ensures.falls;
+    }
