@@ -138,13 +138,13 @@ module _ (p : Planner) (h : Lawful p) (f : Figure) (k x : ℕ) {there fits : Boo
   tested : there && fits ≡ is_load (state_in p).tables k && figure_in f x
   tested = rw (looked, compared) (ap (λ (n : ℕ). between 1 n k && figure_in f x) (load-count p h))
 
-  pub figure-refused : {d : Added} → not (there && fits) ≡ true → d ≡ told no.out_of_range p.tables → d ≡ told_by (state_in p) (setting (state_in p).tables f k x)
-  figure-refused e = out_of_range p h (is_load (state_in p).tables k && figure_in f x) [] _ (sym tested ∙ not-true _ e)
+  pub figure-refused : {d : Added} → there && fits ≡ false → d ≡ told no.out_of_range p.tables → d ≡ told_by (state_in p) (setting (state_in p).tables f k x)
+  figure-refused e = out_of_range p h (is_load (state_in p).tables k && figure_in f x) [] _ (sym tested ∙ e)
 
-  pub figure-set : {d : Added} → not (there && fits) ≡ false → (u : StoredTables) → u ≡ figure_changed p.tables f k x → d ≡ told 0 u
+  pub figure-set : {d : Added} → there && fits ≡ true → (u : StoredTables) → u ≡ figure_changed p.tables f k x → d ≡ told 0 u
       → d ≡ told_by (state_in p) (setting (state_in p).tables f k x)
   figure-set e u given =
-      let passed = sym tested ∙ not-false _ e in
+      let passed = sym tested ∙ e in
       let is-there = inside 1 (length (state_in p).tables.loads) k (and_left (is_load (state_in p).tables k) (figure_in f x) passed) in
       accepts p h (is_load (state_in p).tables k && figure_in f x) _ passed u
       (given ∙ ap (λ (y : StoredTables). figure_changed y f k x) (is-stored p.tables h.tables) ∙ figure-changed (state_in p).tables (kept-within (held p) h).tables f k x is-there.0 is-there.1)
@@ -154,13 +154,13 @@ module _ (p : Planner) (h : Lawful p) (k : ℕ) {there : Bool} (looked : there �
   number-tested : there ≡ is_load (state_in p).tables k
   number-tested = looked ∙ ap (λ (n : ℕ). between 1 n k) (load-count p h)
 
-  pub no-load : {d : Added} → not there ≡ true → d ≡ told no.out_of_range p.tables → d ≡ told_for (state_in p) (to.Drop k)
+  pub no-load : {d : Added} → there ≡ false → d ≡ told no.out_of_range p.tables → d ≡ told_for (state_in p) (to.Drop k)
   unfolding changing
-  no-load e = out_of_range p h (is_load (state_in p).tables k) _ _ (sym number-tested ∙ not-true _ e)
+  no-load e = out_of_range p h (is_load (state_in p).tables k) _ _ (sym number-tested ∙ e)
 
-  module _ (e : not there ≡ false) where
+  module _ (e : there ≡ true) where
     passed : is_load (state_in p).tables k ≡ true
-    passed = sym number-tested ∙ not-false _ e
+    passed = sym number-tested ∙ e
 
     is-there : (1 ≤ k) × (k ≤ length (state_in p).tables.loads)
     is-there = inside 1 (length (state_in p).tables.loads) k passed

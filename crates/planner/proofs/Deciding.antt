@@ -50,15 +50,15 @@ module _ {s : State} {cells : ℕ} {r : Row} (x : Right s cells r) where
 
 -- ---- the command that was read is the line's
 module _ (s : State) (l : List ℕ) {c : Command} (read : c ≡ line_command l) where
-  line_row : row s c ≡ line_row s l
+  line_row_is : row s c ≡ line_row s l
   unfolding line_row
-  line_row = ap (row s) read
+  line_row_is = ap (row s) read
 
   pub line-bytes : bytes_for c ≡ bytes_of (line_row s l)
-  line-bytes = sym (row-bytes s c) ∙ ap bytes_of line_row
+  line-bytes = sym (row-bytes s c) ∙ ap bytes_of line_row_is
 
   pub line-decides : {w v : List ℕ} {d : Decided} → Decides s (row s c) w v d → Decides s (line_row s l) w v d
-  line-decides {w} {v} {d} = subst (λ (r : Row). Decides s r w v d) line_row
+  line-decides {w} {v} {d} = subst (λ (r : Row). Decides s r w v d) line_row_is
 
 -- ---- a row that works in no cells leaves the work as it was
 pub works-in-none : (s : State) (r : Row) (w : List ℕ) {d : Decided} → cells_for r ≡ 0 → d ≡ decided s (length w) r → Decides s r w w d

@@ -6,10 +6,9 @@ use mathlib.Core.List.{List, ◌++◌}
 use native.Mathlib.Omega.{arith}
 use borrow.Author.Tests.{ne_eqb, eq-eqb}
 use borrow.Rule.Slice.PartMut.{put_mid}
-use lib.Dec.{eqb, lit≤}
+use lib.Dec.{lit≤}
 use lib.ListN.{length, take, drop, replicate}
 use lib.Seq.{sets}
-use Rattle.marks.specs.Sets.{size_of, mark_in}
 use Rattle.lines.specs.Answers.{refused, run_bytes, Wrote}
 use Rattle.lines.proofs.Answers.{refused-fits}
 use Rattle.lines.proofs.Wrote.{free_back}
@@ -25,7 +24,7 @@ use Rattle.runs.specs.Runs.{entries_to}
 use Rattle.runs.specs.Outcome.{Outcome, nothing, no_set, planned, is_nothing, found, stored_outcome, of_status, range_of, held_range, outcome_in, keeps_outcome}
 use Rattle.runs.proofs.Stored.{lines-in}
 use Rattle.engine.specs.Portion.{PartFilled}
-use Rattle.calls.specs.State.{State, StoredState, stored_state}
+use Rattle.calls.specs.State.{State, stored_state}
 use Rattle.calls.specs.Rows.{plan_text}
 use Rattle.calls.specs.Printing.{zeroed}
 use Rattle.calls.specs.Calls.{Call, Reply, cleared}
@@ -39,7 +38,7 @@ use Rattle.calls.proofs.Portions.{answers_by}
 use Rattle.planner.specs.declared.Planner.{Planner}
 use Rattle.planner.specs.declared.portion.Portion.{Portion}
 use Rattle.planner.specs.Planner.{held, state_in, Lawful}
-use Rattle.planner.specs.Portions.{reply_of, portion_done, with_filled, refused_by, outcome_number, outcome_text, Answered}
+use Rattle.planner.specs.Portions.{portion_done, with_filled, refused_by, outcome_number, outcome_text, Answered}
 use Rattle.planner.proofs.Searching.{planned-is, text-is, storing-state}
 
 -- ---- a portion on a planner within the limits

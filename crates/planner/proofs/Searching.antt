@@ -32,7 +32,7 @@ use Rattle.meaning.specs.Need.{none_fits}
 use Rattle.runs.specs.declared.run.Run.{Run}
 use Rattle.runs.specs.declared.outcome.StoredOutcome.{StoredOutcome}
 use Rattle.runs.specs.Runs.{run_of, entries_to}
-use Rattle.runs.specs.Outcome.{Outcome, planned, is_nothing, is_no_set, entries_of, found, stored_outcome, of_status, outcome_of, range_of, outcome_in}
+use Rattle.runs.specs.Outcome.{Outcome, planned, is_nothing, is_no_set, entries_of, found, stored_outcome, of_status, outcome_of, range_of}
 use Rattle.runs.proofs.Stored.{lines-in, outcome-stored, found_in}
 use Rattle.calls.specs.State.{State, stored_state}
 use Rattle.calls.specs.Rows.{◌if◌, Row, showing_plan, plan_text, not_allowed, row, causes_of, cells_for}

@@ -17,9 +17,6 @@ rest-room {l} {m} {at} {a} b w h = omega (arith, w.end, wrote-length w, length-a
 
 module _ (a : Answer) (es : List Entry) (cs : List Change) where
   module _ {v w n : ℕ} (told : a ≡ Planned v w n) where
-    pub plan-room : {m : ℕ} → length (text_of a es cs) ≤ m → 0 + length (plan_line v w n) ≤ m
-    plan-room h = omega (arith, length-append (plan_line v w n) (entry_lines es), rw told at h)
-
     pub plan-rest : {l m : List ℕ} {at : ℕ} → Wrote l m 0 at (plan_line v w n) → length (text_of a es cs) ≤ length l → at + length (entry_lines es) ≤ length m
     plan-rest p h = rest-room (entry_lines es) p (rw told at h)
 
@@ -27,11 +24,5 @@ module _ (a : Answer) (es : List Entry) (cs : List Change) where
     plan-wrote p q = rw told (wrote_then p q)
 
   module _ (told : a ≡ Allowed) where
-    pub check-room : {m : ℕ} → length (text_of a es cs) ≤ m → 0 + length yes ≤ m
-    check-room h = omega (arith, length-append yes (entry_lines es), rw told at h)
-
     pub check-rest : {l m : List ℕ} {at : ℕ} → Wrote l m 0 at yes → length (text_of a es cs) ≤ length l → at + length (entry_lines es) ≤ length m
     check-rest p h = rest-room (entry_lines es) p (rw told at h)
-
-    pub check-wrote : {l m k : List ℕ} {i j : ℕ} → Wrote l m 0 i yes → Wrote m k i j (entry_lines es) → Wrote l k 0 j (text_of a es cs)
-    check-wrote p q = rw told (wrote_then p q)

@@ -1,6 +1,5 @@
 -- `Planner::change` meets its contract: what the change tells, with the planner made of it. Assumes nothing.
 use mathlib.Core.Path.{◌∙◌}
-use borrow.Author.Rules.{rules}
 use Rattle.planner.proofs.Commands.{settled_is}
 use Rattle.planner.proofs.Planner.change.Goals as goal
 

@@ -1,7 +1,6 @@
 -- `Planner::clear` meets its contract. Assumes nothing.
 use Prim.Native.Nat.{ℕ}
 use mathlib.Core.Path.{sym, ap, ◌∙◌}
-use borrow.Author.Rules.{rules}
 use Rattle.tables.specs.Tables.{fresh}
 use Rattle.tables.specs.Stored.{stored}
 use Rattle.calls.specs.Rows.{changing}

@@ -1,6 +1,5 @@
 -- `Planner::decide` meets its contract: a case for each sort of command. Assumes nothing.
 use mathlib.Core.Path.{refl, ap, ◌∙◌}
-use borrow.Author.Rules.{rules}
 use lib.Dec.{lit<}
 use Rattle.tables.specs.Refusals as no
 use Rattle.lines.specs.declared.Command.TheVariants.{Broken, TooLong}
@@ -16,37 +15,31 @@ use Rattle.planner.proofs.Planner.decide.Goals as goal
 pub returns-in-Change : goal.returns-in-Change
 unfolding row
 returns-in-Change c =
-    rw c.c-1.given.1 (change-done (state_in c.args.self) _ c.args.work.now c.change.ensures c.changed.ensures)
-
-pub returns-in-Plan : goal.returns-in-Plan
-returns-in-Plan c =  rw c.enum_told-1.given.1 c.plan.ensures
+    rw c.in-Change.is (change-done (state_in c.args.self) _ c.args.work.now c.change.ensures c.changed.ensures)
 
 pub returns-in-Check : goal.returns-in-Check
 unfolding row
-returns-in-Check c = rw c.c-in-Check-1.given.1 (works-in-none _ _ _ refl c.check.ensures)
+returns-in-Check c = rw c.in-Check.is (works-in-none _ _ _ refl c.check.ensures)
 
 pub returns-in-Save : goal.returns-in-Save
 unfolding row
 returns-in-Save c =
     let p = c.args.self in
-    rw c.c-in-Save-1.given.1 (works-in-none (state_in p) _ c.args.work.now refl
+    rw c.in-Save.is (works-in-none (state_in p) _ c.args.work.now refl
     (c.unshown.ensures ∙ ap (λ (a : Answer). unshown a p) (c.save_answer.ensures ∙ ap (save_answer _) c.has_kinds.ensures) ∙ save-done p c.requires _))
 
 pub returns-in-Last : goal.returns-in-Last
 unfolding row
-returns-in-Last c = rw c.enum_told-in-Last-1.given.1 (works-in-none _ _ _ refl c.last.ensures)
-
-pub returns-in-Need : goal.returns-in-Need
-returns-in-Need c =  rw c.c-in-Need-1.given.1 c.need.ensures
+returns-in-Last c = rw c.in-Last.is (works-in-none _ _ _ refl c.last.ensures)
 
 pub returns-in-Broken : goal.returns-in-Broken
 unfolding row lowest
 returns-in-Broken c =
     let p = c.args.self in
-    rw c.enum_told-in-Broken-1.given.1 (turns_down p c.requires (row (state_in p) Broken) no.broken c.args.work.now (lit< tt) refl c.refused.ensures refl)
+    rw c.in-Broken.is (turns_down p c.requires (row (state_in p) Broken) no.broken c.args.work.now (lit< tt) refl c.refused.ensures refl)
 
 pub returns-in-TooLong : goal.returns-in-TooLong
 unfolding row lowest
 returns-in-TooLong c =
     let p = c.args.self in
-    rw c.enum_told-in-TooLong-1.given.1 (turns_down p c.requires (row (state_in p) TooLong) no.too_long c.args.work.now (lit< tt) refl c.refused-in-TooLong.ensures refl)
+    rw c.in-TooLong.is (turns_down p c.requires (row (state_in p) TooLong) no.too_long c.args.work.now (lit< tt) refl c.refused-in-TooLong.ensures refl)

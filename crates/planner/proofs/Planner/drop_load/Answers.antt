@@ -1,5 +1,4 @@
 -- `Planner::drop_load` meets its contract. Assumes nothing.
-use borrow.Author.Rules.{rules}
 use Rattle.planner.proofs.Commands.{no-load, load-stays, load-leaves}
 use Rattle.planner.proofs.Planner.drop_load.Goals as goal
 

@@ -1,5 +1,4 @@
 -- `Planner::fresh` meets its contract. Assumes nothing.
-use borrow.Author.Rules.{rules}
 use Rattle.lists.specs.Arrays.{laid}
 use Rattle.runs.specs.Runs.{mark_all, run_of}
 use Rattle.tables.specs.Tables.{fresh}

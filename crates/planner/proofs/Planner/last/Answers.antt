@@ -1,6 +1,5 @@
 -- `Planner::last` meets its contract. Assumes nothing.
 use mathlib.Core.Path.{refl, ap}
-use borrow.Author.Rules.{rules}
 use lib.Dec.{lit<}
 use Rattle.lines.specs.declared.Command.TheVariants.{Last}
 use Rattle.tables.specs.Refusals as no
@@ -26,7 +25,7 @@ returns-then-self-eq-NO_SET c =
     (last-none-fits p c.requires c.if-self-eq-NO_SET.true)
 
 pub figures_of-figures-requires : goal.figures_of-figures-requires
-figures_of-figures-requires c =  few c.args.self c.requires
+figures_of-figures-requires c = few c.args.self c.requires
 
 pub returns : goal.returns
 unfolding tables_of

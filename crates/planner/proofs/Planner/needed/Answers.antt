@@ -4,7 +4,6 @@ use mathlib.Core.List.{List, ◌++◌}
 use mathlib.Core.Path.{◌≡◌, refl, sym, ap, ◌∙◌}
 use mathlib.Core.Bool.{true, false}
 use native.Mathlib.Omega.{arith}
-use borrow.Author.Rules.{rules}
 use borrow.Author.Tests.{lt-leb, le-leb}
 use lib.ListN.{length, replicate, drop}
 use lib.Dec.{lit<}
@@ -41,12 +40,9 @@ in-range p h v l = rw (places p.tables h.tables) (le-leb v (max_loads * max_wort
 out_of_range : (p : Planner) → Lawful p → (v : ℕ) → max_loads * max_worth < v → need_in (state_in p).tables.places v ≡ false
 out_of_range p h v l = rw (places p.tables h.tables) (lt-leb v (max_loads * max_worth) l)
 
--- there are loads, and enough cells
-some-loads : (c : tie.Else1) → length (tables_of c.before.before.before.before.args.self.tables).loads ≡ 0 → ⊥
-some-loads c z = let e = c.before.before.before.before in c.if1.false (load-count e.args.self e.requires ∙ z)
-
-enough : (c : tie.Else3) → let a = c.before.before.before.before.before.before.before.args in cells_of (tables_of a.self.tables) ≤ length a.work.now
-enough c = omega (arith, c.if3.false, c.before.Cells-of.ensures)
+-- there are loads
+some-loads : (p : Planner) → Lawful p → (p.tables.loads.count ≡ 0 → ⊥) → length (tables_of p.tables).loads ≡ 0 → ⊥
+some-loads p h d z = d (load-count p h ∙ z)
 
 pub returns-then-tables-eq0 : goal.returns-then-tables-eq0
 returns-then-tables-eq0 c =
@@ -58,21 +54,26 @@ pub returns-then-worth-gt-MAX_NEED : goal.returns-then-worth-gt-MAX_NEED
 returns-then-worth-gt-MAX_NEED c =
     let p = c.args.self in
     turns_down p c.requires (need_row p c.args.worth) no.out_of_range c.args.work.now (lit< tt) refl refl
-    (need-out-of-range (state_in p) c.args.worth (length c.args.work.now) (some-loads c) (out_of_range p c.requires c.args.worth c.if-worth-gt-MAX_NEED.true))
+    (need-out-of-range (state_in p) c.args.worth (length c.args.work.now) (some-loads p c.requires c.if-tables-eq0.false) (out_of_range p c.requires c.args.worth c.if-worth-gt-MAX_NEED.true))
 
 pub returns-then-work-cells_of : goal.returns-then-work-cells_of
 returns-then-work-cells_of c =
     let p = c.args.self in
     turns_down p c.requires (need_row p c.args.worth) no.too_few_cells c.args.work.now (lit< tt) refl refl
-    (need-too-few (state_in p) c.args.worth (length c.args.work.now) (some-loads c) (in-range p c.requires c.args.worth c.if-worth-gt-MAX_NEED.false) (omega (arith, c.if-work-cells_of.true, c.cells_of.ensures)))
+    (need-too-few (state_in p) c.args.worth (length c.args.work.now) (some-loads p c.requires c.if-tables-eq0.false) (in-range p c.requires c.args.worth c.if-worth-gt-MAX_NEED.false) (omega (arith, c.if-work-cells_of.true, c.cells_of.ensures)))
 
 pub least_budget-found-requires : goal.least_budget-found-requires
 least_budget-found-requires c =
-    ((kept c.args.self.tables c.requires.tables, c.if-worth-gt-MAX_NEED.false), (positive c.if-tables-eq0.false, enough c))
+    record {
+      t_value = (kept c.args.self.tables c.requires.tables, c.if-worth-gt-MAX_NEED.false);
+      count_nonzero = (positive c.if-tables-eq0.false, omega (arith, c.if-work-cells_of.false, c.cells_of.ensures));
+    }
 
 pub returns : goal.returns
 returns c =
     let p = c.args.self in
     let v = c.args.worth in
-    needs-done p c.requires v c.args.work.now _ (some-loads c) (in-range p c.requires v c.if-worth-gt-MAX_NEED.false) (enough c) (cleared p v c.args.work.now _ c.least_budget-found.ensures.1)
-    c.least_budget-found.result c.least_budget-found.ensures.0 (ap (λ (a : Answer). unshown a p) c.need_answer.ensures)
+    let enough : cells_of (tables_of p.tables) ≤ length c.args.work.now = omega (arith, c.if-work-cells_of.false, c.cells_of.ensures) in
+    needs-done p c.requires v c.args.work.now _ (some-loads p c.requires c.if-tables-eq0.false) (in-range p c.requires v c.if-worth-gt-MAX_NEED.false) enough
+    (cleared p v c.args.work.now _ c.least_budget-found.ensures.work_after)
+    c.least_budget-found.result c.least_budget-found.ensures.value (ap (λ (a : Answer). unshown a p) c.need_answer.ensures)

@@ -3,7 +3,6 @@ use Prim.Native.Nat.{ℕ, ◌≤◌}
 use mathlib.Core.List.{List, ◌++◌}
 use mathlib.Core.Path.{◌≡◌, refl, sym, ◌∙◌}
 use native.Mathlib.Omega.{arith}
-use borrow.Author.Rules.{rules}
 use lib.ListN.{length, replicate, drop}
 use lib.Dec.{lit<}
 use Rattle.tables.specs.Refusals as no
@@ -14,7 +13,7 @@ use Rattle.calls.specs.Rows.{Row, row, cells_for}
 use Rattle.calls.specs.Printing.{zeroed}
 use Rattle.calls.proofs.Answers.{positive}
 use Rattle.planner.specs.declared.Planner.{Planner}
-use Rattle.planner.specs.Planner.{state_in}
+use Rattle.planner.specs.Planner.{state_in, Lawful}
 use Rattle.planner.proofs.Commands.{load-count}
 use Rattle.planner.proofs.Searching.{plan-no-loads, plan-too-few, kept, turns_down, storing-lawful, plans}
 use Rattle.planner.proofs.Planner.plan.Goals as goal
@@ -27,12 +26,9 @@ cleared : (p : Planner) (w v : List ℕ) → v ≡ replicate (cells_of (tables_o
 unfolding zeroed row
 cleared p w v is = is
 
--- there are loads, and enough cells
-some-loads : (c : tie.Else1) → length (tables_of c.before.before.before.before.args.self.tables).loads ≡ 0 → ⊥
-some-loads c z = let e = c.before.before.before.before in c.if1.false (load-count e.args.self e.requires ∙ z)
-
-enough : (c : tie.Else2) → let a = c.before.before.before.before.before.before.args in cells_of (tables_of a.self.tables) ≤ length a.work.now
-enough c = omega (arith, c.if2.false, c.before.Cells-of.ensures)
+-- there are loads
+some-loads : (p : Planner) → Lawful p → (p.tables.loads.count ≡ 0 → ⊥) → length (tables_of p.tables).loads ≡ 0 → ⊥
+some-loads p h d z = d (load-count p h ∙ z)
 
 pub returns-then-tables-eq0 : goal.returns-then-tables-eq0
 returns-then-tables-eq0 c =
@@ -44,19 +40,22 @@ pub returns-then-work-cells_of : goal.returns-then-work-cells_of
 returns-then-work-cells_of c =
     let p = c.args.self in
     turns_down p c.requires (plan_row p) no.too_few_cells c.args.work.now (lit< tt) refl c.refused-then-work-cells_of.ensures
-    (plan-too-few (state_in p) (length c.args.work.now) (some-loads c) (omega (arith, c.if-work-cells_of.true, c.cells_of.ensures)))
+    (plan-too-few (state_in p) (length c.args.work.now) (some-loads p c.requires c.if-tables-eq0.false) (omega (arith, c.if-work-cells_of.true, c.cells_of.ensures)))
 
 pub plan-outcome-requires : goal.plan-outcome-requires
 plan-outcome-requires c =
-    let s = c.args.self.tables in
-    (kept s c.requires.tables, (positive c.if-tables-eq0.false, enough c))
+    record {
+      t_value = kept c.args.self.tables c.requires.tables;
+      count_nonzero = (positive c.if-tables-eq0.false, omega (arith, c.if-work-cells_of.false, c.cells_of.ensures));
+    }
 
 pub last-requires : goal.last-requires
 last-requires c =
-    storing-lawful c.args.self c.requires c.plan-outcome.result c.plan-outcome.ensures.0
+    storing-lawful c.args.self c.requires c.plan-outcome.result c.plan-outcome.ensures.value
 
 pub returns : goal.returns
 returns c =
     let p = c.args.self in
-    plans p c.requires c.plan-outcome.result c.plan-outcome.ensures.0 (some-loads c) c.args.work.now _ (enough c)
-    (cleared p c.args.work.now _ c.plan-outcome.ensures.1) c.last.ensures
+    let enough : cells_of (tables_of p.tables) ≤ length c.args.work.now = omega (arith, c.if-work-cells_of.false, c.cells_of.ensures) in
+    plans p c.requires c.plan-outcome.result c.plan-outcome.ensures.value (some-loads p c.requires c.if-tables-eq0.false) c.args.work.now _ enough
+    (cleared p c.args.work.now _ c.plan-outcome.ensures.work_after) c.last.ensures

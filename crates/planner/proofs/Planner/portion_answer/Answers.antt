@@ -1,13 +1,18 @@
 -- `Planner::portion_answer` meets its contract: the outcome is read from the cells, and written. Assumes nothing.
+use Prim.Native.Nat.{◌+◌, ◌≤◌, ◌<◌}
 use mathlib.Core.Path.{refl}
 use native.Mathlib.Omega.{arith}
 use borrow.Author.Rules.{rules}
+use lib.ListN.{length}
+use Rattle.lines.specs.Answers.{run_bytes}
 use Rattle.lines.proofs.Wrote.{free-length}
-use Rattle.calls.specs.Calls.{Call}
+use Rattle.tables.specs.Stored.{tables_of}
+use Rattle.meaning.specs.Cells.{cells_of}
 use Rattle.calls.specs.Demand2.{PlanCall}
-use Rattle.calls.specs.Portions.{plan_call}
+use Rattle.calls.specs.Portions.{PortionCall, plan_call}
 use Rattle.calls.proofs.Portions.{plan-line}
-use Rattle.planner.specs.Planner.{state_in}
+use Rattle.planner.specs.declared.Planner.{Planner}
+use Rattle.planner.specs.Planner.{state_in, Lawful}
 use Rattle.planner.specs.Portions.{portion_of}
 use Rattle.planner.proofs.Commands.{load-count, few}
 use Rattle.planner.proofs.Searching.{kept}
@@ -15,36 +20,39 @@ use Rattle.planner.proofs.Portioning.{Read, text-few, answered}
 use Rattle.planner.proofs.Planner.portion_answer.Goals as goal
 
 -- the call on `plan` that it answers
-made : tie.Start → Call
-made e = plan_call (portion_of 0 e.args.out.now e.args.place e.args.work.now)
-
-plan-made : (e : tie.Start) → PlanCall (state_in e.args.self).tables (made e)
-unfolding made
-plan-made e = record {
-  enough = record { line = plan-line; free = e.requires.1.0; cells = e.requires.1.1 };
-  loads = omega (arith, e.requires.0.1, load-count e.args.self e.requires.0.0);
-
+plan-made : (p : Planner) → Lawful p → 0 < p.tables.loads.count → (c : PortionCall) → c.place + run_bytes ≤ length c.output → cells_of (tables_of p.tables) ≤ length c.work
+    → PlanCall (state_in p).tables (plan_call c)
+plan-made p h some c free cells = record {
+  enough = record { line = plan-line; free = free; cells = cells };
+  loads = omega (arith, some, load-count p h);
 }
 
 pub read_all-outcome-requires : goal.read_all-outcome-requires
 read_all-outcome-requires c =
-    (kept c.args.self.tables c.requires.0.0.tables, (c.requires.0.1, c.requires.1.1))
-
--- what was read
-read : (c : tie.After-read-all) → Read c.before.before.before.before.before.args.self c.read_all.result
-read c = record { states = search rules; rules = search rules; rows = search rules; kept = c.read_all.ensures.0.kept; some = c.read_all.ensures.0.some }
+    record {
+      t_value = kept c.args.self.tables c.requires.lawful.0.tables;
+      count_nonzero = (c.requires.lawful.1, c.requires.run_bytes_in_bounds.1);
+    }
 
 pub write_outcome-written-requires : goal.write_outcome-written-requires
 write_outcome-written-requires c =
     let p = c.args.self in
-    (few p c.requires.0.0, omega (arith, text-few p c.requires.0.0 c.read_all-outcome.result (read c), free-length c.args.place c.args.out.now, c.requires.1.0))
+    let h = c.requires.lawful.0 in
+    let o = c.read_all-outcome.result in
+    let read : Read p o = record { states = search rules; rules = search rules; rows = search rules; kept = c.read_all-outcome.ensures.read.kept; some = c.read_all-outcome.ensures.read.some } in
+    (few p h, omega (arith, text-few p h o read, free-length c.args.place c.args.out.now, c.requires.run_bytes_in_bounds.0))
 
 pub returns : goal.returns
-unfolding made
 returns c =
-    let p = c.args.self in
+    let a = c.args in
+    let p = a.self in
+    let h = c.requires.lawful.0 in
+    let o = c.read_all-outcome.result in
+    let read : Read p o = record { states = search rules; rules = search rules; rows = search rules; kept = c.read_all-outcome.ensures.read.kept; some = c.read_all-outcome.ensures.read.some } in
+    let made = portion_of 0 a.out.now a.place a.work.now in
     record {
       planner = c.with_filled.ensures;
       filled = refl;
-      answers = answered p c.requires.0.0 c.read_all-outcome.result (read c) (made c) (plan-made c) c.read_all-outcome.ensures.0.right _ _ _ _ c.write_outcome-written.ensures.0 c.write_outcome-written.ensures.1 c.read_all-outcome.ensures.1;
+      answers = answered p h o read (plan_call made) (plan-made p h c.requires.lawful.1 made c.requires.run_bytes_in_bounds.0 c.requires.run_bytes_in_bounds.1)
+          c.read_all-outcome.ensures.read.right _ _ _ _ c.write_outcome-written.ensures.number c.write_outcome-written.ensures.text c.read_all-outcome.ensures.cleared;
     }

@@ -1,15 +1,13 @@
 -- `Planner::settled` meets its contract. Assumes nothing.
 use Prim.Native.Nat.{ℕ, zero, suc}
 use mathlib.Core.Path.{◌≡◌, refl, ◌∙◌}
-use mathlib.Core.Logic.{⊎_elim}
-use borrow.Author.Rules.{rules}
 use Rattle.lists.specs.Arrays.{laid}
 use Rattle.tables.specs.Limits.{max_loads}
 use Rattle.tables.specs.Operations.{accepted}
-use Rattle.runs.specs.declared.outcome.StoredOutcome.{StoredOutcome}
 use Rattle.runs.specs.Runs.{mark_all, run_of}
 use Rattle.runs.specs.Outcome.{nothing, stored_outcome}
 use Rattle.planner.proofs.Planner.settled.Goals as goal
+use Rattle.planner.proofs.Planner.settled.Goals.{then-number-eq0, else-number-eq0}
 
 kept : {A : Type 0} (n : ℕ) (z o : A) → (n ≡ 0 → ⊥) → o ≡ accepted n z o
 kept zero z o d = absurd (d refl)
@@ -24,7 +22,13 @@ returns c =
     let f = c.if-number-eq0 in
     let a = c.args in
     let outcome : f.outcome ≡ accepted a.number (stored_outcome max_loads nothing) a.self.outcome =
-    ⊎_elim (λ x. x.1 ∙ wiped a.number _ a.self.outcome x.0.taken) (λ x. x.1 ∙ kept a.number _ a.self.outcome x.0.left) f.branch in
+    elim f.branch [
+      | then-number-eq0 w ↦ w.outcome-is ∙ wiped a.number _ a.self.outcome w.if-number-eq0.true
+      | else-number-eq0 w ↦ w.outcome-is ∙ kept a.number _ a.self.outcome w.if-number-eq0.false
+    ] in
     let filled : f.filled ≡ accepted a.number 0 a.self.filled =
-    ⊎_elim (λ x. x.2 ∙ wiped a.number 0 a.self.filled x.0.taken) (λ x. x.2 ∙ kept a.number 0 a.self.filled x.0.left) f.branch in
+    elim f.branch [
+      | then-number-eq0 w ↦ w.filled-is ∙ wiped a.number 0 a.self.filled w.if-number-eq0.true
+      | else-number-eq0 w ↦ w.filled-is ∙ kept a.number 0 a.self.filled w.if-number-eq0.false
+    ] in
     rw (c.of_change.ensures, outcome, filled)

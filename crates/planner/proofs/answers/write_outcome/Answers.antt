@@ -1,9 +1,8 @@
 -- `write_outcome` meets its contract: a refusal, or the line of the plan and those of its loads. Assumes nothing.
 use Prim.Native.Nat.{ℕ}
-use mathlib.Core.Path.{◌≡◌, refl, sym, ap, ap₂, ◌∙◌}
+use mathlib.Core.Path.{◌≡◌, sym, ap, ap₂}
 use mathlib.Core.List.{◌++◌}
 use native.Mathlib.Omega.{arith}
-use borrow.Author.Rules.{rules}
 use borrow.Author.Tests.{ne_eqb}
 use lib.ListN.{length, length-append}
 use Rattle.marks.specs.Sets.{size_of, mark_in}
@@ -38,25 +37,29 @@ write_no-count-requires c =
 
 pub returns-then-outcome-eq-NO_SET : goal.returns-then-outcome-eq-NO_SET
 returns-then-outcome-eq-NO_SET c =
-    (rw c.if-outcome-eq-NO_SET.true, rw (refused-text c.args.loads c.args.outcome c.if-outcome-eq-NO_SET.true) c.write_no-count.ensures)
-
--- the text of the plan that is written
-text : (c : tie.After-count) → let e = c.before.before.before.before.before.before.before.before in
-    outcome_text e.args.loads e.args.outcome ≡ plan_line c.before.before.figures-of.result.worth c.before.before.figures-of.result.power c.count.result ++ entry_lines (entries_to e.args.outcome.run e.args.loads.count)
-text c =
-    let f = c.before.before in
-    let i = f.before.before.before in
-    let e = i.before.before.before in
-    plan-text e.args.loads e.args.outcome i.if1.false _ _ _ f.figures-of.ensures c.count.ensures
+    record {
+      number = rw c.if-outcome-eq-NO_SET.true;
+      text = rw (refused-text c.args.loads c.args.outcome c.if-outcome-eq-NO_SET.true) c.write_no-count.ensures;
+    }
 
 pub write_plan-at-requires : goal.write_plan-at-requires
 write_plan-at-requires c =
-    omega (arith, c.requires.1, ap length (text c), length-append (plan_line c.figures_of-figures.result.worth c.figures_of-figures.result.power c.count.result) (entry_lines (entries_to c.args.outcome.run c.args.loads.count)))
+    let a = c.args in
+    let f = c.figures_of-figures.result in
+    let is = plan-text a.loads a.outcome c.if-outcome-eq-NO_SET.false _ _ _ c.figures_of-figures.ensures c.count.ensures in
+    omega (arith, c.requires.1, ap length is, length-append (plan_line f.worth f.power c.count.result) (entry_lines (entries_to a.outcome.run a.loads.count)))
 
 pub write_run-count-requires : goal.write_run-count-requires
 write_run-count-requires c =
-    (c.requires.0, rest-room (entry_lines (entries_to c.args.outcome.run c.args.loads.count)) c.write_plan-at.ensures (rw (text c) at c.requires.1))
+    let a = c.args in
+    let is = plan-text a.loads a.outcome c.if-outcome-eq-NO_SET.false _ _ _ c.figures_of-figures.ensures c.count.ensures in
+    (c.requires.0, rest-room (entry_lines (entries_to a.outcome.run a.loads.count)) c.write_plan-at.ensures (rw is at c.requires.1))
 
 pub returns : goal.returns
 returns c =
-    (rw (ne_eqb _ 1 c.if-outcome-eq-NO_SET.false), rw (text c) (wrote_then c.write_plan-at.ensures c.write_run-count.ensures))
+    let a = c.args in
+    let is = plan-text a.loads a.outcome c.if-outcome-eq-NO_SET.false _ _ _ c.figures_of-figures.ensures c.count.ensures in
+    record {
+      number = rw (ne_eqb _ 1 c.if-outcome-eq-NO_SET.false);
+      text = rw is (wrote_then c.write_plan-at.ensures c.write_run-count.ensures);
+    }

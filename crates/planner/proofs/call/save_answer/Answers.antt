@@ -1,6 +1,5 @@
 -- `save_answer` meets its contract: refused where a kind would be lost. Assumes nothing.
 use mathlib.Core.Path.{sym, ◌∙◌}
-use borrow.Author.Rules.{rules}
 use Rattle.planner.specs.Decided.{save_answer}
 use Rattle.planner.proofs.call.save_answer.Goals as goal
 
