@@ -71,7 +71,7 @@ module _ (p : StoredState) (k : ℕ) (page : List ℕ) where
   drawn a b c o =
       let e = unrefused p k (length page) (eqb-true (length page) page_bytes a) b c o in
       record {
-        not_aPage = (λ z. absurd (omega (arith, z, e)), λ z. absurd (split a z));
+        not_a_page = (λ z. absurd (omega (arith, z, e)), λ z. absurd (split a z));
         unusable = (λ z. absurd (omega (arith, z, e)), λ z. absurd (split b z.1));
         out_of_range = (λ z. absurd (omega (arith, z, e)), λ z. absurd (split c z.2));
         no_plan = (λ z. absurd (omega (arith, z, e)), λ z. absurd (no-outcome z.3 o));
@@ -83,7 +83,7 @@ module _ (p : StoredState) (k : ℕ) (page : List ℕ) where
   number false a b' b c' c o' o =
       let e = no-page p k (length page) (eqb-false (length page) page_bytes a) in
       record {
-        not_aPage = (λ z. a, λ z. sym e);
+        not_a_page = (λ z. a, λ z. sym e);
         unusable = (λ z. absurd (omega (arith, z, e)), λ z. absurd (split z.0 a));
         out_of_range = (λ z. absurd (omega (arith, z, e)), λ z. absurd (split z.0 a));
         no_plan = (λ z. absurd (omega (arith, z, e)), λ z. absurd (split z.0 a));
@@ -93,7 +93,7 @@ module _ (p : StoredState) (k : ℕ) (page : List ℕ) where
   number true a false b c' c o' o =
       let e = broken p k (length page) (eqb-true (length page) page_bytes a) b in
       record {
-        not_aPage = (λ z. absurd (omega (arith, z, e)), λ z. absurd (split a z));
+        not_a_page = (λ z. absurd (omega (arith, z, e)), λ z. absurd (split a z));
         unusable = (λ z. (a, b), λ z. sym e);
         out_of_range = (λ z. absurd (omega (arith, z, e)), λ z. absurd (split z.1 b));
         no_plan = (λ z. absurd (omega (arith, z, e)), λ z. absurd (split z.1 b));
@@ -103,7 +103,7 @@ module _ (p : StoredState) (k : ℕ) (page : List ℕ) where
   number true a true b false c o' o =
       let e = no-load p k (length page) (eqb-true (length page) page_bytes a) b c in
       record {
-        not_aPage = (λ z. absurd (omega (arith, z, e)), λ z. absurd (split a z));
+        not_a_page = (λ z. absurd (omega (arith, z, e)), λ z. absurd (split a z));
         unusable = (λ z. absurd (omega (arith, z, e)), λ z. absurd (split b z.1));
         out_of_range = (λ z. (a, b, c), λ z. sym e);
         no_plan = (λ z. absurd (omega (arith, z, e)), λ z. absurd (split z.2 c));
@@ -113,7 +113,7 @@ module _ (p : StoredState) (k : ℕ) (page : List ℕ) where
   number true a true b true c nothing o =
       let e = no-plan p k (length page) (eqb-true (length page) page_bytes a) b c (ap is_nothing o) in
       record {
-        not_aPage = (λ z. absurd (omega (arith, z, e)), λ z. absurd (split a z));
+        not_a_page = (λ z. absurd (omega (arith, z, e)), λ z. absurd (split a z));
         unusable = (λ z. absurd (omega (arith, z, e)), λ z. absurd (split b z.1));
         out_of_range = (λ z. absurd (omega (arith, z, e)), λ z. absurd (split c z.2));
         no_plan = (λ z. (a, b, c, o), λ z. sym e);

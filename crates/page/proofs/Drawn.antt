@@ -1,35 +1,31 @@
 -- A drawing: what refuses it, test by test, its page, and what it leaves. Assumes nothing.
 use Prim.Native.Nat.{ℕ, zero, suc, ◌+◌, ◌*◌, ◌≤◌}
 use mathlib.Core.Path.{◌≡◌, refl, sym, ◌∙◌}
-use mathlib.Core.Bool.{Bool, true, false, ◌&&◌, ◌||◌, not}
+use mathlib.Core.Bool.{Bool, true, false, ◌||◌}
 use mathlib.Core.List.{List, [], ◌++◌, append-nil}
 use native.Mathlib.Omega.{arith}
-use borrow.Author.Tests.{not-true, not-false, eq-eqb, ne_eqb, ltb-true, ltb-false, le-leb, lt-leb}
+use borrow.Author.Tests.{eq-eqb, ne_eqb, ltb-true, ltb-false, le-leb, lt-leb}
 use lib.Dec.{leb, ltb}
 use lib.ListN.{length, drop, replicate, drop_of_length-le}
 use lib.Seq.{sets-eq}
-use Rattle.lists.proofs.Bools.{and_left, and_right, and-false, or_left, or_right}
+use Rattle.lists.proofs.Bools.{and-false, or_left, or_right}
 use Rattle.lines.specs.Answers.{Wrote}
 use Rattle.tables.specs.Refusals as no
-use Rattle.tables.specs.Limits.{max_loads, between}
-use Rattle.tables.specs.Stored.{keeps_limits, Holds}
+use Rattle.tables.specs.Limits.{between}
 use Rattle.tables.specs.declared.entry.Entry.{Entry}
 use Rattle.meaning.specs.Sets.{worth, power}
 use Rattle.meaning.specs.Choice.{shown_set}
-use Rattle.runs.specs.Outcome.{no_set, planned, is_nothing, of_status, held_range, keeps_outcome}
+use Rattle.runs.specs.Outcome.{no_set, planned, is_nothing, of_status}
 use Rattle.calls.specs.State.{State, StoredState, state_of, keeps}
 use Rattle.calls.specs.Rows.{is_load}
 use Rattle.calls.specs.Causes.{lowest}
 use Rattle.calls.proofs.Work.{clash}
-use Rattle.planner.specs.declared.Planner.{Planner}
-use Rattle.planner.specs.Planner.{held, state_in, Lawful}
-use Rattle.planner.proofs.Commands.{tables-count}
 use Rattle.page.specs.Rows.{page_bytes, row_bytes, load_row_count, blank, plan_row, no_plan_row, load_rows}
 use Rattle.page.specs.Drawing.{page_of, refusal_of, drawn_of, drawing}
 use Rattle.page.proofs.RowText.{rows-blank}
 
 module _ (p : StoredState) (k n : ℕ) where
-  pub no-page : (n ≡ page_bytes → ⊥) → no.not_aPage ≡ refusal_of p k n
+  pub no-page : (n ≡ page_bytes → ⊥) → no.not_a_page ≡ refusal_of p k n
   unfolding refusal_of lowest
   no-page d = rw (ne_eqb n page_bytes d)
 
@@ -50,14 +46,6 @@ module _ (p : StoredState) (k n : ℕ) where
       pub unrefused : is_load (state_of p).tables k ≡ true → is_nothing (state_of p).outcome ≡ false → 0 ≡ refusal_of p k n
       unfolding refusal_of lowest
       unrefused l b = rw (eq-eqb n page_bytes e, h, l, b)
-
--- the test of a planner, as the code makes it
-module _ (p : Planner) {a : Bool} (t : a ≡ keeps (held p)) where
-  pub test-failed : not a ≡ true → keeps (held p) ≡ false
-  test-failed e = sym t ∙ not-true a e
-
-  pub test-passed : not a ≡ false → keeps (held p) ≡ true
-  test-passed e = sym t ∙ not-false a e
 
 -- the status of an outcome
 pub status-nothing : (k : ℕ) (es : List Entry) → k ≡ 0 → is_nothing (of_status k es) ≡ true

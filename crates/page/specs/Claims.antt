@@ -22,7 +22,7 @@ use Rattle.page.specs.Stretch.{row_at, is_page, place, stretch, beginning}
 -- the number is 0, or one refusal, each exactly in its case
 pub record NumberRight (p : StoredState) (load : ℕ) (page : List ℕ) (n : ℕ) : Type 0 where
   -- "13, a page to draw on not of 160 bytes, tested first"
-  pub not_aPage : (n ≡ no.not_aPage) ↔ (is_page page ≡ false)
+  pub not_a_page : (n ≡ no.not_a_page) ↔ (is_page page ≡ false)
   -- a planner handed in that breaks a limit
   pub unusable : (n ≡ no.unusable) ↔ ((is_page page ≡ true) × (keeps p ≡ false))
   -- "The load k asked for must exist (5)"
@@ -32,7 +32,7 @@ pub record NumberRight (p : StoredState) (load : ℕ) (page : List ℕ) (n : ℕ
       ↔ ((is_page page ≡ true) × (keeps p ≡ true) × (is_load (state_of p).tables load ≡ true) × ((state_of p).outcome ≡ nothing))
   pub none : (n ≡ 0)
       ↔ ((is_page page ≡ true) × (keeps p ≡ true) × (is_load (state_of p).tables load ≡ true) × (is_nothing (state_of p).outcome ≡ false))
-  pub others : (n ≡ 0) ⊎ (n ≡ no.not_aPage) ⊎ (n ≡ no.unusable) ⊎ (n ≡ no.out_of_range) ⊎ (n ≡ no.no_plan)
+  pub others : (n ≡ 0) ⊎ (n ≡ no.not_a_page) ⊎ (n ≡ no.unusable) ⊎ (n ≡ no.out_of_range) ⊎ (n ≡ no.no_plan)
 
 pub record DrawingRight (p : StoredState) (load : ℕ) (page : List ℕ) (d : Drawn) : Type 0 where
   pub number : NumberRight p load page d.number

@@ -39,7 +39,7 @@ page_of s k = first_row s.tables s.outcome ++ load_rows (loads_shown s.tables s.
 -- that applies: `lowest` of `calls`, whose causes stand in the order of their numbers, takes the first.)
 abbrev pub causes : StoredState → (load bytes : ℕ) → List Cause
 causes p k n =
-    (no.not_aPage if not (eqb n page_bytes))
+    (no.not_a_page if not (eqb n page_bytes))
     ∷ (no.unusable if not (keeps p))
     ∷ (no.out_of_range if not (is_load (state_of p).tables k))
     ∷ (no.no_plan if is_nothing (state_of p).outcome)

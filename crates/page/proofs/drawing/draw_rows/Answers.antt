@@ -2,7 +2,6 @@
 use Prim.Native.Nat.{ℕ, ◌-◌, ◌*◌}
 use mathlib.Core.Path.{◌≡◌, ap, ◌∙◌}
 use native.Mathlib.Omega.{arith}
-use borrow.Author.Rules.{rules}
 use lib.ListN.{replicate, length-append, length-replicate}
 use Rattle.lines.proofs.Wrote.{wrote-length, wrote_then}
 use Rattle.marks.specs.Sets.{mark_in}
@@ -30,7 +29,7 @@ returns-then-planner-eq-NO_SET c =
     ∙ page-none (state_in p) c.args.load c.requires.low (status-no-set p.outcome.status _ (omega (arith, c.if-planner-eq-NO_SET.true, c.requires.current)))
 
 pub figures_of-figures-requires : goal.figures_of-figures-requires
-figures_of-figures-requires c =  few c.args.planner c.requires.lawful
+figures_of-figures-requires c = few c.args.planner c.requires.lawful
 
 pub put_loads-requires : goal.put_loads-requires
 put_loads-requires c =

@@ -1,11 +1,8 @@
 -- `put_blanks` meets its contract. The invariant: the bytes up to the next place are blank. Assumes nothing.
-use Prim.Native.Nat.{◌-◌, ◌≤◌}
+use Prim.Native.Nat.{◌-◌}
 use mathlib.Core.Path.{◌≡◌}
 use native.Mathlib.Omega.{arith}
-use lib.ListN.{replicate}
-use Rattle.lines.specs.Answers.{Wrote}
 use Rattle.lines.proofs.Wrote.{wrote-length}
-use Rattle.page.specs.Rows.{blank}
 use Rattle.page.proofs.RowText.{blanks-none, blanks-more}
 use Rattle.page.proofs.rows.put_blanks.Goals as goal
 

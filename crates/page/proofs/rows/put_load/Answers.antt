@@ -1,6 +1,5 @@
 -- `put_load` meets its contract. Assumes nothing.
 use native.Mathlib.Omega.{arith}
-use borrow.Author.Rules.{rules}
 use lib.Seq.{append_snoc}
 use Rattle.lists.specs.Argmax.{guard}
 use Rattle.lines.proofs.Wrote.{wrote-length, wrote_then}

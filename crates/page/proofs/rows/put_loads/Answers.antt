@@ -1,23 +1,13 @@
 -- `put_loads` meets its contract. The invariant: the rows of the first i loads are written. Assumes nothing.
-use Prim.Native.Nat.{ℕ, ◌+◌, ◌-◌, ◌≤◌}
-use mathlib.Core.List.{List}
+use Prim.Native.Nat.{◌+◌}
 use native.Mathlib.Omega.{arith}
 use Rattle.marks.specs.Sets.{mark_in}
-use Rattle.marks.specs.declared.LoadSet.{LoadSet}
-use Rattle.lines.specs.Answers.{Wrote}
 use Rattle.lines.proofs.Wrote.{wrote_none, wrote-length, part_room, part-more, part-all}
-use Rattle.tables.specs.declared.load.LoadList.{LoadList}
 use Rattle.tables.specs.Stored.{loads_of}
-use Rattle.page.specs.Rows.{load_row_count, row_of, load_rows}
+use Rattle.page.specs.Rows.{load_row_count}
 use Rattle.page.proofs.RowText.{row-length, rows_none, rows_more, rows-length}
+use Rattle.page.proofs.rows.put_loads.Invariants.{text, part}
 use Rattle.page.proofs.rows.put_loads.Goals as goal
-
--- the rows of the first i loads, and what the next adds to them
-abbrev text : LoadList → LoadSet → (first i : ℕ) → List ℕ
-text ls s k i = load_rows (loads_of ls) (mark_in s) k i
-
-abbrev part : LoadList → LoadSet → (first i : ℕ) → List ℕ
-part ls s k i = row_of (loads_of ls) (mark_in s) (k + i)
 
 pub loop-i-init : goal.loop-i-init
 loop-i-init c = let a = c.args in (omega arith, rw (rows_none (loads_of a.loads) (mark_in a.set) a.first) (wrote_none _ _))
@@ -45,12 +35,3 @@ pub returns : goal.returns
 returns c =
     let a = c.args in
     part-all (text a.loads a.set a.first) (part a.loads a.set a.first) load_row_count (λ i h. rows_more (loads_of a.loads) (mark_in a.set) a.first i) c.loop-i.i c.loop-i.invariant.0 c.loop-i-test.false c.loop-i.invariant.1
-
-pub overflow_add-first : goal.overflow_add-first
-overflow_add-first c = omega (arith, c.loop-i-test.true, c.requires.2)
-
-pub overflow_step-i : goal.overflow_step-i
-overflow_step-i c = omega arith
-
-pub loop-i-smaller : goal.loop-i-smaller
-loop-i-smaller c = omega arith

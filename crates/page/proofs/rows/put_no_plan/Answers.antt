@@ -1,6 +1,5 @@
 -- `put_no_plan` meets its contract. Assumes nothing.
 use native.Mathlib.Omega.{arith}
-use borrow.Author.Rules.{rules}
 use Rattle.page.specs.Rows.{no_plan_row}
 use Rattle.page.proofs.RowText.{wrote-filled}
 use Rattle.page.proofs.rows.put_no_plan.Goals as goal

@@ -1,6 +1,5 @@
 -- `put_plan` meets its contract. Assumes nothing.
 use native.Mathlib.Omega.{arith}
-use borrow.Author.Rules.{rules}
 use Rattle.lines.proofs.Wrote.{wrote-length, wrote_then}
 use Rattle.page.specs.Rows.{plan_row}
 use Rattle.page.proofs.RowText.{watts-length, worth-bytes, plan-bytes, wrote-filled}

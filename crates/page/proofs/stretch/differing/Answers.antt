@@ -1,8 +1,6 @@
 -- `differing` meets its contract. The invariant: the rows so far were compared. Assumes nothing.
-use Prim.Native.Nat.{◌-◌, ◌≤◌}
 use mathlib.Core.Path.{◌≡◌, refl, sym, ap, ◌∙◌}
 use mathlib.Core.Bool.{not}
-use mathlib.Core.Logic.{⊎_elim}
 use native.Mathlib.Omega.{arith}
 use borrow.Author.Tests.{eqb-true}
 use lib.ListN.{length}
@@ -12,6 +10,7 @@ use Rattle.page.specs.Stretch.{differs, end_of, passing, is_page, differing}
 use Rattle.page.proofs.Rowwise.{passing-miss, passing-first, passing-later}
 use Rattle.page.proofs.Differing.{pages-bad, pages-good}
 use Rattle.page.proofs.stretch.differing.Goals as goal
+use Rattle.page.proofs.stretch.differing.Goals.{then-not-same_row, else-not-same_row, then-end-eq0, else-end-eq0}
 
 pub returns-then-glass-drawn : goal.returns-then-glass-drawn
 unfolding differing
@@ -39,13 +38,13 @@ loop-row-preserved c =
     let ends : c.loop-row.end ≡ end_of p n = ap (λ (x : Rows). x.end) i in
     let firsts : c.loop-row.first ≡ (passing p n).first = ap (λ (x : Rows). x.first) i in (
       omega (arith, c.loop-row-test.true),
-      ⊎_elim
-          (λ w. ⊎_elim
-          (λ v. rw (w.2, w.3, v.1) (passing-first p n (sym test ∙ w.0.taken) (omega (arith, ends, v.0.taken))))
-          (λ v. rw (w.2, w.3, v.1, firsts) (passing-later p n (sym test ∙ w.0.taken) (λ z. omega (arith, z, ends, v.0.left))))
-          w.1.came)
-          (λ w. rw (w.1, w.2) (i ∙ passing-miss p n (sym test ∙ w.0.left)))
-          c.if-not-same_row.branch,
+      elim c.if-not-same_row.branch [
+        | then-not-same_row w ↦ elim w.if-end-eq0.branch [
+          | then-end-eq0 v ↦ rw (w.end-is, w.first-is, v.first-is) (passing-first p n (sym test ∙ ap not w.if-not-same_row.true) (omega (arith, ends, v.if-end-eq0.true)))
+          | else-end-eq0 v ↦ rw (w.end-is, w.first-is, v.first-is, firsts) (passing-later p n (sym test ∙ ap not w.if-not-same_row.true) (λ z. omega (arith, z, ends, v.if-end-eq0.false)))
+        ]
+        | else-not-same_row w ↦ rw (w.first-is, w.end-is) (i ∙ passing-miss p n (sym test ∙ ap not w.if-not-same_row.false))
+      ],
     )
 
 pub returns : goal.returns
@@ -55,12 +54,3 @@ returns c =
     let pages = pages-good (is_page a.glass.now) (is_page a.drawn.now) c.if-glass-drawn.false in
     let e : c.loop-row.row ≡ row_count = omega (arith, c.loop-row.invariant.0, c.loop-row-test.false) in
     rw (pages.0, pages.1, ← e) c.loop-row.invariant.1
-
-pub overflow_add-end : goal.overflow_add-end
-overflow_add-end c = omega arith
-
-pub overflow_step-row : goal.overflow_step-row
-overflow_step-row c = omega arith
-
-pub loop-row-smaller : goal.loop-row-smaller
-loop-row-smaller c = omega arith

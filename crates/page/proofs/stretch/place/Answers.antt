@@ -2,7 +2,6 @@
 use Prim.Native.Nat.{◌*◌, ◌-◌}
 use mathlib.Core.Path.{ap}
 use native.Mathlib.Omega.{arith}
-use borrow.Author.Rules.{rules}
 use Rattle.page.specs.declared.stretch.Rows.{Rows}
 use Rattle.page.specs.Rows.{row_bytes}
 use Rattle.page.specs.Stretch.{place}

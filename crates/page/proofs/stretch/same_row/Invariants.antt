@@ -1,11 +1,9 @@
 -- `same_row` meets its contract. The invariant: the first i bytes of the row were compared. Assumes nothing.
 use Prim.Native.Nat.{◌-◌, ◌≤◌}
-use mathlib.Core.Path.{◌≡◌, refl, sym, ◌∙◌}
-use native.Mathlib.Omega.{arith}
+use mathlib.Core.Path.{◌≡◌}
 use Rattle.lists.specs.Tests.{all_below}
-use Rattle.lists.proofs.Tests.{below-zero, below_step}
 use Rattle.page.specs.Rows.{row_bytes}
-use Rattle.page.proofs.Differing.{bytes_same, row_same}
+use Rattle.page.proofs.Differing.{bytes_same}
 use Rattle.page.proofs.stretch.same_row.Given as goal
 
 abbrev pub invariant-loop-i : goal.invariant-loop-i

@@ -2,7 +2,6 @@
 use Prim.Native.Nat.{◌+◌, ◌-◌}
 use mathlib.Core.Path.{◌≡◌}
 use native.Mathlib.Omega.{arith}
-use borrow.Author.Rules.{rules}
 use Rattle.page.specs.Stretch.{stretch}
 use Rattle.page.proofs.Differing.{place-fits}
 use Rattle.page.proofs.stretch.stretch.Goals as goal
