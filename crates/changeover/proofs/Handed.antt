@@ -2,19 +2,15 @@
 use Prim.Native.Nat.{ℕ}
 use mathlib.Core.Path.{◌≡◌, refl, sym, ap, ap₂, ◌∙◌}
 use mathlib.Core.Bool.{Bool, true, false, ◌&&◌}
-use mathlib.Core.List.{List, [], ◌∷◌}
-use mathlib.Core.Logic.{inl, inr}
+use mathlib.Core.List.{List}
 use lib.Dec.{eqb}
 use lib.ListN.{length}
-use types.Run.{OneOf}
-use denote.Enum.Declared.{tag_of}
-use native.Mathlib.Omega.{arith}
+use Rattle.marks.specs.declared.LoadSet.{LoadSet}
 use Rattle.marks.specs.Sets.{no_loads, has_load}
 use Rattle.lines.specs.Grammar.{is_bits, loads_of}
 use Rattle.lines.specs.Reading.{bits_of}
 use Rattle.lines.specs.declared.Command.{Command}
 use Rattle.lines.specs.declared.Command.TheVariants.{Change, Plan, Check, Save, Last, Need, Broken, TooLong}
-use Rattle.lines.specs.contracts.Command as T
 use Rattle.tables.specs.Tables.{Tables}
 use Rattle.lists.proofs.Bools.{and_left, and_right}
 use Rattle.lists.specs.Tests.{pick}
@@ -42,16 +38,10 @@ set-read-as n f = go (is_bits f)
     go false = refl
 
 -- of every command but a check
-pub no-set-read : (n : ℕ) (c : Command) → OneOf (0 ∷ 1 ∷ 3 ∷ 4 ∷ 5 ∷ 6 ∷ 7 ∷ []) (tag_of T.the_type c) → record { right = false; set = no_loads } ≡ set_read n c
+pub no-set-read : (n : ℕ) (c : Command) → ((s : LoadSet) (k : ℕ) → c ≡ Check s k → ⊥) → record { right = false; set = no_loads } ≡ set_read n c
 no-set-read n (Change c) k = refl
 no-set-read n Plan k = refl
-no-set-read n (Check s j) (inl e) = absurd (omega (arith, e))
-no-set-read n (Check s j) (inr (inl e)) = absurd (omega (arith, e))
-no-set-read n (Check s j) (inr (inr (inl e))) = absurd (omega (arith, e))
-no-set-read n (Check s j) (inr (inr (inr (inl e)))) = absurd (omega (arith, e))
-no-set-read n (Check s j) (inr (inr (inr (inr (inl e))))) = absurd (omega (arith, e))
-no-set-read n (Check s j) (inr (inr (inr (inr (inr (inl e)))))) = absurd (omega (arith, e))
-no-set-read n (Check s j) (inr (inr (inr (inr (inr (inr e)))))) = absurd (omega (arith, e))
+no-set-read n (Check s j) k = absurd (k s j refl)
 no-set-read n (Save f) k = refl
 no-set-read n Last k = refl
 no-set-read n (Need v) k = refl

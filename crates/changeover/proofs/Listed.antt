@@ -8,7 +8,7 @@ use native.Mathlib.Omega.{arith}
 use borrow.Author.Tests.{ltb-false}
 use lib.Dec.{eqb, leb, ltb}
 use lib.ListN.{length, get_or, set, take, length-append}
-use lib.Seq.{sets, length-sets, take_all}
+use lib.Seq.{sets, take_all}
 use Rattle.lists.proofs.Arrays.{get_or-laid}
 use Rattle.lists.proofs.Bools.{and_left, and_right}
 use Rattle.tables.specs.Tables.{Tables}
@@ -84,13 +84,14 @@ module _ (p : StoredState) (old new : List ℕ) (n : ℕ) where
   given-most = given-fit (refusal_of p old new n) refl
 
 -- ---- the list after i steps
+abbrev pub row : (p : StoredState) (old new : List ℕ) (list : List Step) → ℕ → List Step
+row p old new list i = sets list 0 (take i (steps_given p old new (length list)))
+
 pub record Writes (p : StoredState) (old new : List ℕ) (list : List Step) (o : Order) : Type 0 where
-  pub row : ℕ → List Step
-  pub start : row 0 ≡ list
-  pub long : (i : ℕ) → length (row i) ≡ length list
+  pub most : o.count ≤ max_loads
   pub room : (i : ℕ) → i < o.count → i < length list
-  pub next : (i : ℕ) → i < o.count → set (row i) i (get_or o.items i no_step) ≡ row (i + 1)
-  pub all : changed_to o.number o.count (row o.count) ≡ changeover p old new list
+  pub next : (i : ℕ) → i < o.count → set (row p old new list i) i (get_or o.items i no_step) ≡ row p old new list (i + 1)
+  pub all : changed_to o.number o.count (row p old new list o.count) ≡ changeover p old new list
 
 pub writes : (p : StoredState) (old new : List ℕ) (list : List Step) (o : Order) → o ≡ order_of p old new (length list) → Writes p old new list o
 unfolding order_of laid_order changeover
@@ -98,9 +99,7 @@ writes p old new list o e =
     let ss : List Step = steps_given p old new (length list) in
     let fit = given-most p old new (length list) in
     subst (Writes p old new list) (sym e) record {
-      row = λ i. sets list 0 (take i ss);
-      start = refl;
-      long = λ i. length-sets list 0 (take i ss);
+      most = fit.1;
       room = λ i l. omega (arith, l, fit.0);
       next = λ i l. ap (set (sets list 0 (take i ss)) i) (get_or-laid no_step max_loads ss i l fit.1) ∙ sets-next no_step list 0 i i ss (omega arith) l ∙ ap (λ j. sets list 0 (take j ss)) (sym (add-one i));
       all = ap (λ us. changed_to (refusal_of p old new (length list)) (length ss) (sets list 0 us)) (take_all (length ss) ss (omega arith));

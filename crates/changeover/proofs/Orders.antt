@@ -34,9 +34,6 @@ pub record OffSoFar (old new : ℕ → Bool) (n k : ℕ) (o : Order) : Type 0 wh
   pub whole : done ++ off_steps old new k ≡ off_steps old new n
 
 module _ (old new : ℕ → Bool) (n : ℕ) where
-  pub off-none : (o : Order) → o ≡ laid_order 0 [] → OffSoFar old new n n o
-  off-none o e = record { done = []; held = e; few = omega arith; whole = refl }
-
   off-one : (k : ℕ) (o : Order) (b : Bool) → b ≡ goes_off old new (suc k) → n ≤ max_loads → OffSoFar old new n (suc k) o → OffSoFar old new n k (pick b (one_more o (suc k) 0) o)
   unfolding off_steps
   off-one k o b is most x =

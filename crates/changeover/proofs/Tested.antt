@@ -21,9 +21,6 @@ module _ {A : Type 0} (d : A) (p : ℕ → A → Bool) (items : List A) (count :
   abbrev pub TestedTo : (passed : Bool) (i : ℕ) → Type 0
   TestedTo t i = t && every_from p (i + 1) (rest items count i) ≡ every_from p 1 (rest items count 0)
 
-  pub tested-none : TestedTo true 0
-  tested-none = refl
-
   pub tested-one : (t q : Bool) (i : ℕ) → i < count → i < length items → q ≡ p (i + 1) (get_or items i d) → TestedTo t i → TestedTo (t && q) (i + 1)
   unfolding every_from
   tested-one t q i l m is h =

@@ -1,4 +1,4 @@
-// The steps written to a lent list. Its elements are structs, so the proof goes through the code by hand, and there is as little code here as can be.
+// The steps written to a lent list.
 ghost use Rattle.std.specs.Prelude.{◌≡◌};
 ghost use Rattle.planner.specs.Planner.{held};
 ghost use Rattle.changeover.specs.Changeover.{changed_to, changeover};

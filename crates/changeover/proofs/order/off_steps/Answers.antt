@@ -1,16 +1,12 @@
 -- `off_steps` meets its contract: the steps that were put and those that are to come are all. Assumes nothing.
-use Prim.Native.Nat.{◌-◌, ◌≤◌}
+use Prim.Native.Nat.{◌-◌}
 use mathlib.Core.Path.{◌≡◌, sym, ap₂, subst}
 use mathlib.Core.Bool.{◌&&◌, not}
 use native.Mathlib.Omega.{arith}
-use borrow.Author.Rules.{rules}
 use Rattle.marks.specs.Sets.{has_load}
 use Rattle.changeover.specs.Steps.{goes_off}
-use Rattle.changeover.proofs.Orders.{OffSoFar, off-none, off-turn, off-room, off-all}
+use Rattle.changeover.proofs.Orders.{OffSoFar, off-turn, off-room, off-all}
 use Rattle.changeover.proofs.order.off_steps.Goals as goal
-
-pub loop-k-init : goal.loop-k-init
-loop-k-init c = (omega arith, off-none (has_load c.args.old) (has_load c.args.new) c.args.loads c.stepless-order.result c.stepless-order.ensures)
 
 pub with-order-requires : goal.with-order-requires
 with-order-requires c =
@@ -31,9 +27,3 @@ returns c =
     let a = c.args in
     let z : l.k ≡ 0 = omega arith in
     off-all (has_load a.old) (has_load a.new) a.loads l.order (subst (λ k. OffSoFar (has_load a.old) (has_load a.new) a.loads k l.order) z l.invariant.1)
-
-pub overflow_sub-k : goal.overflow_sub-k
-overflow_sub-k c = omega arith
-
-pub loop-k-smaller : goal.loop-k-smaller
-loop-k-smaller c = omega arith

@@ -1,12 +1,7 @@
 -- `off_steps` meets its contract: the steps that were put and those that are to come are all. Assumes nothing.
-use Prim.Native.Nat.{◌-◌, ◌≤◌}
-use mathlib.Core.Path.{◌≡◌, sym, ap₂, subst}
-use mathlib.Core.Bool.{◌&&◌, not}
-use native.Mathlib.Omega.{arith}
-use borrow.Author.Rules.{rules}
+use Prim.Native.Nat.{◌≤◌}
 use Rattle.marks.specs.Sets.{has_load}
-use Rattle.changeover.specs.Steps.{goes_off}
-use Rattle.changeover.proofs.Orders.{OffSoFar, off-none, off-turn, off-room, off-all}
+use Rattle.changeover.proofs.Orders.{OffSoFar}
 use Rattle.changeover.proofs.order.off_steps.Given as goal
 
 abbrev pub invariant-loop-k : goal.invariant-loop-k

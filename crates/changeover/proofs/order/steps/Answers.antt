@@ -1,13 +1,10 @@
 -- `steps` meets its contract: behind the steps of the loads that go off, those of the loads up to the one passed. Assumes nothing.
-use Prim.Native.Nat.{◌+◌, ◌-◌, ◌≤◌}
+use Prim.Native.Nat.{◌+◌}
 use mathlib.Core.Path.{◌≡◌, ap₂, ◌∙◌}
 use mathlib.Core.Bool.{◌&&◌, not}
-use mathlib.Core.List.{◌++◌}
 use native.Mathlib.Omega.{arith}
-use borrow.Author.Rules.{rules}
 use Rattle.marks.specs.Sets.{has_load}
-use Rattle.changeover.specs.Steps.{goes_on, off_steps, on_steps}
-use Rattle.changeover.specs.Order.{laid_order}
+use Rattle.changeover.specs.Steps.{goes_on}
 use Rattle.changeover.proofs.Orders.{on_none, on-turn, on_room}
 use Rattle.changeover.proofs.order.steps.Goals as goal
 
@@ -27,19 +24,3 @@ loop-i-preserved c =
     let a = c.args in
     let goes : not c.has.result && c.has-in-loop-i.result ≡ goes_on (has_load a.old) (has_load a.new) (l.i + 1) = ap₂ (λ o w. not o && w) c.has.ensures c.has-in-loop-i.ensures in
     (omega arith, c.with-order.ensures ∙ on-turn (has_load a.old) (has_load a.new) a.loads l.i l.order (not c.has.result && c.has-in-loop-i.result) goes (omega arith) (omega arith) l.invariant.1)
-
-pub returns : goal.returns
-returns c =
-    let l = c.loop-i in
-    let a = c.args in
-    let all : l.i ≡ a.loads = omega arith in
-    rw all at l.invariant.1
-
-pub overflow_add-k : goal.overflow_add-k
-overflow_add-k c = omega arith
-
-pub overflow_step-i : goal.overflow_step-i
-overflow_step-i c = omega arith
-
-pub loop-i-smaller : goal.loop-i-smaller
-loop-i-smaller c = omega arith

@@ -1,14 +1,10 @@
 -- `steps` meets its contract: behind the steps of the loads that go off, those of the loads up to the one passed. Assumes nothing.
-use Prim.Native.Nat.{◌+◌, ◌-◌, ◌≤◌}
-use mathlib.Core.Path.{◌≡◌, ap₂, ◌∙◌}
-use mathlib.Core.Bool.{◌&&◌, not}
+use Prim.Native.Nat.{◌-◌, ◌≤◌}
+use mathlib.Core.Path.{◌≡◌}
 use mathlib.Core.List.{◌++◌}
-use native.Mathlib.Omega.{arith}
-use borrow.Author.Rules.{rules}
 use Rattle.marks.specs.Sets.{has_load}
-use Rattle.changeover.specs.Steps.{goes_on, off_steps, on_steps}
+use Rattle.changeover.specs.Steps.{off_steps, on_steps}
 use Rattle.changeover.specs.Order.{laid_order}
-use Rattle.changeover.proofs.Orders.{on_none, on-turn, on_room}
 use Rattle.changeover.proofs.order.steps.Given as goal
 
 abbrev pub invariant-loop-i : goal.invariant-loop-i

@@ -1,16 +1,9 @@
 -- `all_fed` meets its contract: what was tested and what is still to come is the whole test. Assumes nothing.
 use Prim.Native.Nat.{◌-◌, ◌≤◌}
-use mathlib.Core.Path.{◌≡◌}
-use native.Mathlib.Omega.{arith}
-use borrow.Author.Rules.{rules}
-use lib.ListN.{length}
-use Rattle.lists.specs.Arrays.{rest}
-use Rattle.lists.proofs.Arrays.{of_map}
 use Rattle.marks.specs.Sets.{has_load}
-use Rattle.tables.specs.Limits.{max_loads}
 use Rattle.tables.specs.Tables.{no_load}
-use Rattle.changeover.specs.Sets.{is_fed, all_fed}
-use Rattle.changeover.proofs.Tested.{TestedTo, tested-none, tested-one, tested-all}
+use Rattle.changeover.specs.Sets.{is_fed}
+use Rattle.changeover.proofs.Tested.{TestedTo}
 use Rattle.changeover.proofs.sets.all_fed.Given as goal
 
 abbrev pub invariant-loop-i : goal.invariant-loop-i

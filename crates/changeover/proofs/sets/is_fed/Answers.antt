@@ -5,4 +5,4 @@ use Rattle.changeover.proofs.sets.is_fed.Goals as goal
 
 pub returns : goal.returns
 unfolding is_fed
-returns c = rw (c.has.ensures, c.has-2.ensures)
+returns c = search rules

@@ -1,2 +1,0 @@
--- The steps that walks of code share.
-pub mod Steps
