@@ -6,12 +6,12 @@ use Rattle.judge.specs.declared.Verdict.TheVariants.{LimitBroken, NoLoads, NotTh
 use Rattle.judge.specs.Verdict.{number_of}
 
 -- above every number of a refusal
-abbrev pub not_aRun : ℕ
-not_aRun = 255
+abbrev pub not_a_run : ℕ
+not_a_run = 255
 
 abbrev pub verdict_number : Verdict → ℕ
 verdict_number LimitBroken = number_of LimitBroken
 verdict_number NoLoads = number_of NoLoads
 verdict_number NotThree = number_of NotThree
 verdict_number Yes = number_of Yes
-verdict_number No = not_aRun
+verdict_number No = not_a_run

@@ -1,8 +1,6 @@
 // The planner for the switch's firmware: the functions that C calls. The planner stands behind a reference, where the caller keeps it.
 // C may hand in any bytes as a planner: a planner that breaks a limit is refusal 1.
-// Each function with a planner leaves the work to a function on values, copies the planner for it, and stores a planner that comes back: the
-// proofs of these six go through their code by hand, so there is as little code in them as can be. The two that hand
-// a planner on, with a line and for a portion, share one such proof.
+// Each function with a planner leaves the work to a function on values, copies the planner for it, and stores a planner that comes back.
 #![tactic(auto)]
 
 ghost use Rattle.std.specs.Prelude.{◌≡◌};

@@ -1,2 +1,0 @@
--- What the walks of the exported functions share.
-pub mod Handing
