@@ -1,5 +1,5 @@
 -- What the line program carries from line to line and from chunk to chunk, as the definition of crate `calls` has it. Assumes nothing.
-use Rattle.std.specs.Prelude.{ℕ, ◌≤◌, ◌≡◌, List, length, take}
+use Rattle.std.specs.Prelude.{ℕ, ◌≤◌, ◌≡◌, List, length, take, Result, Ok, Err}
 use Rattle.lines.specs.Input.{most_kept}
 use Rattle.calls.specs.Program.{Left, Carried, after_chunk, after_chunks, started, lent_cells}
 use Rattle.planner.specs.declared.Planner.{Planner}
@@ -17,6 +17,11 @@ carried_of s l o w = record { left = left_of s.planner o w; begun = take s.held 
 pub record Within (held : ℕ) (line : List ℕ) : Type 0 where
   pub few : held ≤ most_kept
   pub room : length line ≡ most_kept
+
+-- how many bytes a read gave: none where it failed
+abbrev pub count_of : {E : Type 0} → Result ℕ E → ℕ
+count_of (Ok n) = n
+count_of (Err e) = 0
 
 -- a read put some bytes into its buffer, whichever they are, and they were taken as a chunk
 pub record Stepped (before after : Carried) (buffer : List ℕ) : Type 0 where

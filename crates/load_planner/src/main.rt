@@ -1,16 +1,16 @@
 // The line program: reads lines from standard input, and prints each answer as soon as its line is complete.
 #![tactic(auto)]
 
-ghost use Rattle.std.specs.Prelude.{◌≤◌, ◌≡◌, true, false, length, take, pos};
-ghost use Rattle.io.specs.Counts.{clamp_len};
+ghost use Rattle.std.specs.Prelude.{◌≤◌, ◌≡◌, true, false, length, take, Ok};
 ghost use Rattle.calls.specs.Program.{done_on, answered, after_chunk, at_end};
 ghost use Rattle.planner.specs.Calls.{done_of};
-ghost use Rattle.load_planner.specs.Session.{left_of, carried_of, Within, Stepped};
+ghost use Rattle.load_planner.specs.Session.{left_of, carried_of, count_of, Within, Stepped};
 
-use libc::{EINTR, STDIN_FILENO, STDOUT_FILENO};
 use lines::splitting::{MOST_KEPT, take_line};
 use planner::Planner;
 use planner::call::{Called, SAVE_BYTES};
+use std::io;
+use std::io::{ErrorKind, Read, Write};
 
 // "The line program lends .. 16,384 cells" and, since request Ten, the 4,096 bytes that a save needs.
 const LENT_BYTES: usize = SAVE_BYTES;
@@ -25,31 +25,26 @@ struct Session {
     open: bool,
 }
 
-// Did a call that failed do so only because a signal came before it moved a byte? It is to be asked just after that call.
-fn interrupted() -> bool {
-    os::errno() == EINTR
+// Says on standard error what failed, and how. Where that fails too, nothing is left to say it on.
+fn complain(rt: &HostRuntime, what: &str, error: &io::Error) {
+    match eprintln!(rt; "load_planner: {what}: {error}") {
+        Ok(()) => {}
+        Err(_) => {}
+    }
 }
 
 // Prints the first bytes of the output. A write that was interrupted is tried again; another that takes nothing or fails ends it.
-fn show(out: &[u8], count: usize) -> bool
+fn show(rt: &HostRuntime, out: &[u8], count: usize) -> bool
     requires { count ≤ length out.now }
 {
-    let mut at: usize = 0;
-    let mut tries = u64::MAX;
-    while at < count {
-        if tries == 0 {
-            return false;
+    let part = &out[..count];
+    match rt.stdout().write_all(part) {
+        Ok(()) => true,
+        Err(e) => {
+            complain(rt, "standard output", &e);
+            false
         }
-        tries -= 1;
-        let part = &out[at..count];
-        let got = libc::write(STDOUT_FILENO, part);
-        let taken = io::count(got, part);
-        if taken == 0 && !(got < 0 && interrupted()) {
-            return false;
-        }
-        at += taken;
     }
-    true
 }
 
 // The call on the line whose bytes are held.
@@ -62,6 +57,7 @@ fn call(planner: Planner, line: &[u8], held: usize, out: &mut [u8], work: &mut [
 
 // Answers the line whose bytes are held.
 fn answer(
+    rt: &HostRuntime,
     s: Session,
     line: &[u8; MOST_KEPT],
     out: &mut [u8; LENT_BYTES],
@@ -73,10 +69,7 @@ fn answer(
 {
     let called = call(s.planner, &*line, s.held, &mut *out, &mut *work);
     let planner = called.planner;
-    let open = show(&*out, called.count);
-    if !open {
-        os::fail(b"load_planner: standard output");
-    }
+    let open = show(rt, &*out, called.count);
     Session {
         planner,
         held: 0,
@@ -86,6 +79,7 @@ fn answer(
 
 // Answers each line that ends in the chunk, and holds what is left of it.
 fn take_chunk(
+    rt: &HostRuntime,
     s: Session,
     chunk: &[u8],
     line: &mut [u8; MOST_KEPT],
@@ -103,7 +97,7 @@ fn take_chunk(
         at = at + taken.count;
         session.held = taken.held;
         if taken.ended {
-            session = answer(session, &*line, &mut *out, &mut *work);
+            session = answer(rt, session, &*line, &mut *out, &mut *work);
         }
         if !session.open {
             return session;
@@ -114,6 +108,7 @@ fn take_chunk(
 
 // The end of the input: a line without line feed counts.
 fn finish(
+    rt: &HostRuntime,
     s: Session,
     line: &[u8; MOST_KEPT],
     out: &mut [u8; LENT_BYTES],
@@ -126,45 +121,48 @@ fn finish(
 {
     let mut session = s;
     if 0 < session.held {
-        session = answer(session, &*line, &mut *out, &mut *work);
+        session = answer(rt, session, &*line, &mut *out, &mut *work);
     }
     session.open = false;
     session
 }
 
-// What a read led to, by what it answered: below 0 it failed, or was interrupted and is tried again; at 0 the input has ended; else so many
-// bytes of the chunk are new.
+// What a read led to, by what it answered: it failed, or was interrupted and is tried again; at 0 the input has ended; else so many bytes of the
+// chunk are new.
 fn take_read(
+    rt: &HostRuntime,
     s: Session,
-    got: isize,
+    got: io::Result<usize>,
     chunk: &[u8],
     line: &mut [u8; MOST_KEPT],
     out: &mut [u8; LENT_BYTES],
     work: &mut [u32; LENT_CELLS],
 ) -> Session
     requires { Within s.held line.old }
-    ensures chunk { result.open ≡ true → carried_of result line.new out.new work.new ≡ after_chunk (carried_of s line.old out.old work.old) (take (clamp_len got (length chunk.now)) chunk.now) }
-    ensures end { got ≡ pos 0 → left_of result.planner out.new work.new ≡ at_end (carried_of s line.old out.old work.old) }
+    ensures chunk { result.open ≡ true → carried_of result line.new out.new work.new ≡ after_chunk (carried_of s line.old out.old work.old) (take (count_of got) chunk.now) }
+    ensures end { got ≡ Ok 0 → left_of result.planner out.new work.new ≡ at_end (carried_of s line.old out.old work.old) }
     ensures held { Within result.held line.new }
 {
-    let mut session = s;
-    if got < 0 {
-        if interrupted() {
-            return session;
+    match got {
+        Ok(0) => finish(rt, s, &*line, &mut *out, &mut *work),
+        Ok(n) => {
+            let count = n.min(chunk.len());
+            take_chunk(rt, s, &chunk[..count], line, out, work)
         }
-        os::fail(b"load_planner: standard input");
-        session.open = false;
-        return session;
+        Err(e) => {
+            let mut session = s;
+            if e.kind() != ErrorKind::Interrupted {
+                complain(rt, "standard input", &e);
+                session.open = false;
+            }
+            session
+        }
     }
-    if got == 0 {
-        return finish(session, &*line, &mut *out, &mut *work);
-    }
-    let n = io::count(got, chunk);
-    take_chunk(session, &chunk[..n], line, out, work)
 }
 
 // One read and its answers.
 fn step(
+    rt: &HostRuntime,
     s: Session,
     chunk: &mut [u8],
     line: &mut [u8; MOST_KEPT],
@@ -175,11 +173,11 @@ fn step(
     ensures chunk { result.open ≡ true → Stepped (carried_of s line.old out.old work.old) (carried_of result line.new out.new work.new) chunk.new }
     ensures held { Within result.held line.new }
 {
-    let got = libc::read(STDIN_FILENO, &mut *chunk);
-    take_read(s, got, &*chunk, line, out, work)
+    let got = rt.stdin().read(&mut *chunk);
+    take_read(rt, s, got, &*chunk, line, out, work)
 }
 
-fn main() {
+fn main(rt: HostRuntime) {
     let mut chunk = [0u8; 4096];
     let mut line = [0u8; MOST_KEPT];
     let mut out = [0u8; LENT_BYTES];
@@ -192,7 +190,7 @@ fn main() {
     // A proved loop has to end, and nothing says that the input does: the turns are more than any run uses up.
     let mut turns = u64::MAX;
     while turns > 0 && session.open {
-        session = step(session, &mut chunk, &mut line, &mut out, &mut work);
+        session = step(&rt, session, &mut chunk, &mut line, &mut out, &mut work);
         turns -= 1;
     }
 }
