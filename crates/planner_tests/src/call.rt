@@ -6,6 +6,8 @@ use crate::printing::{print, print_count};
 use crate::text::{end_of, past};
 use planner::Planner;
 use planner::call::Called;
+use std::io;
+use std::io::Write;
 
 // What output and work hold before each call. No byte of an answer is this one.
 pub const RUBBISH_BYTE: u8 = 170;
@@ -63,26 +65,32 @@ fn cells_with(work: &[u32], value: u32) -> usize {
 }
 
 // The answer, which ends its last line itself. Where there is none, the line of the report is ended here.
-pub(crate) fn print_answer(out: &[u8], place: usize, count: usize) {
+pub(crate) fn print_answer(
+    report: &mut impl Write,
+    out: &[u8],
+    place: usize,
+    count: usize,
+) -> io::Result<()> {
     let start = least(place, out.len());
     let end = start + least(count, out.len() - start);
-    print(&out[start..end]);
+    print(report, &out[start..end])?;
     if count == 0 {
-        print(b"\n");
+        print(report, b"\n")?;
     }
+    Ok(())
 }
 
-pub(crate) fn print_kept(out: &[u8], work: &[u32]) {
-    print_count(b" | ", bytes_kept(out));
-    print_count(b" bytes kept, ", cells_with(work, 0));
-    print_count(b" cells 0, ", cells_with(work, RUBBISH_CELL));
-    print(b" kept | ");
+pub(crate) fn print_kept(report: &mut impl Write, out: &[u8], work: &[u32]) -> io::Result<()> {
+    print_count(report, b" | ", bytes_kept(out))?;
+    print_count(report, b" bytes kept, ", cells_with(work, 0))?;
+    print_count(report, b" cells 0, ", cells_with(work, RUBBISH_CELL))?;
+    print(report, b" kept | ")
 }
 
-fn print_reply(line: &[u8], number: u8, count: usize) {
-    print(line);
-    print_count(b" | ", number as usize);
-    print_count(b" ", count);
+fn print_reply(report: &mut impl Write, line: &[u8], number: u8, count: usize) -> io::Result<()> {
+    print(report, line)?;
+    print_count(report, b" | ", number as usize)?;
+    print_count(report, b" ", count)
 }
 
 // The call itself, apart from what lends to it: its contract is long.
@@ -98,26 +106,38 @@ fn answered(p: Planner, lent: Lent, line: &[u8], out: &mut [u8], work: &mut [u32
 }
 
 // The planner after a call, which is reported if it is refused or every call is.
-fn called(p: Planner, lent: Lent, line: &[u8], every: bool) -> Planner {
+fn called(
+    report: &mut impl Write,
+    p: Planner,
+    lent: Lent,
+    line: &[u8],
+    every: bool,
+) -> io::Result<Planner> {
     let mut out = [RUBBISH_BYTE; ALL_BYTES];
     let mut work = [RUBBISH_CELL; ALL_CELLS];
     let called = answered(p, lent, line, &mut out, &mut work);
     if every | (called.number != 0) {
-        print_reply(line, called.number, called.count);
-        print_kept(&out, &work);
-        print_answer(&out, lent.place, called.count);
+        print_reply(report, line, called.number, called.count)?;
+        print_kept(report, &out, &work)?;
+        print_answer(report, &out, lent.place, called.count)?;
     }
-    called.planner
+    Ok(called.planner)
 }
 
 // Each line of a text, on the planner that the one before left. The lines are parted by blanks.
-pub(crate) fn called_on_each(p: Planner, lent: Lent, text: &[u8], every: bool) -> Planner {
+pub(crate) fn called_on_each(
+    report: &mut impl Write,
+    p: Planner,
+    lent: Lent,
+    text: &[u8],
+    every: bool,
+) -> io::Result<Planner> {
     let mut planner = p;
     let mut at: usize = 0;
     while at < text.len() {
         let end = end_of(text, at, b' ');
-        planner = called(planner, lent, &text[at..end], every);
+        planner = called(report, planner, lent, &text[at..end], every)?;
         at = past(text, end);
     }
-    planner
+    Ok(planner)
 }

@@ -12,9 +12,10 @@ mod script;
 mod switching;
 mod text;
 
-ghost use Rattle.std.specs.Prelude.{◌≡◌, length};
+ghost use Rattle.std.specs.Prelude.{◌≡◌, ◌≤◌, IfOk, length};
 
-use libc::STDIN_FILENO;
+use std::io;
+use std::io::Read;
 
 // 131,072 zeros, for a script. The `ensures` gives only the length, which lending the array as a slice needs.
 fn script_buffer() -> [u8; 131072]
@@ -23,8 +24,23 @@ fn script_buffer() -> [u8; 131072]
     [0; 131072]
 }
 
-fn main() {
+// Reads until the buffer is full or the input ends, and returns how many bytes were read.
+fn read_full(input: &mut impl Read, buffer: &mut [u8]) -> io::Result<usize>
+    ensures { IfOk result (λ count. count ≤ length buffer.new) }
+{
+    let mut count: usize = 0;
+    while count < buffer.len() {
+        let n = input.read(&mut buffer[count..])?;
+        if n == 0 {
+            return Ok(count);
+        }
+        count = count + n;
+    }
+    Ok(count)
+}
+
+fn main(rt: HostRuntime) -> io::Result<()> {
     let mut input = script_buffer();
-    let count = io::read_full(STDIN_FILENO, &mut input);
-    script::follow(&input[..count]);
+    let count = read_full(&mut rt.stdin(), &mut input)?;
+    script::follow(&mut rt.stdout(), &input[..count])
 }

@@ -7,6 +7,8 @@ use crate::printing::{print, print_count};
 use crate::text::numbers;
 use planner::Planner;
 use planner::portion::Portion;
+use std::io;
+use std::io::Write;
 
 // The cells that portions work in.
 #[derive(Clone, Copy)]
@@ -37,29 +39,41 @@ impl Filling {
     }
 }
 
-fn print_cell(cell: u32) {
-    print_count(b" ", cell as usize);
+fn print_cell(report: &mut impl Write, cell: u32) -> io::Result<()> {
+    print_count(report, b" ", cell as usize)
 }
 
-fn print_cells(cells: &[u32]) {
+fn print_cells(report: &mut impl Write, cells: &[u32]) -> io::Result<()> {
     for i in 0..cells.len() {
-        print_cell(cells[i]);
+        print_cell(report, cells[i])?;
     }
+    Ok(())
 }
 
 // The cells that were filled, so many from one on.
-fn print_filled(work: &[u32], from: usize, count: usize) {
+fn print_filled(
+    report: &mut impl Write,
+    work: &[u32],
+    from: usize,
+    count: usize,
+) -> io::Result<()> {
     let start = least(from, work.len());
     let end = start + least(count, work.len() - start);
-    print(b" |");
-    print_cells(&work[start..end]);
+    print(report, b" |")?;
+    print_cells(report, &work[start..end])
 }
 
-fn print_counts(most: usize, number: u8, filled: u32, count: usize) {
-    print_count(b"most ", most);
-    print_count(b" | ", number as usize);
-    print_count(b" ", filled as usize);
-    print_count(b" ", count);
+fn print_counts(
+    report: &mut impl Write,
+    most: usize,
+    number: u8,
+    filled: u32,
+    count: usize,
+) -> io::Result<()> {
+    print_count(report, b"most ", most)?;
+    print_count(report, b" | ", number as usize)?;
+    print_count(report, b" ", filled as usize)?;
+    print_count(report, b" ", count)
 }
 
 // The portion itself, apart from what lends to it: its contract is long.
@@ -75,40 +89,56 @@ fn filled(p: Planner, lent: Lent, most: usize, out: &mut [u8], work: &mut [u32])
 }
 
 // The planner and the work after a portion.
-fn portioned(f: Filling, lent: Lent, n: u32) -> Filling {
+fn portioned(report: &mut impl Write, f: Filling, lent: Lent, n: u32) -> io::Result<Filling> {
     let most = n as usize;
     let work = f.work;
     let mut out = [RUBBISH_BYTE; ALL_BYTES];
     let mut cells = work.cells;
     let from = f.planner.filled as usize;
     let portion = filled(f.planner, lent, most, &mut out, &mut cells);
-    print_counts(most, portion.number, portion.filled, portion.count);
-    print_filled(&cells, from, portion.filled as usize);
-    print_kept(&out, &cells);
-    print_answer(&out, lent.place, portion.count);
+    print_counts(report, most, portion.number, portion.filled, portion.count)?;
+    print_filled(report, &cells, from, portion.filled as usize)?;
+    print_kept(report, &out, &cells)?;
+    print_answer(report, &out, lent.place, portion.count)?;
     let planner = portion.planner;
     let work = Work { cells };
-    Filling { planner, work }
+    Ok(Filling { planner, work })
 }
 
 // A portion for each of these numbers, on what the one before left.
-fn portioned_by_each(f: Filling, lent: Lent, most: &[u32]) -> Filling {
+fn portioned_by_each(
+    report: &mut impl Write,
+    f: Filling,
+    lent: Lent,
+    most: &[u32],
+) -> io::Result<Filling> {
     let mut filling = f;
     for i in 0..most.len() {
-        filling = portioned(filling, lent, most[i]);
+        filling = portioned(report, filling, lent, most[i])?;
     }
-    filling
+    Ok(filling)
 }
 
 // A portion for each of the first of these numbers.
-fn portioned_by_first(f: Filling, lent: Lent, most: &[u32], count: usize) -> Filling {
+fn portioned_by_first(
+    report: &mut impl Write,
+    f: Filling,
+    lent: Lent,
+    most: &[u32],
+    count: usize,
+) -> io::Result<Filling> {
     let end = least(count, most.len());
-    portioned_by_each(f, lent, &most[0..end])
+    portioned_by_each(report, f, lent, &most[0..end])
 }
 
 // `most 100 1 ..`: portions of at most so many cells.
-pub(crate) fn portions(f: Filling, lent: Lent, line: &[u8]) -> Filling {
+pub(crate) fn portions(
+    report: &mut impl Write,
+    f: Filling,
+    lent: Lent,
+    line: &[u8],
+) -> io::Result<Filling> {
     let found = numbers(line);
     let most = found.items;
-    portioned_by_first(f, lent, &most, found.count)
+    portioned_by_first(report, f, lent, &most, found.count)
 }

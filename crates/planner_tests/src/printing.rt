@@ -1,18 +1,19 @@
 // What the report is written with.
-use libc::STDOUT_FILENO;
+use std::io;
+use std::io::Write;
 
-pub(crate) fn print(text: &[u8]) {
-    io::write_all(STDOUT_FILENO, text);
+pub(crate) fn print(report: &mut impl Write, text: &[u8]) -> io::Result<()> {
+    report.write_all(text)
 }
 
 // A text, and a number after it.
-pub(crate) fn print_count(text: &[u8], n: usize) {
-    print(text);
-    io::print_decimal(STDOUT_FILENO, n as u64);
+pub(crate) fn print_count(report: &mut impl Write, text: &[u8], n: usize) -> io::Result<()> {
+    print(report, text)?;
+    write!(report, "{n}")
 }
 
 // A text on a line of its own.
-pub(crate) fn print_line(text: &[u8]) {
-    print(text);
-    print(b"\n");
+pub(crate) fn print_line(report: &mut impl Write, text: &[u8]) -> io::Result<()> {
+    print(report, text)?;
+    print(report, b"\n")
 }

@@ -1,0 +1,9 @@
+-- A word begins inside the text, and the measure is what is left of it.
+use Rattle.std.proofs.Common.{length, ◌-◌, ◌≤◌}
+use Rattle.planner_tests.proofs.text.numbers.Given as goal
+
+abbrev pub invariant-loop-at : goal.invariant-loop-at
+invariant-loop-at l = l.at ≤ length l.text
+
+abbrev pub decreases-loop-at : goal.decreases-loop-at
+decreases-loop-at l = length l.text - l.at
