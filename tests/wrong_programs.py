@@ -1,14 +1,16 @@
 """Wrong programs that the contracts shut out.
 
 An edit of crates/NAME/must-fail or crates/NAME/wrong makes a wrong program of the crate. Its line
-'refused: FUNCTION NEED' says what must fail: the proof of that function alone, at that need. (Functions
-that call each other are proved together: all of them, parted by commas, stand for one.) An edit of
-a definition has the line 'refused: law NAME', for a law or a need that no longer holds. `rt ci` refuses
-the edits of must-fail from nothing; here all of them run on what is already checked, which takes
-seconds, and the reason is compared too. What is checked of a library stands in its rlib, as `rt ci`
-or `rt check` left it: each worker begins an edit with that in its incremental folder, so that only
-what the edit touches is checked. Of every public function of a library two wrong programs at
-least must be refused: its own, or that of a function that it calls in the same crate.
+'# refused: FUNCTION NEED' says what must fail: the proof of that function alone, at that need, which is the goal
+as the prover names it. (Functions that call each other are proved together: all of them, parted by commas, stand
+for one.) An edit of a definition has the line '# refused: law NAME', for a law or a need that no longer holds.
+`rt ci` refuses the edits of must-fail from nothing; here all of them run on what is already checked, which takes
+seconds, and the reason is compared too. What is checked of a crate stands in its folder out/incremental, as `rt check` left
+it: each try begins with a copy of that, so that only what the edit touches is checked. The prover is called as
+`rt must-fail` calls it, with the words that rt has for the crate, over the libraries below it that are built; rt's own check
+would note each wrong program's folder as work to begin others with. Of every public function of a library two wrong
+programs at least must be refused: its own, or that of a function that it calls in the same crate. The public functions are those
+of the interface in the library's rlib, where a crate above had it built, and else those that its sources declare.
 
 Edits of one line in the body of different functions are tried together, a batch at a time. A function's
 proof goes by its own code and by the promises of what it calls, and these edits change no promise, so a
@@ -16,10 +18,15 @@ need that fails in a batch fails alone too, and no edit breaks the function of a
 fails in the function's own proof is taken from a batch, and only if no function fails by itself but those
 of the batch; all else is tried alone.
 
+A goal that the prover's tactics are to prove has no proof to read: it fails where they did not prove it. A proof that no
+longer fits the code, since it names what is not there, is no refusal. The prover names goals and steps after the code's text,
+as returns-then-n-eq0 after a test of n, and a changed test has another name: a line '# names: BEFORE AFTER' of an edit has such a
+name, as the code has it and as the wrong program has it, and the function's own proof is read with the second.
+
 Whole sessions and marked cases are computed, which costs time, and few edits name them. They are left out where an
 edit is to be refused at another law.
 
-Usage: wrong_programs.py [NAME[/LABEL]..]   from the root of the repository, after `rt check`
+Usage: wrong_programs.py [NAME[/LABEL]..]   from the root of the repository, after `rt check` of each crate
 """
 
 import os
@@ -31,17 +38,23 @@ import tempfile
 import time
 from concurrent.futures import ThreadPoolExecutor
 from pathlib import Path
-from queue import Queue
+
+sys.path.insert(0, str(Path(shutil.which("rt") or "rt").resolve().parent))
+import rtlib  # noqa: E402
 
 ROOT = Path.cwd()
-WORKERS = max(1, min(4, os.cpu_count() or 1))
+WORKERS = max(1, min(4, len(os.sched_getaffinity(0))))
 
 # The file of a crate's proofs/ that computes whole sessions or marked cases.
 COMPUTED = {"calls": "Session", "meaning": "Cases"}
 
 # An error of one of these kinds says that a proof no longer fits the code, and not that a fact fails.
-MISFITS = re.compile(r"not in scope(?! here)|has no field|that can be named from here|unknown name|expects? \d+ arguments?|unused premise")
-CASCADE = re.compile(r"was not admitted|cannot be checked")
+MISFITS = re.compile(
+    r"(?:not|data type `[^`]*` is) in scope(?! here)|has no field|that can be named (?:from )?here|exports no|unknown name"
+    r"|is already a name of this module|expects? \d+ arguments?|unused premise|explicit arguments? more than|projects from a"
+)
+CASCADE = re.compile(r"was not admitted|was not checked|were not checked|cannot be checked|stands by its signature alone")
+CALLS = "it calls `"
 
 
 class Edit:
@@ -51,13 +64,17 @@ class Edit:
         self.crate = crate
         self.label = path.stem
         self.refused = ""
+        self.names = {}
         self.pairs = []
         self.unproved = []
         file = old = ""
         for line in path.read_text().splitlines():
-            word, _, rest = line.partition(" ")
+            word, _, rest = line.removeprefix("# ").partition(" ")
             if word == "refused:":
                 self.refused = rest
+            elif word == "names:":
+                before, after = rest.split()
+                self.names[before] = after
             elif word == "file:":
                 file = rest
             elif word == "old:":
@@ -84,10 +101,13 @@ class Edit:
     def apply(self, folder):
         for file, old, new in self.pairs:
             path = folder / file
-            text = path.read_text()
+            text = path.read_text() if path.exists() else ""
             if text.count(old) != 1:
                 raise ValueError(f"{file} does not have the old text once")
             path.write_text(text.replace(old, new))
+        for place in places_of(self.function()) if self.names else []:
+            for proof in (folder / place).glob("*.antt"):
+                proof.write_text(renamed(proof.read_text(), self.names))
 
     def leave_out_computed(self, folder):
         """Takes what is computed out of the crate's proofs, but where this edit is to be refused there."""
@@ -99,9 +119,30 @@ class Edit:
             lib.write_text(lib.read_text().replace(f"pub mod {module}\n", ""))
 
 
+def places_of(function):
+    """Where a function's own proof may stand in its crate's folder: in one of its own, or in that of a cycle of calls, with the names of all in it."""
+    _, *path = function.split(",")[0].split("::")
+    cycle = "+" + "_".join(name.rpartition("::")[2] for name in function.split(","))
+    return ["/".join(["proofs", *path, ""]), "/".join(["proofs", *path[:-1], cycle, ""])]
+
+
+def renamed(text, names):
+    """A proof's text with these names of goals and steps in place of those before. A name with a dot before it is a step's, which no import names."""
+    fields = {name for name in names if name.startswith(".")}
+
+    def after(found):
+        whole, name = found.group(0), found.group(0).lstrip(".")
+        return names[whole] if whole in fields else whole.replace(name, names.get(name, name))
+
+    lines = re.split(r"^(use .*)$", text, flags=re.M)
+    imports = [re.sub(r"[^\W\d][\w'-]*", after, line) for line in lines[1::2]]
+    others = [re.sub(r"\.?[^\W\d][\w'-]*", after, line) for line in lines[::2]]
+    return "".join(other + line for other, line in zip(others, [*imports, ""]))
+
+
 def crates():
     """The crates of crates.txt that are of this repository, in its order."""
-    names = re.findall(r"^(\w+):", (ROOT / "crates.txt").read_text(), re.M)
+    names = re.findall(r"^(\w+)[^#:\n]*:", (ROOT / "crates.txt").read_text(), re.M)
     return [n for n in names if (ROOT / "crates" / n).exists()]
 
 
@@ -116,12 +157,14 @@ def edits_of(crate):
 
 
 def interface_of(crate):
-    """The lines of each file of a proved library's interface without their attributes, with the module that the file is."""
-    source = ROOT / "target" / "rlib" / f"{crate}.rlib" / "interface" / "lang" / "src"
+    """The lines that declare a library's public functions, without their attributes, with the module that the file is: of its interface, or of its sources."""
+    built = ROOT / "crates" / crate / "out" / "rlib" / f"{crate}.rlib" / "interface" / "lang" / "src"
+    source = built if built.exists() else ROOT / "crates" / crate / "src"
     for path in sorted(source.rglob("*.rt")):
         module = crate if path.stem == "lib" else f"{crate}::{path.stem}"
         for line in path.read_text().splitlines():
-            yield module, re.sub(r"^(# \[[^\]]*\] )+", "", line)
+            line = re.sub(r"^(# \[[^\]]*\] )+", "", line)
+            yield module, line.removeprefix("    ") if line.startswith("    pub ") else line
 
 
 def public_functions(crate):
@@ -136,7 +179,7 @@ def public_functions(crate):
     for module, line in interface_of(crate):
         if line.startswith("impl "):
             owner = line.split(" ")[1]
-        elif line.strip() == "}":
+        elif line == "}":
             owner = ""
         named = re.match(r'pub (?:extern "C" )?fn (\w+)', line)
         if named:
@@ -145,58 +188,75 @@ def public_functions(crate):
     return found
 
 
-def make_scratch(folder):
-    """A copy of the repository with what is proved of it, for one worker."""
-    shutil.copytree(ROOT / "crates", folder / "crates")
-    shutil.copy(ROOT / "crates.txt", folder / "crates.txt")
-    for part in ("rlib", "stamp", "log"):
-        shutil.copytree(ROOT / "target" / part, folder / "target" / part)
+def parts_of(crate):
+    """The folders of a crate that the prover reads."""
+    folder = ROOT / "crates" / crate
+    return [folder / part for part in rtlib.PARTS if (folder / part).is_dir()]
 
 
-def check(scratch, crate):
-    """The exit status and the report of one check of a crate over its incremental folder."""
-    ended = subprocess.run(
-        ["rt", "dev", crate], cwd=scratch, stdout=subprocess.PIPE, stderr=subprocess.STDOUT, text=True
-    )
-    return ended.returncode, ended.stdout
+def words_for(crate):
+    """The prover's words for a check of the crate, over the libraries below it, which must be built."""
+    folder = str(ROOT / "crates" / crate)
+    made = rtlib.Crate(folder, str(ROOT), {})
+    lacking = [below.name for below in made.below() if not below.is_built()]
+    if lacking:
+        raise RuntimeError(f"{crate} stands on {' '.join(lacking)}, not built as it stands: run rt check in crates/{crate} first")
+    return [rtlib.RATTLE, "check", *made.words(["--jobs", "1"], keeps=False)]
 
 
-def incremental(folder, crate):
-    return folder / "target" / "inc" / crate
+def linked(folder, to):
+    """Copies a folder of kept work. The prover replaces a file of what it checked, and changes none, so that these are linked where they can be."""
+
+    def copy(one, other):
+        try:
+            if one.endswith(".oantt"):
+                return os.link(one, other)
+        except OSError:
+            pass
+        return shutil.copy2(one, other)
+
+    shutil.copytree(folder, to, symlinks=True, copy_function=copy)
 
 
-def build_of(scratch):
-    """The folder that the prover keeps in an incremental folder: its name tells one build of the prover from another."""
-    first = crates()[0]
-    check(scratch, first)
-    return next(incremental(scratch, first).iterdir()).name
+class Store:
+    """A crate as it stands, with what is checked of it."""
 
+    def __init__(self, crate, folder):
+        self.words = words_for(crate)
+        self.folder = folder / crate
+        self.folder.mkdir()
+        for part in parts_of(crate):
+            shutil.copytree(part, self.folder / part.name)
+        kept = ROOT / "crates" / crate / "out" / "incremental"
+        if kept.exists():
+            linked(str(kept), str(self.folder / "incremental"))
+        else:
+            (self.folder / "incremental").mkdir()
+        status, report = self.check(self.folder)
+        if status != 0:
+            raise RuntimeError(f"{crate} is not proved as it stands: {report[-2000:]}")
 
-def keep_checked(scratch, crate, store, build):
-    """Keeps what is checked of the crate as it stands, for its edits. The rlib of a library has that; a program is checked anew."""
-    modules = scratch / "target" / "rlib" / f"{crate}.rlib" / "toolchain" / "checked"
-    if modules.exists():
-        shutil.copytree(modules, incremental(scratch, crate) / build, dirs_exist_ok=True)
-    status, _ = check(scratch, crate)
-    if status != 0:
-        raise RuntimeError(f"{crate} is not proved as it stands")
-    shutil.copytree(incremental(scratch, crate), incremental(store, crate))
+    def check(self, folder):
+        """The exit status and the report of one check of the crate in this folder, over the folder's own kept work."""
+        words = [*self.words, "--incremental", str(folder / "incremental")]
+        ended = subprocess.run(words, cwd=folder, stdin=subprocess.DEVNULL, stdout=subprocess.PIPE, stderr=subprocess.STDOUT, text=True, errors="replace")
+        lines = [line for line in ended.stdout.splitlines() if not line.startswith("so far: ")]
+        return ended.returncode, "\n".join(lines)
 
-
-def states_of(folder):
-    """Each file of a folder by its path in it, with what tells that it was written."""
-    return {path.relative_to(folder): (path.stat().st_mtime_ns, path.stat().st_size) for path in folder.rglob("*") if path.is_file()}
-
-
-def restore(folder, kept):
-    """Makes a folder as the kept one is: what was written in it, or removed, since it was copied."""
-    now, then = states_of(folder) if folder.exists() else {}, states_of(kept)
-    for path in now.keys() - then.keys():
-        (folder / path).unlink()
-    for path, state in then.items():
-        if now.get(path) != state:
-            (folder / path).parent.mkdir(parents=True, exist_ok=True)
-            shutil.copy2(kept / path, folder / path)
+    def tried(self, edits):
+        """The status and the report of a check with these edits made, beginning with what is kept."""
+        with tempfile.TemporaryDirectory() as room:
+            folder = Path(room) / "crate"
+            folder.mkdir()
+            for part in self.folder.iterdir():
+                if part.name != "incremental":
+                    shutil.copytree(part, folder / part.name)
+            for edit in edits:
+                edit.apply(folder)
+            if len(edits) == 1:
+                edits[0].leave_out_computed(folder)
+            linked(str(self.folder / "incremental"), str(folder / "incremental"))
+            return self.check(folder)
 
 
 def errors(report):
@@ -215,7 +275,14 @@ def failed_needs(report):
         need = re.match(r"note: .* is not proved .*\(`([^`]+)`\)", line)
         if need:
             needs.add(need.group(1))
+    for _, verdict in verdicts(report):
+        needs |= unproved_goals(verdict)
     return needs
+
+
+def unproved_goals(verdict):
+    """The goals that the prover's tactics did not prove, as a function's verdict names them."""
+    return set(re.findall(r"`([^`]+)`", verdict.partition("did not prove ")[2].partition(";")[0]))
 
 
 def verdicts(report):
@@ -223,23 +290,27 @@ def verdicts(report):
     return re.findall(r"^fn (\S+): ((?!proved).*)$", report, re.M)
 
 
+def is_of(function, error):
+    """Is it an error in the function's own proof?"""
+    return any(f"/{place}" in error.partition(": error")[0] for place in places_of(function))
+
+
 def needs_in_proof(report, function):
     """Each fact that fails in the function's own proof, by its need: the author's, or the one that the prover made."""
-    folder = "/proofs/" + "/".join(function.split("::")[1:]) + "/"
     needs = set()
     for error in errors(report):
-        named = re.match(r"(\S+): error: `([^`]+)`", error)
-        if named and folder in named.group(1) and not CASCADE.search(error):
-            needs.add(named.group(2))
+        named = re.match(r"\S+: error: `([^`]+)`", error)
+        if named and is_of(function, error) and not CASCADE.search(error):
+            needs.add(named.group(1))
     for name, verdict in verdicts(report):
         if name == function:
-            needs.update(re.findall(r"`([^`]+)`", verdict.partition("does not close ")[2].partition(";")[0]))
+            needs |= unproved_goals(verdict)
     return needs
 
 
 def callers_of(report, function):
     """The functions that are not proved for this function's sake: itself, and those that call it, one through another."""
-    calls = {name: set(re.findall(r"`([^`]+)`", verdict.partition("; it calls ")[2])) for name, verdict in verdicts(report)}
+    calls = {name: set(re.findall(r"`([^`]+)`", verdict.partition("it calls ")[2])) for name, verdict in verdicts(report)}
     found = {function}
     more = found
     while more:
@@ -250,11 +321,12 @@ def callers_of(report, function):
 
 def refused_of(batch, status, report):
     """The edits of a batch that are refused as they must be."""
-    wrong = {name for name, verdict in verdicts(report) if "; it calls `" not in verdict}
-    misfit = any(MISFITS.search(error) for error in errors(report))
-    if status != 1 or "logic=not-proved" not in report or misfit or not wrong <= {edit.function() for edit in batch}:
+    wrong = {name for name, verdict in verdicts(report) if CALLS not in verdict}
+    if status != 1 or "logic=not-proved" not in report or not wrong <= {edit.function() for edit in batch}:
         return []
-    refused = [edit for edit in batch if edit.need() in needs_in_proof(report, edit.function())]
+    misfits = [error for error in errors(report) if MISFITS.search(error)]
+    fit = [edit for edit in batch if not any(is_of(edit.function(), error) for error in misfits)]
+    refused = [edit for edit in fit if edit.need() in needs_in_proof(report, edit.function())]
     for edit in refused:
         edit.unproved = callers_of(report, edit.function())
     return refused
@@ -267,7 +339,7 @@ def fault_in(edit, status, report):
     misfit = next((error for error in errors(report) if MISFITS.search(error)), None)
     if misfit:
         return "the proof no longer fits: " + misfit[:200]
-    wrong = [name for name, verdict in verdicts(report) if "; it calls `" not in verdict]
+    wrong = [name for name, verdict in verdicts(report) if CALLS not in verdict]
     if edit.function() != "law" and wrong != edit.function().split(","):
         return f"not proved by itself: {wrong}, failed: {sorted(failed_needs(report))}"
     if edit.need() not in failed_needs(report):
@@ -276,38 +348,24 @@ def fault_in(edit, status, report):
     return None
 
 
-def try_edit(edit, scratch, store):
-    """Makes the wrong program in a worker's copy, where the crate stands as it is kept, and checks it."""
-    restore(scratch / "crates" / edit.crate, store / "crates" / edit.crate)
-    restore(incremental(scratch, edit.crate), incremental(store, edit.crate))
+def try_edit(edit, store):
+    """Makes the wrong program in a copy of the crate as it stands, and checks it."""
     began = time.monotonic()
     try:
-        edit.apply(scratch / "crates" / edit.crate)
-        edit.leave_out_computed(scratch / "crates" / edit.crate)
-        status, report = check(scratch, edit.crate)
-        fault = fault_in(edit, status, report)
+        fault = fault_in(edit, *store.tried([edit]))
     except ValueError as error:
         fault = str(error)
-    finally:
-        restore(scratch / "crates" / edit.crate, store / "crates" / edit.crate)
     print(f"{edit.name()}: {fault or 'refused, at ' + edit.refused} ({time.monotonic() - began:.0f} s)", flush=True)
     return fault is None
 
 
-def try_batch(batch, scratch, store):
+def try_batch(batch, store):
     """Makes one program with all edits of a batch, and checks it. Returns those that are refused as they must be."""
-    crate = batch[0].crate
-    restore(scratch / "crates" / crate, store / "crates" / crate)
-    restore(incremental(scratch, crate), incremental(store, crate))
     began = time.monotonic()
     try:
-        for edit in batch:
-            edit.apply(scratch / "crates" / crate)
-        refused = refused_of(batch, *check(scratch, crate))
+        refused = refused_of(batch, *store.tried(batch))
     except ValueError:
         refused = []
-    finally:
-        restore(scratch / "crates" / crate, store / "crates" / crate)
     for edit in refused:
         print(f"{edit.name()}: refused, at {edit.refused} (in a batch of {len(batch)}, {time.monotonic() - began:.0f} s)", flush=True)
     return refused
@@ -332,32 +390,15 @@ def batches_of(edits):
 def run(edits):
     """Tries every edit, as many at a time as there are workers. Returns how many are refused as they must be."""
     with tempfile.TemporaryDirectory() as folder, ThreadPoolExecutor(WORKERS) as pool:
-        store = Path(folder) / "store"
-        shutil.copytree(ROOT / "crates", store / "crates")
-        free = Queue()
-        for number in range(WORKERS):
-            scratch = Path(folder) / str(number)
-            make_scratch(scratch)
-            free.put(scratch)
-
-        def with_scratch(work, *arguments):
-            scratch = free.get()
-            try:
-                return work(scratch, *arguments)
-            finally:
-                free.put(scratch)
-
-        build = with_scratch(build_of)
         edited = sorted({edit.crate for edit in edits}, key=is_library)
-        kept = {crate: pool.submit(with_scratch, keep_checked, crate, store, build) for crate in edited}
+        stores = {crate: pool.submit(Store, crate, Path(folder)) for crate in edited}
 
         def in_batch(batch):
-            kept[batch[0].crate].result()
-            return with_scratch(lambda scratch: try_batch(batch, scratch, store)) if len(batch) > 1 else []
+            store = stores[batch[0].crate].result()
+            return try_batch(batch, store) if len(batch) > 1 else []
 
         def by_itself(edit):
-            kept[edit.crate].result()
-            return with_scratch(lambda scratch: try_edit(edit, scratch, store))
+            return try_edit(edit, stores[edit.crate].result())
 
         together, alone = batches_of(edits)
         passed = [edit for refused in pool.map(in_batch, together) for edit in refused]
