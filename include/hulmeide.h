@@ -1,11 +1,11 @@
 /*
  * The cabinet load planner for the switch's firmware.
  *
- * Link target/staticlib/libhulmeide.a, which `rt staticlib hulmeide` proves and writes. It is built for x86-64 and the System V ABI, and
+ * Link target/staticlib/libhulmeide.a, which `tools/build` proves and writes. It is built for x86-64 and the System V ABI, and
  * needs memcpy and memset, nothing else: no heap, no file, no clock, and no memory of its own between calls. All state is in the planner
  * that the caller keeps, so there may be any number of planners, and any number of threads, each with a planner of its own. On the largest
  * cabinet `check` used 21,768 bytes of stack, every other call on a line at most 10,728, a portion of a plan 10,312, the judge 11,168 and a
- * drawing 3,496 (docs/PERFORMANCE.md).
+ * drawing 3,496, with the archive of the older kit (docs/PERFORMANCE.md).
  *
  * What the caller owes: every pointer is to memory that is there for the length given, aligned for its type and not null, also where the
  * length is 0 (hulmeide_call_bytes and hulmeide_call_text take null there); the planner, the output and the work do not overlap one another

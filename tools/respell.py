@@ -6,7 +6,7 @@ get_or in today's library, becomes get_or inside a name of ours. A dash that joi
 edits, and the names where documents and tests speak of them. Code, strings of code, exported names, inputs and outputs keep theirs. It ends
 with status 1 where two names of one file would fall together.
 
-Usage: respell.py   at the top of the repository, once
+Usage: respell.py   at the top of the repository, once, right after port.py
 """
 
 import glob
@@ -19,12 +19,22 @@ OURS = re.compile(r"[a-z][\w'\-]*[A-Z]")
 THEIRS = re.compile(r"Tells|Lawful|Makes|Meets|_Steps|_Chunk|_Rule")
 
 
-# Lemmas that would have their function's name, by file: CONTRACT_STYLE, Names, 3.
-LEMMAS = {"crates/calls/proofs/Need.antt": ["number_by"]}
+# Lemmas that port.py named as a definition will be named here: each gets the name that it had, or one of its own (CONTRACT_STYLE, Names, 3).
+LEMMAS = {
+    "crates/calls/proofs/Need.antt": {"number_by": "number_by_lem"},
+    "crates/cells/proofs/Tables.antt": {"load_at": "load-at"},
+    "crates/cells/proofs/outline/put_loads/Proof.antt": {"load_at": "load-at"},
+    "crates/lines/proofs/Numbers.antt": {"is_digit": "is-digit"},
+    "crates/lines/proofs/reading/read_numbers/Proof.antt": {"is_digit": "is-digit"},
+    "crates/planner/proofs/Planner/mark/Proof.antt": {"mark_set": "mark-set"},
+    "crates/tables/proofs/Changes.antt": {"mark_set": "mark-set"},
+}
 
 
 def snake(name):
     name = name.replace("getD", "get_or").replace("lenL", "len_l").replace("lenR", "len_r").replace("lenS", "len_s")
+    # A capital alone is a word, as in notAPage.
+    name = re.sub(r"(?<=[a-z])A(?=[A-Z])", "_a", name)
     return re.sub(r"(?<=[a-z0-9])([A-Z])", lambda m: "_" + m.group(1).lower(), name)
 
 
@@ -66,11 +76,11 @@ def quoted(text, names):
 
 
 def as_lemmas():
-    """Gives the lemmas that would have their function's name another one."""
+    """Gives those lemmas their names."""
     for path, names in LEMMAS.items():
         text = read(path)
         with open(path, "w", encoding="utf-8") as it:
-            it.write(NAME.sub(lambda m: m.group(0) + "_lem" if m.group(0) in names else m.group(0), text))
+            it.write(NAME.sub(lambda m: names.get(m.group(0), m.group(0)), text))
 
 
 def main():
