@@ -94,7 +94,9 @@ class Edit:
     def of_one_function(self):
         """Is it one line in the body of one function of a library? Such a line can break no function but that one."""
         file, old, new = self.pairs[0]
-        told = any(word in old + new for word in ("ensures", "requires", "const ", "use ", "fn ", "pub ", "struct ", "impl "))
+        path = ROOT / "crates" / self.crate / file
+        line = next((line for line in path.read_text().splitlines() if old in line), old) if path.exists() else old
+        told = any(word in line + new for word in ("ensures", "requires", "const ", "use ", "fn ", "pub ", "struct ", "impl "))
         body = len(self.pairs) == 1 and file.startswith("src/") and not told
         return body and is_library(self.crate) and self.function() != "law" and "," not in self.function()
 
