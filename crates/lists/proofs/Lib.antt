@@ -5,4 +5,5 @@ pub mod Each
 pub mod Arrays
 pub mod Places
 pub mod Argmax
+pub mod Iterating
 pub mod Examples

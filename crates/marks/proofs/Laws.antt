@@ -5,10 +5,11 @@ use mathlib.Core.Bool.{Bool, true, false}
 use native.Mathlib.Nat.{pow-suc, mod-lt, zero-lt-suc, div-lt_iff_lt-mul, div-eq_of_lt, le_trans}
 use native.Mathlib.Numerals.{one-add}
 use native.Mathlib.Omega.{arith}
-use borrow.Author.Tests.{eqb-true, eqb-false, eq-eqb, le-leb, lt-leb, ltb-true, lt-ltb}
-use lib.Dec.{eqb}
+use Rattle.std.proofs.lemmas.Nat.{or_lt}
+use borrow.Author.Tests.{leb-true, eqb-true, eqb-false, eq-eqb, le-leb, lt-leb, ltb-true, lt-ltb}
+use lib.Dec.{eqb, leb}
 use lib.Bits.{bit_or, or_step, or_zero_r, or_shifted_r}
-use lib.Pow.{shr-shr, shl_exact, pow_pos, pow_mono, mod-pow-add}
+use lib.Pow.{pow-lt, shr-shr, shl_exact, pow_pos, pow_mono, mod-pow-add}
 use lib.Count.{ones, ones_step}
 use Rattle.lists.specs.Tests.{pick}
 use Rattle.lists.proofs.Bools.{same_test}
@@ -23,21 +24,28 @@ pub within-true : (w n : ℕ) → (n ≡ 0 → ⊥) → n ≤ w → within w n �
 within-true w zero p h = absurd (p refl)
 within-true w (suc k) p h = le-leb (suc k) w h
 
--- the three ways out of the code of `with`
-pub with-zero : (w x n : ℕ) → n ≡ 0 → x ≡ with_mark w x n
+-- the two ways out of the code of `with`
+pub with-out : (w x n : ℕ) → (1 ≤ n → n ≤ w → ⊥) → x ≡ with_mark w x n
 unfolding with_mark
-with-zero w x n h = rw h
-
-pub with-over : (w x n : ℕ) → w < n → x ≡ with_mark w x n
-unfolding with_mark
-with-over w x n h = rw (within-over w n h)
+with-out w x zero h = refl
+with-out w x (suc k) h = rw (lt-leb (suc k) w (omega arith))
 
 -- the code's `1 << (n - 1)` is a power of two
-pub with_in : (w x n : ℕ) → (n ≡ 0 → ⊥) → n ≤ w → bit_or x ((1 * 2 ^ (n - 1)) % 2 ^ w) ≡ with_mark w x n
+pub with_in : (w v x n : ℕ) → w ≤ v → 1 ≤ n → n ≤ w → bit_or x ((1 * 2 ^ (n - 1)) % 2 ^ v) ≡ with_mark w x n
 unfolding with_mark
-with_in w x n p h =
-    let e : (1 * 2 ^ (n - 1)) % 2 ^ w ≡ 2 ^ (n - 1) = shl_exact {a = 1} 1 (n - 1) w (omega arith) (omega arith) ∙ omega arith in
-    rw (e, within-true w n p h)
+with_in w v x n l p h =
+    let e : (1 * 2 ^ (n - 1)) % 2 ^ v ≡ 2 ^ (n - 1) = shl_exact {a = 1} 1 (n - 1) v (omega arith) (omega arith) ∙ omega arith in
+    rw (e, within-true w n (λ z. omega arith) h)
+
+-- the set with n in it has numbers up to w only
+pub with_fits : (w x n : ℕ) → x < 2 ^ w → with_mark w x n < 2 ^ w
+unfolding with_mark
+with_fits w x zero h = h
+with_fits w x (suc k) h = go (leb (suc k) w) refl
+  where
+    go : (b : Bool) → leb (suc k) w ≡ b → pick b (set_bit x (suc k - 1)) x < 2 ^ w
+    go true e = or_lt w x (2 ^ (suc k - 1)) h (let l = leb-true (suc k) w e in pow-lt (omega arith))
+    go false e = h
 
 -- ---- digits
 half_pow : (x k : ℕ) → x / 2 ^ suc k ≡ x / 2 / 2 ^ k
@@ -123,15 +131,14 @@ pub has-zero : (x n : ℕ) → n ≡ 0 → false ≡ has_mark x n
 unfolding has_mark
 has-zero x n h = rw h
 
-pub has-over : (w x n : ℕ) → x < 2 ^ w → w < n → false ≡ has_mark x n
+pub has-out : (w x n : ℕ) → x < 2 ^ w → (1 ≤ n → n ≤ w → ⊥) → false ≡ has_mark x n
 unfolding has_mark
-has-over w x zero b h = refl
-has-over w x (suc k) b h = sym (bit_high w x k b (omega arith))
+has-out w x zero b h = refl
+has-out w x (suc k) b h = sym (bit_high w x k b (omega arith))
 
 -- nothing is in the empty set
 pub has-none : (n : ℕ) → has_mark 0 n ≡ false
-has-none zero = sym (has-zero 0 0 refl)
-has-none (suc n) = sym (has-over 0 0 (suc n) (omega arith) (omega arith))
+has-none n = sym (has-out 0 0 n (omega arith) (λ p q. omega arith))
 
 -- n is in the set with n
 pub has-with-same : (w x n : ℕ) → within w n ≡ true → has_mark (with_mark w x n) n ≡ true

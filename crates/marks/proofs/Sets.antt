@@ -2,7 +2,7 @@
 -- set is held. Assumes nothing.
 use Prim.Native.Nat.{ℕ, zero, suc, min, ◌+◌, ◌-◌, ◌%◌, ◌^◌, ◌≤◌, ◌<◌, zero-le}
 use mathlib.Core.Path.{◌≡◌, refl, sym, ap, ◌∙◌}
-use mathlib.Core.Bool.{Bool, true, false, ◌&&◌}
+use mathlib.Core.Bool.{Bool, true, false}
 use native.Mathlib.Nat.{mod-lt, mod-eq_of_lt}
 use native.Mathlib.Omega.{arith}
 use borrow.Author.Tests.{leb-true, leb-false, le-leb, lt-leb, ltb-true, lt-ltb}
@@ -13,17 +13,17 @@ use Rattle.lists.proofs.Bools.{and_left, and_right}
 use Rattle.marks.specs.Bits.{has_mark, up_to, with_mark, size_to, size}
 use Rattle.marks.specs.declared.LoadSet.{LoadSet}
 use Rattle.marks.specs.Sets.{half_width, set_width, no_loads, joined, has_load, loads_up_to, size_of}
-use Rattle.marks.proofs.Laws.{within-true, with-zero, with-over, has-with-same, has-with-other, has-none, mark-more, mark-less}
+use Rattle.marks.proofs.Laws.{within-true, with-out, has-with-same, has-with-other, has-none, mark-more, mark-less}
 
 -- ---- the two ways out of the code, by the half in which a load stands
 module _ (s : LoadSet) (n : ℕ) where
   pub joined-low : n ≤ half_width → record { low = with_mark half_width s.low n; high = s.high } ≡ joined s n
   unfolding joined
-  joined-low h = λ i. record { low = with_mark half_width s.low n; high = with-zero half_width s.high (n - half_width) (omega arith) i }
+  joined-low h = λ i. record { low = with_mark half_width s.low n; high = with-out half_width s.high (n - half_width) (λ p q. omega arith) i }
 
   pub joined-high : half_width < n → record { low = s.low; high = with_mark half_width s.high (n - half_width) } ≡ joined s n
   unfolding joined
-  joined-high h = λ i. record { low = with-over half_width s.low n h i; high = with_mark half_width s.high (n - half_width) }
+  joined-high h = λ i. record { low = with-out half_width s.low n (λ p q. omega arith) i; high = with_mark half_width s.high (n - half_width) }
 
   pub has-low : n ≤ half_width → has_mark s.low n ≡ has_load s n
   unfolding has_load
@@ -131,14 +131,14 @@ module _ (s : LoadSet) (n : ℕ) where
           let x : with_mark half_width (s.low % 2 ^ min n half_width) (suc n) ≡ s.low % 2 ^ min (suc n) half_width =
           rw (a, b) (mark-more half_width s.low n l on) in
           let y : with_mark half_width (s.high % 2 ^ (n - half_width)) (suc n - half_width) ≡ s.high % 2 ^ (suc n - half_width) =
-          sym (with-zero half_width (s.high % 2 ^ (n - half_width)) (suc n - half_width) (omega arith)) ∙ ap (λ (k : ℕ). s.high % 2 ^ k) (sym c) in
+          sym (with-out half_width (s.high % 2 ^ (n - half_width)) (suc n - half_width) (λ p q. omega arith)) ∙ ap (λ (k : ℕ). s.high % 2 ^ k) (sym c) in
           λ i. halves (x i) (y i)
       go false e on =
           let l : half_width < suc n = leb-false (suc n) half_width e in
           let a : min n half_width ≡ min (suc n) half_width = omega arith in
           let c : suc n - half_width ≡ suc (n - half_width) = omega arith in
           let x : with_mark half_width (s.low % 2 ^ min n half_width) (suc n) ≡ s.low % 2 ^ min (suc n) half_width =
-          sym (with-over half_width (s.low % 2 ^ min n half_width) (suc n) l) ∙ ap (λ (k : ℕ). s.low % 2 ^ k) a in
+          sym (with-out half_width (s.low % 2 ^ min n half_width) (suc n) (λ p q. omega (arith, l))) ∙ ap (λ (k : ℕ). s.low % 2 ^ k) a in
           let y : with_mark half_width (s.high % 2 ^ (n - half_width)) (suc n - half_width) ≡ s.high % 2 ^ (suc n - half_width) =
           rw c (mark-more half_width s.high (n - half_width) (omega arith) (rw c at on)) in
           λ i. halves (x i) (y i)
@@ -180,15 +180,3 @@ module _ (s : LoadSet) (n : ℕ) where
       let a = mod-eq_of_lt (ltb-true s.low (2 ^ min n half_width) (and_left p q h)) in
       let b = mod-eq_of_lt (ltb-true s.high (2 ^ (n - half_width)) (and_right p q h)) in
       λ i. halves (a i) (b i)
-
-  -- the two ways out of the code
-  pub up-to-low : n ≤ half_width → up_to n s.low && up_to 0 s.high ≡ loads_up_to n s
-  up-to-low h =
-      let a : n ≡ min n half_width = omega arith in
-      let b : 0 ≡ n - half_width = omega arith in
-      λ i. up_to (a i) s.low && up_to (b i) s.high
-
-  pub up-to-high : half_width < n → s.low < 2 ^ half_width → up_to (n - half_width) s.high ≡ loads_up_to n s
-  up-to-high h l =
-      let a : min n half_width ≡ half_width = omega arith in
-      rw (a, lt-ltb s.low (2 ^ half_width) l)

@@ -1,52 +1,63 @@
 -- Each operation on tables that keep the limits is its change on paper, with its number. Assumes nothing.
-use Prim.Native.Nat.{ℕ, zero, suc, ◌+◌, ◌-◌, ◌≤◌, ◌<◌}
+use Prim.Native.Nat.{ℕ, zero, suc, ◌-◌, ◌≤◌, ◌<◌}
 use mathlib.Core.Path.{◌≡◌, refl, ap, ◌∙◌}
-use mathlib.Core.Bool.{false}
+use mathlib.Core.Bool.{Bool, true, false}
 use mathlib.Core.List.{List, [], ◌∷◌, ◌++◌}
 use native.Mathlib.Omega.{arith}
+use borrow.Author.Tests.{leb-true, leb-false}
+use lib.Dec.{leb}
 use lib.ListN.{length, get_or, set, length-set}
-use Rattle.lists.specs.Arrays.{laid}
+use Rattle.std.specs.Result.{result_map_both}
+use Rattle.std.specs.Prelude.{Ok}
+use Rattle.lists.specs.Tests.{some}
 use Rattle.lists.proofs.Arrays.{length-laid, take-laid, laid-snoc, laid-set, get_or-laid, length-snoc}
 use Rattle.marks.specs.Bits.{within}
 use Rattle.marks.proofs.Laws.{within-true}
-use Rattle.tables.specs.declared.rule.Appended.{Appended}
 use Rattle.tables.specs.declared.rule.Sort.TheVariants as sort
+use Rattle.tables.specs.declared.rule.TransitionList.{TransitionList}
+use Rattle.tables.specs.declared.tables.StoredBook.{StoredBook}
 use Rattle.tables.specs.declared.load.Figure.{Figure}
 use Rattle.tables.specs.declared.load.LoadList.{LoadList}
-use Rattle.tables.specs.declared.load.LoadsAppended.{LoadsAppended}
-use Rattle.tables.specs.declared.tables.Added.{Added}
+use Rattle.tables.specs.Refusals.{numbered, told}
 use Rattle.tables.specs.Tables.{Sort, Transition, Load, Book, Tables, no_rule, no_load, rules_for}
-use Rattle.tables.specs.Limits.{max_rules, Limits}
+use Rattle.tables.specs.Limits.{max_rules, same_rule, Limits}
 use Rattle.tables.specs.Stored.{held_rules, stored_rules, stored_loads, places_of, stored_book, stored}
-use Rattle.tables.specs.Changes.{with_book, with_loads, with_rules, new_book, mark, add_rule, add_load, with_figure, on_load, set_figure, set_budget}
-use Rattle.tables.specs.Operations.{rule_number, load_number, accepted, appended, load_appended, load_at, load_replaced, figure_set, put_loads, put_rules, book_begun, mark_set, rule_added, load_added, figure_changed, budget_changed}
+use Rattle.tables.specs.Changes.{with_rules, new_book, mark, add_rule, add_load, with_figure, on_load, set_figure, set_budget}
+use Rattle.tables.specs.Operations.{rule_number, load_number, adding_number, adding, appended, load_appended, load_at, load_replaced, figure_set, put_book, put_loads, put_rules, book_begun, mark_set, rule_added, load_added, figure_changed, budget_changed}
 use Rattle.tables.proofs.Lawful.{lawful}
-use Rattle.tables.proofs.Numbers.{rule-new, load-new}
 
 -- ---- lists: rules of both sorts, and loads
-pub appended-stored : (rs : List Transition) (r : Transition) → length rs ≤ max_rules
-    → appended (stored_rules rs) r ≡ record { number = rule_number rs r; list = stored_rules (accepted (rule_number rs r) (rs ++ (r ∷ [])) rs) }
-unfolding appended
-appended-stored rs r h = rw (take-laid no_rule max_rules rs h) (go (rule_number rs r) refl)
-  where
-    go : (n : ℕ) → rule_number rs r ≡ n → ◌≡◌ {A = Appended}
-        (record { number = n; list = accepted n (record { items = set (laid no_rule max_rules rs) (length rs) r; count = length rs + 1 }) (stored_rules rs) })
-        (record { number = n; list = stored_rules (accepted n (rs ++ (r ∷ [])) rs) })
-    go zero e = rw (laid-snoc no_rule max_rules rs r ((rule-new rs r).0 e).0, length-snoc)
-    go (suc n) e = refl
+-- by the tests: the number, and what is accepted
+numbered-adding : {A B : Type 0} (f : A → B) (full there : Bool) (x : A) (y : B) → (full ≡ false → f x ≡ y)
+    → numbered (result_map_both f (λ e. e) (adding full there x)) ≡ told (adding_number full there) y
+numbered-adding f true there x y h = refl
+numbered-adding f false true x y h = refl
+numbered-adding f false false x y h = ap Ok (h refl)
 
-pub load-appended-stored : (m : ℕ) (ls : List Load) (l : Load) → length ls ≤ m
-    → load_appended (stored_loads m ls) l ≡ record { number = load_number m ls; list = stored_loads m (accepted (load_number m ls) (ls ++ (l ∷ [])) ls) }
-unfolding load_appended
-load-appended-stored m ls l h = rw (take-laid no_load m ls h, length-laid no_load m ls) (go (load_number m ls) refl)
-  where
-    go : (n : ℕ) → load_number m ls ≡ n → ◌≡◌ {A = LoadsAppended}
-        (record { number = n; list = accepted n (record { items = set (laid no_load m ls) (length ls) l; count = length ls + 1 }) (stored_loads m ls) })
-        (record { number = n; list = stored_loads m (accepted n (ls ++ (l ∷ [])) ls) })
-    go zero e = rw (laid-snoc no_load m ls l ((load-new m ls).0 e), length-snoc)
-    go (suc n) e = refl
+pub appended-stored : {B : Type 0} (f : TransitionList → B) (rs : List Transition) (r : Transition) → length rs ≤ max_rules
+    → numbered (result_map_both f (λ e. e) (appended (stored_rules rs) r)) ≡ told (rule_number rs r) (f (stored_rules (rs ++ (r ∷ []))))
+unfolding appended rule_number
+appended-stored f rs r h =
+    rw (take-laid no_rule max_rules rs h)
+    (numbered-adding f (leb max_rules (length rs)) (some (same_rule r) rs) _ _
+    (λ e. rw (laid-snoc no_rule max_rules rs r (leb-false max_rules (length rs) e), length-snoc)))
+
+pub load-appended-stored : {B : Type 0} (f : LoadList → B) (m : ℕ) (ls : List Load) (l : Load) → length ls ≤ m
+    → numbered (result_map_both f (λ e. e) (load_appended (stored_loads m ls) l)) ≡ told (load_number m ls) (f (stored_loads m (ls ++ (l ∷ []))))
+unfolding load_appended load_number
+load-appended-stored f m ls l h =
+    rw (take-laid no_load m ls h, length-laid no_load m ls)
+    (numbered-adding f (leb m (length ls)) false _ _ (λ e. rw (laid-snoc no_load m ls l (leb-false m (length ls) e), length-snoc)))
 
 -- ---- the load of a number: the ways out of the code, and on paper
+pub within_not : (w n : ℕ) → (1 ≤ n → n ≤ w → ⊥) → within w n ≡ false
+within_not w zero h = refl
+within_not w (suc k) h = go (leb (suc k) w) refl
+  where
+    go : (b : Bool) → leb (suc k) w ≡ b → b ≡ false
+    go true e = absurd (h (omega arith) (leb-true (suc k) w e))
+    go false e = refl
+
 module _ (n : ℕ) (l : LoadList) (k : ℕ) (full : places_of l ≡ n) where
   module _ (p : k ≡ 0 → ⊥) (h : k ≤ n) where
     pub load-in : get_or l.items (k - 1) no_load ≡ load_at l k
@@ -81,12 +92,6 @@ figure-stored f n ls k one most few =
       length-set,
     )
 
--- ---- the tables after a change, or as they were
-both_ways : {A : Type 0} (f : A → Tables) (n : ℕ) (new old : A)
-    → ◌≡◌ {A = Added} (record { number = n; tables = stored (f (accepted n new old)) }) (record { number = n; tables = stored (accepted n (f new) (f old)) })
-both_ways f zero new old = refl
-both_ways f (suc n) new old = refl
-
 -- ---- the rules of either sort, where they lie
 held-rules : (k : Sort) (b : Book) → held_rules (stored_book b) k ≡ stored_rules (rules_for b k)
 unfolding stored_book
@@ -97,10 +102,6 @@ put-rules : (k : Sort) (b : Book) (rs : List Transition) → put_rules k (stored
 unfolding stored_book
 put-rules sort.Load b rs = refl
 put-rules sort.Row b rs = refl
-
-same-rules : (k : Sort) (b : Book) → with_rules k b (rules_for b k) ≡ b
-same-rules sort.Load b = refl
-same-rules sort.Row b = refl
 
 -- ---- the operations that give no number
 module _ (t : Tables) where
@@ -122,19 +123,15 @@ module _ (t : Tables) (h : Limits t) where
   unfolding figure_changed figure_set stored
   figure-changed f k x one most = ap (put_loads (stored t)) (figure-stored (λ l. with_figure f l x) t.places t.loads k one most (lawful t h).loads)
 
-  -- ---- those that give one
-  pub rule-added : (k : Sort) (r : Transition) → let n = rule_number (rules_for t.book k) r in
-      rule_added (stored t) k r ≡ record { number = n; tables = stored (accepted n (add_rule t k r) t) }
+  -- ---- those that may be refused
+  pub rule-added : (k : Sort) (r : Transition) → numbered (rule_added (stored t) k r) ≡ told (rule_number (rules_for t.book k) r) (stored (add_rule t k r))
   unfolding rule_added stored
   rule-added k r =
       let rs = rules_for t.book k in
-      rw (held-rules k t.book, appended-stored rs r ((lawful t h).rules k), put-rules k t.book)
-      (both_ways (λ (l : List Transition). with_book t (with_rules k t.book l)) (rule_number rs r) (rs ++ (r ∷ [])) rs
-      ∙ rw (same-rules k t.book))
+      rw (held-rules k t.book)
+      (appended-stored (λ l. put_book (stored t) (put_rules k (stored_book t.book) l)) rs r ((lawful t h).rules k)
+      ∙ ap (λ (b : StoredBook). told (rule_number rs r) (put_book (stored t) b)) (put-rules k t.book (rs ++ (r ∷ []))))
 
-  pub load-added : (l : Load) → let n = load_number t.places t.loads in
-      load_added (stored t) l ≡ record { number = n; tables = stored (accepted n (add_load t l) t) }
+  pub load-added : (l : Load) → numbered (load_added (stored t) l) ≡ told (load_number t.places t.loads) (stored (add_load t l))
   unfolding load_added stored
-  load-added l =
-      rw (load-appended-stored t.places t.loads l (lawful t h).loads)
-      (both_ways (with_loads t) (load_number t.places t.loads) (t.loads ++ (l ∷ [])) t.loads)
+  load-added l = load-appended-stored (put_loads (stored t)) t.places t.loads l (lawful t h).loads

@@ -3,7 +3,6 @@ pub mod Parts
 pub mod Lawful
 pub mod Kept
 pub mod Stored
-pub mod Packed
 pub mod Places
 pub mod Numbers
 pub mod Changes

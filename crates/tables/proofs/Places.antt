@@ -1,26 +1,31 @@
 -- The test place by place and part by part, as the code goes, is the test of the limits. Assumes nothing.
-use Prim.Native.Nat.{ℕ, zero, suc, ◌+◌, ◌≤◌, ◌<◌}
-use mathlib.Core.Path.{◌≡◌, refl, sym, ap, ◌∙◌}
-use mathlib.Core.Bool.{Bool, true, false, ◌&&◌, ◌||◌}
-use native.Mathlib.Numerals.{add-one}
+use Prim.Native.Nat.{ℕ, zero, suc, ◌+◌, ◌≤◌}
+use mathlib.Core.Path.{◌≡◌, refl, sym, ap, ap₂, ◌∙◌}
+use mathlib.Core.Bool.{Bool, true, false, ◌&&◌, ◌||◌, not}
+use mathlib.Core.List.{List, [], ◌∷◌}
 use native.Mathlib.Omega.{arith}
-use borrow.Author.Tests.{ne_eqb, leb-true, le-leb, lt-leb, ltb-true, lt-ltb, le-ltb}
+use borrow.Author.Tests.{ne_eqb, leb-true, le-leb, ltb-true, lt-ltb, le-ltb}
 use lib.Dec.{eqb, leb, ltb}
-use lib.ListN.{length, get_or}
-use Rattle.lists.specs.Tests.{all_below}
+use lib.ListN.{length, take, drop, length-take}
+use lib.Seq.{drop-drop}
+use Rattle.std.specs.List.{list_all, enumerate_from}
+use Rattle.lists.specs.Tests.{some, every, every_from, distinct}
+use Rattle.lists.specs.Places.{limited}
 use Rattle.lists.proofs.Bools.{and-false, same_test}
-use Rattle.lists.proofs.Places.{places-limited, places-numbered}
 use Rattle.tables.specs.declared.rule.RuleRange.{RuleRange}
 use Rattle.tables.specs.declared.rule.Sort.TheVariants as sort
 use Rattle.tables.specs.declared.rule.TransitionList.{TransitionList}
 use Rattle.tables.specs.declared.load.LoadList.{LoadList}
 use Rattle.tables.specs.declared.tables.StoredBook.{StoredBook}
 use Rattle.tables.specs.declared.tables.StoredTables.{StoredTables}
-use Rattle.tables.specs.Tables.{Sort, Load, no_rule, no_load}
+use Rattle.tables.specs.Tables.{Sort, Load}
 use Rattle.tables.specs.Limits.{size_in, marks_in, rule_in, same_rule, rule_range, rules_in, max_rules, sort_in, book_in, parent_in, max_power, max_worth, max_kind, load_in, most_places, loads_in, budget_in, limits}
 use Rattle.tables.specs.Stored.{held_size, held_marks, held_rules, rules_of, loads_of, places_of, book_of, tables_of, zero_rule, zero_load, rules_free, loads_free, keeps_limits}
-use Rattle.tables.proofs.Packed.{and_yes}
-use Rattle.tables.specs.Places.{rule_place, rule_keeps, load_keeps, load_place, rules_held, loads_held, sort_held, book_held}
+use Rattle.tables.specs.Places.{rules_held, loads_held, sort_held, book_held}
+
+and_yes : (a : Bool) → a && true ≡ a
+and_yes true = refl
+and_yes false = refl
 
 -- ---- a load: the root has parent 0, a later load a smaller number
 below_suc : (a n : ℕ) → ltb a (suc n) ≡ leb a n
@@ -32,44 +37,62 @@ parent-in (suc zero) zero = refl
 parent-in (suc zero) (suc p) = rw (ne_eqb (suc p) 0 (λ e. omega arith), le-ltb (suc p) 1 (omega arith)) (and-false (leb 1 (suc p)))
 parent-in (suc (suc k)) p = rw (ne_eqb (suc (suc k)) 1 (λ e. omega arith), below_suc p (suc k))
 
+pub parent_test : (k p : ℕ) → parent_in k p ≡ (eqb k 1 && eqb p 0) || (leb 1 p && ltb p k)
+parent_test k p = sym (parent-in k p)
+
 pub load-range : (k : ℕ) (l : Load)
     → ((eqb k 1 && eqb l.parent 0) || (leb 1 l.parent && ltb l.parent k)) && leb l.power max_power && leb l.worth max_worth && leb l.kind max_kind ≡ load_in k l
 unfolding load_in
 load-range k l = rw (parent-in k l.parent)
 
 -- ---- lists
-rules-placed : (m : RuleRange) (l : TransitionList) → length l.items ≡ max_rules
-    → all_below (rule_place m l) max_rules && leb l.count max_rules ≡ rules_held m l
-unfolding rule_place rule_keeps rules_held
-rules-placed m l e = places-limited no_rule zero_rule max_rules l.count l.items e (rule_in m) same_rule
+few-taken : {A : Type 0} (k n : ℕ) (xs : List A) → k ≤ n → leb (length (take k xs)) n ≡ true
+few-taken k n xs h = le-leb _ _ (omega (arith, length-take k xs))
 
--- the code tests the count first
-pub rules-few : (m : RuleRange) (l : TransitionList) → length l.items ≡ max_rules → l.count ≤ max_rules → all_below (rule_place m l) max_rules ≡ rules_held m l
-rules-few m l e h = sym (and_yes _) ∙ (ap (λ b. all_below (rule_place m l) max_rules && b) (sym (le-leb l.count max_rules h)) ∙ rules-placed m l e)
+-- no rule is there twice: none of those further on is the same
+later-distinct : {A : Type 0} (r : A → A → Bool) (all : List A) (j : ℕ) (xs : List A) → drop j all ≡ xs
+    → list_all (λ y. not (some (r y.1) (drop (y.0 + 1) all))) (enumerate_from j xs) ≡ distinct r xs
+unfolding distinct
+later-distinct r all j [] h = refl
+later-distinct r all j (x ∷ xs) h =
+    let after : drop (j + 1) all ≡ xs = sym (drop-drop 1 j all) ∙ ap (drop 1) h in
+    ap₂ ◌&&◌ (ap (λ ys. not (some (r x) ys)) after) (later-distinct r all (j + 1) xs after)
 
-pub rules-many : (m : RuleRange) (l : TransitionList) → max_rules < l.count → false ≡ rules_held m l
-unfolding rules_held
-rules-many m l h = rw (lt-leb l.count max_rules h)
+pub is-distinct : {A : Type 0} (r : A → A → Bool) (xs : List A) → list_all (λ y. not (some (r y.1) (drop (y.0 + 1) xs))) (enumerate_from 0 xs) ≡ distinct r xs
+is-distinct r xs = later-distinct r xs 0 xs refl
 
--- the code's i + 1 is the number of the load at place i
-pub load_at : (l : LoadList) (i : ℕ) {r : Bool} → r ≡ load_keeps (ltb i l.count) (i + 1) (get_or l.items i no_load) → r ≡ load_place l i
-unfolding load_place
-load_at l i h = h ∙ ap (λ k. load_keeps (ltb i l.count) k (get_or l.items i no_load)) (add-one i)
+free-last : (p z : Bool) → z && p ≡ p && z
+free-last false z = and-false z
+free-last true z = and_yes z
 
-pub loads-placed : (l : LoadList) → all_below (load_place l) (places_of l) && leb l.count (places_of l) ≡ loads_held l
-unfolding load_place load_keeps loads_held loads_in
-loads-placed l = places-numbered no_load zero_load (places_of l) l.count l.items refl load_in
+pub rules_tested : (m : RuleRange) (l : TransitionList)
+    → rules_held m l ≡ (leb l.count max_rules && every (rule_in m) (rules_of l) && distinct same_rule (rules_of l) && every zero_rule (drop l.count l.items))
+unfolding rules_held limited
+rules_tested m l = go (leb l.count max_rules) refl
+  where
+    go : (b : Bool) → leb l.count max_rules ≡ b
+        → rules_held m l ≡ (b && every (rule_in m) (rules_of l) && distinct same_rule (rules_of l) && every zero_rule (drop l.count l.items))
+    go true e = rw (e, few-taken l.count max_rules l.items (leb-true l.count max_rules e)) (free-last (every (rule_in m) (rules_of l) && distinct same_rule (rules_of l)) _)
+    go false e = rw e
+
+pub loads_tested : (l : LoadList) → loads_held l ≡ (leb l.count (places_of l) && every_from load_in 1 (loads_of l) && every zero_load (drop l.count l.items))
+unfolding loads_held loads_in
+loads_tested l = go (leb l.count (places_of l)) refl
+  where
+    go : (b : Bool) → leb l.count (places_of l) ≡ b → loads_held l ≡ (b && every_from load_in 1 (loads_of l) && every zero_load (drop l.count l.items))
+    go true e = rw (e, few-taken l.count (places_of l) l.items (leb-true l.count (places_of l) e)) (free-last (every_from load_in 1 (loads_of l)) _)
+    go false e = rw e
 
 -- ---- the book, and the tables
 sort-order : (a r x : Bool) → a && (r && x) ≡ r && (a && x)
 sort-order false r x = sym (and-false r)
 sort-order true r x = refl
 
-pub sort-placed : (k : Sort) (b : StoredBook)
-    → marks_in (held_size b k) (held_marks b k) && rules_held (rule_range b.states b.stages k) (held_rules b k) ≡ sort_held k b
+pub sort_placed : (k : Sort) (b : StoredBook)
+    → sort_held k b ≡ (marks_in (held_size b k) (held_marks b k) && rules_held (rule_range b.states b.stages k) (held_rules b k))
 unfolding rules_held sort_held book_of sort_in
-sort-placed sort.Load b = sort-order (marks_in b.states b.starts) (rules_free b.load_rules) (rules_in (rule_range b.states b.stages sort.Load) (rules_of b.load_rules))
-sort-placed sort.Row b = sort-order (marks_in b.stages b.ends) (rules_free b.row_rules) (rules_in (rule_range b.states b.stages sort.Row) (rules_of b.row_rules))
+sort_placed sort.Load b = sym (sort-order (marks_in b.states b.starts) (rules_free b.load_rules) (rules_in (rule_range b.states b.stages sort.Load) (rules_of b.load_rules)))
+sort_placed sort.Row b = sym (sort-order (marks_in b.stages b.ends) (rules_free b.row_rules) (rules_in (rule_range b.states b.stages sort.Row) (rules_of b.row_rules)))
 
 book-order : (a r x s y : Bool) → a && (r && x) && (s && y) ≡ r && s && (a && x && y)
 book-order false r x s y = sym (and-false (r && s))
@@ -77,10 +100,10 @@ book-order true false x s y = refl
 book-order true true false s y = sym (and-false s)
 book-order true true true s y = refl
 
-pub book-placed : (b : StoredBook) → size_in b.states b.stages && sort_held sort.Load b && sort_held sort.Row b ≡ book_held b
+pub book_placed : (b : StoredBook) → book_held b ≡ (size_in b.states b.stages && sort_held sort.Load b && sort_held sort.Row b)
 unfolding sort_held book_held book_in book_of
-book-placed b =
-    book-order (size_in b.states b.stages) (rules_free b.load_rules) (sort_in sort.Load (book_of b)) (rules_free b.row_rules) (sort_in sort.Row (book_of b))
+book_placed b =
+    sym (book-order (size_in b.states b.stages) (rules_free b.load_rules) (sort_in sort.Load (book_of b)) (rules_free b.row_rules) (sort_in sort.Row (book_of b)))
 
 tables-order : (r b q l d : Bool) → (r && b) && (q && l) && d ≡ r && q && (b && l && d && true)
 tables-order false b q l d = refl
@@ -90,9 +113,9 @@ tables-order true true true false d = refl
 tables-order true true true true false = refl
 tables-order true true true true true = refl
 
-pub tables-placed : (s : StoredTables) → places_of s.loads ≤ most_places → book_held s.book && loads_held s.loads && budget_in s.budget ≡ keeps_limits s
+pub tables_placed : (s : StoredTables) → places_of s.loads ≤ most_places → keeps_limits s ≡ (book_held s.book && loads_held s.loads && budget_in s.budget)
 unfolding book_held loads_held keeps_limits limits tables_of
-tables-placed s h =
+tables_placed s h =
     rw (le-leb (places_of s.loads) most_places h)
-    (tables-order (rules_free s.book.load_rules && rules_free s.book.row_rules) (book_in (book_of s.book)) (loads_free s.loads)
-    (loads_in (places_of s.loads) (loads_of s.loads)) (budget_in s.budget))
+    (sym (tables-order (rules_free s.book.load_rules && rules_free s.book.row_rules) (book_in (book_of s.book)) (loads_free s.loads)
+    (loads_in (places_of s.loads) (loads_of s.loads)) (budget_in s.budget)))

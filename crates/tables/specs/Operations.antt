@@ -1,21 +1,20 @@
--- What each operation on the tables in a planner gives, for any contents of its arrays: the number, 0 where it is accepted, and the tables
--- after it. It stands for the refusals 6 and 7 of "Causes and numbers" and for "an accepted line changes them as its row below says, a
+-- What each operation on the tables in a planner gives, for any contents of its arrays: the tables after it, or the refusal. It stands for the refusals 6 and 7 of "Causes and numbers" and for "an accepted line changes them as its row below says, a
 -- refused one not at all" of paper 01, and for "`drop,k` removes load k" of request Three of paper 02. On tables that keep the limits these are
 -- the changes on paper (proofs/Changes, proofs/Removed). Assumes nothing.
-use Rattle.std.specs.Prelude.{ℕ, zero, suc, ◌+◌, ◌-◌, Bool, false, ◌&&◌, List, [], ◌∷◌, ◌++◌, map, leb, length, get_or, set, take, drop}
+use Rattle.std.specs.Prelude.{ℕ, zero, suc, ◌+◌, ◌-◌, Bool, false, ◌&&◌, List, [], ◌∷◌, ◌++◌, map, Result, Ok, Err, leb, length, get_or, set, take, drop}
+use Rattle.std.specs.Result.{result_map_both}
 use Rattle.lists.specs.Tests.{pick, some}
 use Rattle.marks.specs.Bits.{within}
 use Rattle.marks.specs.declared.Marks.{Marks}
 use Rattle.marks.specs.Sets.{marked}
 use Rattle.tables.specs.declared.rule.Sort.TheVariants as sort
 use Rattle.tables.specs.declared.rule.TransitionList.{TransitionList}
-use Rattle.tables.specs.declared.rule.Appended.{Appended}
 use Rattle.tables.specs.declared.load.Figure.{Figure}
 use Rattle.tables.specs.declared.load.LoadList.{LoadList}
-use Rattle.tables.specs.declared.load.LoadsAppended.{LoadsAppended}
 use Rattle.tables.specs.declared.tables.StoredBook.{StoredBook}
 use Rattle.tables.specs.declared.tables.StoredTables.{StoredTables}
-use Rattle.tables.specs.declared.tables.Added.{Added}
+use Rattle.tables.specs.declared.refusal.Refusal.{Refusal}
+use Rattle.tables.specs.declared.refusal.Refusal.TheVariants.{Full, SameRule}
 use Rattle.tables.specs.Refusals as no
 use Rattle.tables.specs.Tables.{Sort, Transition, Load, no_load, empty_book}
 use Rattle.tables.specs.Limits.{max_rules, same_rule}
@@ -32,21 +31,21 @@ rule_number rs r = adding_number (leb max_rules (length rs)) (some (same_rule r)
 unfoldable pub load_number : (places : ℕ) → List Load → ℕ
 load_number n ls = adding_number (leb n (length ls)) false
 
+-- the same with the refusals by name, for a list that is x with the element added
+abbrev pub adding : {A : Type 0} → (is_full is_there : Bool) → A → Result A Refusal
+adding is_full is_there x = pick is_full (Err Full) (pick is_there (Err SameRule) (Ok x))
+
 -- what is new where the number is 0, else what was
 abbrev pub accepted : {A : Type 0} → ℕ → A → A → A
 accepted zero new old = new
 accepted (suc n) new old = old
 
 -- ---- a list in an array: one more at the next place, another figure of one, or one fewer
-unfoldable pub appended : TransitionList → Transition → Appended
-appended l r =
-    let n = rule_number (rules_of l) r in
-    record { number = n; list = accepted n (record { items = set l.items l.count r; count = l.count + 1 }) l }
+unfoldable pub appended : TransitionList → Transition → Result TransitionList Refusal
+appended l r = adding (leb max_rules (length (rules_of l))) (some (same_rule r) (rules_of l)) (record { items = set l.items l.count r; count = l.count + 1 })
 
-unfoldable pub load_appended : LoadList → Load → LoadsAppended
-load_appended l x =
-    let n = load_number (places_of l) (loads_of l) in
-    record { number = n; list = accepted n (record { items = set l.items l.count x; count = l.count + 1 }) l }
+unfoldable pub load_appended : LoadList → Load → Result LoadList Refusal
+load_appended l x = adding (leb (places_of l) (length (loads_of l))) false (record { items = set l.items l.count x; count = l.count + 1 })
 
 -- load k is at place k - 1; a number outside 1 to 128 reads an unused place, and changes nothing
 unfoldable pub load_at : LoadList → (number : ℕ) → Load
@@ -89,12 +88,11 @@ book_begun s q g = put_book s (stored_book (empty_book q g))
 unfoldable pub mark_set : StoredTables → Sort → (number : ℕ) → StoredTables
 mark_set s k q = put_book s (put_marks k s.book (marked (held_marks s.book k) q))
 
-unfoldable pub rule_added : StoredTables → Sort → Transition → Added
-rule_added s k r =
-    let a = appended (held_rules s.book k) r in record { number = a.number; tables = put_book s (put_rules k s.book a.list) }
+unfoldable pub rule_added : StoredTables → Sort → Transition → Result StoredTables Refusal
+rule_added s k r = result_map_both (λ l. put_book s (put_rules k s.book l)) (λ e. e) (appended (held_rules s.book k) r)
 
-unfoldable pub load_added : StoredTables → Load → Added
-load_added s x = let a = load_appended s.loads x in record { number = a.number; tables = put_loads s a.list }
+unfoldable pub load_added : StoredTables → Load → Result StoredTables Refusal
+load_added s x = result_map_both (put_loads s) (λ e. e) (load_appended s.loads x)
 
 unfoldable pub figure_changed : StoredTables → Figure → (number value : ℕ) → StoredTables
 figure_changed s f k x = put_loads s (figure_set s.loads f k x)

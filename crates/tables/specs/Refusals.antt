@@ -1,5 +1,7 @@
 -- The numbers of the refusals, by name: the table of "Causes and numbers" of paper 01, and the new numbers of paper 02. Assumes nothing.
-use Rattle.std.specs.Prelude.{ℕ}
+use Rattle.std.specs.Prelude.{ℕ, zero, suc, Result, Ok, Err}
+use Rattle.tables.specs.declared.refusal.Refusal.{Refusal}
+use Rattle.tables.specs.declared.refusal.Refusal.TheVariants.{Unusable, TooLong, Broken, NoLoads, OutOfRange, Full, SameRule, TooFewCells, NoneFits, NotAllowed, HasChildren, NoPlan, NotAPage, KindsInUse, TooPoor, NotCarried, ShortList}
 
 -- "fewer free output bytes than needed; place past the end; a planner handed in that breaks a limit"
 abbrev pub unusable : ℕ
@@ -72,3 +74,38 @@ short_list = 17
 -- no refusal of a line has a greater number
 abbrev pub greatest : ℕ
 greatest = too_poor
+
+-- ---- a refusal by name, and its number
+abbrev pub number_of : Refusal → ℕ
+number_of Unusable = unusable
+number_of TooLong = too_long
+number_of Broken = broken
+number_of NoLoads = no_loads
+number_of OutOfRange = out_of_range
+number_of Full = full
+number_of SameRule = same_rule
+number_of TooFewCells = too_few_cells
+number_of NoneFits = none_fits
+number_of NotAllowed = not_allowed
+number_of HasChildren = has_children
+number_of NoPlan = no_plan
+number_of NotAPage = not_a_page
+number_of KindsInUse = kinds_in_use
+number_of TooPoor = too_poor
+number_of NotCarried = not_carried
+number_of ShortList = short_list
+
+-- what is told of a request: 0 where it is accepted, else the number of its refusal
+abbrev pub number_in : {A : Type 0} → Result A Refusal → ℕ
+number_in (Ok x) = 0
+number_in (Err r) = number_of r
+
+-- the same, with what an accepted one gives
+abbrev pub numbered : {A : Type 0} → Result A Refusal → Result A ℕ
+numbered (Ok x) = Ok x
+numbered (Err r) = Err (number_of r)
+
+-- what is told of a request with this number that gives x where it is accepted
+abbrev pub told : {A : Type 0} → (number : ℕ) → A → Result A ℕ
+told zero x = Ok x
+told (suc n) x = Err (suc n)

@@ -2,12 +2,12 @@
 ghost use Rattle.std.specs.Prelude.{◌≡◌};
 ghost use Rattle.lists.specs.Tests.{some};
 ghost use Rattle.tables.specs.Limits.{load_in, most_of};
-ghost use Rattle.tables.specs.Stored.{loads_of, zero_load};
+ghost use Rattle.tables.specs.Stored.{loads_of};
 ghost use Rattle.tables.specs.Kinds.{load_kinded};
-ghost use Rattle.tables.specs.Changes.{with_figure, is_child, has_children, reparented};
+ghost use Rattle.tables.specs.Changes.{with_figure, has_children, reparented};
 ghost use Rattle.tables.specs.Operations.{load_appended, load_at, load_replaced, figure_set, load_removed};
 
-use crate::refusal::FULL;
+use crate::refusal::Refusal;
 
 pub const MAX_LOADS: usize = 128;
 
@@ -26,7 +26,7 @@ pub enum Figure {
 
 // A load: the number of its parent, its kind, its power in watts and its worth. Only load rules of its kind serve it.
 #[repr(C)]
-#[derive(Clone, Copy)]
+#[derive(Clone, Copy, PartialEq, Eq)]
 pub struct Load {
     pub parent: u8,
     pub kind: u8,
@@ -35,18 +35,12 @@ pub struct Load {
 }
 
 // Loads in order of entry. The first `count` places are in use.
+// It stands beside `TransitionList` as a type of its own, since C takes no generic struct.
 #[repr(C)]
 #[derive(Clone, Copy)]
 pub struct LoadList {
     pub items: [Load; MAX_LOADS],
     pub count: usize,
-}
-
-// A list that a load was to be added to, with 0, or with the number of the refusal.
-#[derive(Clone, Copy)]
-pub struct LoadsAppended {
-    pub number: u8,
-    pub list: LoadList,
 }
 
 impl Figure {
@@ -70,29 +64,18 @@ impl Load {
         worth: 0,
     };
 
-    pub(crate) fn is_zero(self) -> bool
-        ensures { result ≡ zero_load self }
-    {
-        (self.parent == 0) & (self.power == 0) & (self.worth == 0) & (self.kind == 0)
-    }
-
     // Are the parent and the figures in range for the load of this number? The root has parent 0, a later load a smaller number.
+    #[tactic(auto, using(crate::proofs::Places::parent_test), unfolding(crate::specs::Limits::load_in))]
     pub(crate) fn in_range(self, number: usize) -> bool
         ensures { result ≡ load_in number self }
     {
-        let parent = self.parent as usize;
-        let root = (number == 1) & (parent == 0);
-        let child = (1 <= parent) & (parent < number);
-        (root | child)
-            & (self.power <= MAX_POWER)
-            & (self.worth <= MAX_WORTH)
-            & (self.kind <= MAX_KIND)
-    }
-
-    pub(crate) fn has_kind(self) -> bool
-        ensures { result ≡ load_kinded self }
-    {
-        0 < self.kind
+        let parent = usize::from(self.parent);
+        let root = number == 1 && parent == 0;
+        let child = (1..number).contains(&parent);
+        (root || child)
+            && self.power <= MAX_POWER
+            && self.worth <= MAX_WORTH
+            && self.kind <= MAX_KIND
     }
 
     // The load with another figure.
@@ -101,39 +84,26 @@ impl Load {
     {
         match figure {
             Figure::Power => Load {
-                parent: self.parent,
-                kind: self.kind,
                 power: value,
-                worth: self.worth,
+                ..self
             },
             Figure::Worth => Load {
-                parent: self.parent,
-                kind: self.kind,
-                power: self.power,
                 worth: value,
+                ..self
             },
         }
-    }
-
-    // Is it a child of the load of this number?
-    pub(crate) fn is_child(self, number: usize) -> bool
-        ensures { result ≡ is_child number self }
-    {
-        self.parent as usize == number
     }
 
     // The load after the load of this number has left. The number of a parent above it falls by one.
     pub(crate) fn reparented(self, number: usize) -> Load
         ensures { result ≡ reparented number self }
     {
-        if self.parent as usize <= number {
+        if usize::from(self.parent) <= number {
             return self;
         }
         Load {
             parent: self.parent - 1,
-            kind: self.kind,
-            power: self.power,
-            worth: self.worth,
+            ..self
         }
     }
 }
@@ -145,33 +115,23 @@ impl LoadList {
     };
 
     // The list with l at its end, unless it is full.
-    pub(crate) fn append(self, l: Load) -> LoadsAppended
+    pub(crate) fn append(self, l: Load) -> Result<LoadList, Refusal>
         ensures { result ≡ load_appended self l }
     {
-        let count = self.count;
-        if MAX_LOADS <= count {
-            return LoadsAppended {
-                number: FULL,
-                list: self,
-            };
+        if MAX_LOADS <= self.count {
+            return Err(Refusal::Full);
         }
         let mut next = self;
-        next.items[count] = l;
-        next.count = count + 1;
-        LoadsAppended {
-            number: 0,
-            list: next,
-        }
+        next.items[self.count] = l;
+        next.count = self.count + 1;
+        Ok(next)
     }
 
     // The load of this number. A number outside 1 to 128 gives what an unused place holds.
     pub fn load(self, number: usize) -> Load
         ensures { result ≡ load_at self number }
     {
-        if number == 0 {
-            return Load::NONE;
-        }
-        if MAX_LOADS < number {
+        if !(1..=MAX_LOADS).contains(&number) {
             return Load::NONE;
         }
         self.items[number - 1]
@@ -181,10 +141,7 @@ impl LoadList {
     pub(crate) fn replace(self, number: usize, load: Load) -> LoadList
         ensures { result ≡ load_replaced self number load }
     {
-        if number == 0 {
-            return self;
-        }
-        if MAX_LOADS < number {
+        if !(1..=MAX_LOADS).contains(&number) {
             return self;
         }
         let mut next = self;
@@ -203,32 +160,17 @@ impl LoadList {
     pub fn has_children(self, number: usize) -> bool
         ensures { result ≡ has_children number (loads_of self) }
     {
-        for i in 0..MAX_LOADS {
-            if self.count <= i {
-                return false;
-            }
-            let load = self.items[i];
-            if load.is_child(number) {
-                return true;
-            }
-        }
-        false
+        self.items
+            .iter()
+            .take(self.count)
+            .any(|load| usize::from(load.parent) == number)
     }
 
     // Has some load a kind other than 0?
     pub(crate) fn has_kinds(self) -> bool
         ensures { result ≡ some load_kinded (loads_of self) }
     {
-        for place in 0..MAX_LOADS {
-            if self.count <= place {
-                return false;
-            }
-            let load = self.items[place];
-            if load.has_kind() {
-                return true;
-            }
-        }
-        false
+        self.items.iter().take(self.count).any(|load| 0 < load.kind)
     }
 
     // The list without the load of this number. Each later load comes one place down, and the last place is free. A number of no load changes
@@ -236,15 +178,13 @@ impl LoadList {
     pub(crate) fn remove(self, number: usize) -> LoadList
         ensures { result ≡ load_removed self number }
     {
-        if number == 0 {
-            return self;
-        }
-        if MAX_LOADS < number {
+        if !(1..=MAX_LOADS).contains(&number) {
             return self;
         }
         if self.count < number {
             return self;
         }
+        // The loop counts by hand: each place takes the load of another, which an iterator over the places does not give.
         let mut next = self;
         for i in (number - 1)..MAX_LOADS {
             let later = self.load(i + 2);

@@ -1,34 +1,50 @@
-// The numbers of the refusals, by name: the table "Causes and numbers". The specification has them under the same names in specs/Refusals.
-pub const UNUSABLE: u8 = 1;
+// The refusals, with their numbers: the table "Causes and numbers". The specification has the numbers in specs/Refusals.
+ghost use Rattle.std.specs.Prelude.{◌≡◌};
+ghost use Rattle.tables.specs.Refusals.{number_of, number_in};
 
-pub const TOO_LONG: u8 = 2;
+#[derive(Clone, Copy, PartialEq, Eq)]
+pub enum Refusal {
+    Unusable = 1,
+    TooLong = 2,
+    Broken = 3,
+    NoLoads = 4,
+    OutOfRange = 5,
+    Full = 6,
+    SameRule = 7,
+    TooFewCells = 8,
+    NoneFits = 9,
+    NotAllowed = 10,
+    HasChildren = 11,
+    NoPlan = 12,
+    NotAPage = 13,
+    KindsInUse = 14,
+    TooPoor = 15,
+    NotCarried = 16,
+    ShortList = 17,
+}
 
-pub const BROKEN: u8 = 3;
+impl From<Refusal> for u8 {
+    ghost from_gives = { λ refusal n. n ≡ number_of refusal };
 
-pub const NO_LOADS: u8 = 4;
+    fn from(refusal: Refusal) -> u8 {
+        refusal as u8
+    }
+}
 
-pub const OUT_OF_RANGE: u8 = 5;
+impl From<Refusal> for u32 {
+    ghost from_gives = { λ refusal n. n ≡ number_of refusal };
 
-pub const FULL: u8 = 6;
+    fn from(refusal: Refusal) -> u32 {
+        refusal as u32
+    }
+}
 
-pub const SAME_RULE: u8 = 7;
-
-pub const TOO_FEW_CELLS: u8 = 8;
-
-pub const NONE_FITS: u8 = 9;
-
-pub const NOT_ALLOWED: u8 = 10;
-
-pub const HAS_CHILDREN: u8 = 11;
-
-pub const NO_PLAN: u8 = 12;
-
-pub const NOT_A_PAGE: u8 = 13;
-
-pub const KINDS_IN_USE: u8 = 14;
-
-pub const TOO_POOR: u8 = 15;
-
-pub const NOT_CARRIED: u8 = 16;
-
-pub const SHORT_LIST: u8 = 17;
+// The number that tells of a request: 0 where it is accepted, else that of its refusal.
+pub fn number_in<T: Copy>(told: Result<T, Refusal>) -> u8
+    ensures { result ≡ number_in told }
+{
+    match told {
+        Ok(_) => 0,
+        Err(refusal) => u8::from(refusal),
+    }
+}

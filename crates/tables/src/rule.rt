@@ -3,12 +3,12 @@ ghost use Rattle.std.specs.Prelude.{◌≡◌};
 ghost use Rattle.lists.specs.Tests.{some};
 ghost use Rattle.lists.specs.Arrays.{rest};
 ghost use Rattle.tables.specs.Limits.{rule_in, rule_range, same_rule};
-ghost use Rattle.tables.specs.Stored.{rules_of, zero_rule};
+ghost use Rattle.tables.specs.Stored.{rules_of};
 ghost use Rattle.tables.specs.Kinds.{rule_kinded};
 ghost use Rattle.tables.specs.Operations.{appended};
 
 use crate::load::MAX_KIND;
-use crate::refusal::{FULL, SAME_RULE};
+use crate::refusal::Refusal;
 
 pub const MAX_RULES: usize = 32;
 
@@ -23,7 +23,7 @@ pub enum Sort {
 // A transition of the tree automaton. A load rule is (state, mark, stage) with the kind of the loads that it serves, a row rule (stage, state,
 // next stage), with kind 0.
 #[repr(C)]
-#[derive(Clone, Copy)]
+#[derive(Clone, Copy, PartialEq, Eq)]
 pub struct Transition {
     pub from: u8,
     pub label: u8,
@@ -32,6 +32,7 @@ pub struct Transition {
 }
 
 // Rules in order of entry. The first `count` places are in use.
+// It stands beside `LoadList` as a type of its own, since C takes no generic struct.
 #[repr(C)]
 #[derive(Clone, Copy)]
 pub struct TransitionList {
@@ -49,13 +50,6 @@ pub struct RuleRange {
     pub kind: u8,
 }
 
-// A list that a rule was to be added to, with 0, or with the number of the refusal.
-#[derive(Clone, Copy)]
-pub struct Appended {
-    pub number: u8,
-    pub list: TransitionList,
-}
-
 impl Transition {
     // What an unused place holds.
     pub const NONE: Transition = Transition {
@@ -64,27 +58,6 @@ impl Transition {
         to: 0,
         kind: 0,
     };
-
-    pub(crate) fn same(self, other: Transition) -> bool
-        ensures { result ≡ same_rule self other }
-    {
-        (self.from == other.from)
-            & (self.label == other.label)
-            & (self.to == other.to)
-            & (self.kind == other.kind)
-    }
-
-    pub(crate) fn is_zero(self) -> bool
-        ensures { result ≡ zero_rule self }
-    {
-        (self.from == 0) & (self.label == 0) & (self.to == 0) & (self.kind == 0)
-    }
-
-    pub(crate) fn has_kind(self) -> bool
-        ensures { result ≡ rule_kinded self }
-    {
-        0 < self.kind
-    }
 }
 
 impl RuleRange {
@@ -111,13 +84,14 @@ impl RuleRange {
     }
 
     // Is each number of t in its range?
+    #[tactic(auto, unfolding(crate::specs::Limits::rule_in))]
     pub(crate) fn holds(self, t: Transition) -> bool
         ensures { result ≡ rule_in self t }
     {
-        let from = (1 <= t.from) & (t.from <= self.from);
-        let label = (self.low <= t.label) & (t.label <= self.high);
-        let to = (1 <= t.to) & (t.to <= self.to);
-        from & label & to & (t.kind <= self.kind)
+        (1..=self.from).contains(&t.from)
+            && (self.low..=self.high).contains(&t.label)
+            && (1..=self.to).contains(&t.to)
+            && t.kind <= self.kind
     }
 }
 
@@ -128,60 +102,36 @@ impl TransitionList {
     };
 
     // Is the rule t in the list, from place `start` on?
-    pub(crate) fn found_from(self, t: Transition, start: usize) -> bool
-        ensures { result ≡ some (same_rule t) (rest self.items self.count start) }
+    pub(crate) fn found_from(&self, t: Transition, start: usize) -> bool
+        ensures { result ≡ some (same_rule t) (rest self.now.items self.now.count start) }
     {
-        for i in start..MAX_RULES {
-            if self.count <= i {
-                return false;
-            }
-            let u = self.items[i];
-            if t.same(u) {
-                return true;
-            }
-        }
-        false
+        self.items
+            .iter()
+            .take(self.count)
+            .skip(start)
+            .any(|u| t == *u)
     }
 
     // Has some rule a kind other than 0?
     pub(crate) fn has_kinds(self) -> bool
         ensures { result ≡ some rule_kinded (rules_of self) }
     {
-        for place in 0..MAX_RULES {
-            if self.count <= place {
-                return false;
-            }
-            let t = self.items[place];
-            if t.has_kind() {
-                return true;
-            }
-        }
-        false
+        self.items.iter().take(self.count).any(|t| 0 < t.kind)
     }
 
     // The list with t at its end, unless it is full or has t already.
-    pub(crate) fn append(self, t: Transition) -> Appended
+    pub(crate) fn append(self, t: Transition) -> Result<TransitionList, Refusal>
         ensures { result ≡ appended self t }
     {
-        let count = self.count;
-        if MAX_RULES <= count {
-            return Appended {
-                number: FULL,
-                list: self,
-            };
+        if MAX_RULES <= self.count {
+            return Err(Refusal::Full);
         }
         if self.found_from(t, 0) {
-            return Appended {
-                number: SAME_RULE,
-                list: self,
-            };
+            return Err(Refusal::SameRule);
         }
         let mut next = self;
-        next.items[count] = t;
-        next.count = count + 1;
-        Appended {
-            number: 0,
-            list: next,
-        }
+        next.items[self.count] = t;
+        next.count = self.count + 1;
+        Ok(next)
     }
 }

@@ -7,6 +7,7 @@ ghost use Rattle.tables.specs.Kinds.{has_kinds};
 ghost use Rattle.tables.specs.Operations.{put_book, put_loads, put_marks, put_rules, book_begun, mark_set, rule_added, load_added, figure_changed, load_dropped, budget_changed};
 
 use crate::load::{Figure, Load, LoadList};
+use crate::refusal::Refusal;
 use crate::rule::{Sort, Transition, TransitionList};
 use marks::Marks;
 
@@ -29,13 +30,6 @@ pub struct StoredTables {
     pub book: StoredBook,
     pub loads: LoadList,
     pub budget: u16,
-}
-
-// The tables after a change, with 0, or as they were, with the number of the refusal.
-#[derive(Clone, Copy)]
-pub struct Added {
-    pub number: u8,
-    pub tables: StoredTables,
 }
 
 impl StoredBook {
@@ -86,31 +80,31 @@ impl StoredBook {
     fn with_marks(self, sort: Sort, marks: Marks) -> StoredBook
         ensures { result ≡ put_marks sort self marks }
     {
-        let mut next = self;
         match sort {
-            Sort::Load => {
-                next.starts = marks;
-            }
-            Sort::Row => {
-                next.ends = marks;
-            }
+            Sort::Load => StoredBook {
+                starts: marks,
+                ..self
+            },
+            Sort::Row => StoredBook {
+                ends: marks,
+                ..self
+            },
         }
-        next
     }
 
     fn with_rules(self, sort: Sort, rules: TransitionList) -> StoredBook
         ensures { result ≡ put_rules sort self rules }
     {
-        let mut next = self;
         match sort {
-            Sort::Load => {
-                next.load_rules = rules;
-            }
-            Sort::Row => {
-                next.row_rules = rules;
-            }
+            Sort::Load => StoredBook {
+                load_rules: rules,
+                ..self
+            },
+            Sort::Row => StoredBook {
+                row_rules: rules,
+                ..self
+            },
         }
-        next
     }
 }
 
@@ -127,29 +121,27 @@ impl StoredTables {
     }
 
     // Has some load or load rule a kind other than 0?
+    #[tactic(auto, unfolding(crate::specs::Kinds::has_kinds, crate::specs::Stored::tables_of, crate::specs::Stored::book_of))]
     pub fn has_kinds(self) -> bool
         ensures { result ≡ has_kinds (tables_of self) }
     {
-        self.book.load_rules.has_kinds() | self.loads.has_kinds()
+        self.book.load_rules.has_kinds() || self.loads.has_kinds()
     }
 
     fn with_book(self, book: StoredBook) -> StoredTables
         ensures { result ≡ put_book self book }
     {
-        let mut next = self;
-        next.book = book;
-        next
+        StoredTables { book, ..self }
     }
 
     fn with_loads(self, loads: LoadList) -> StoredTables
         ensures { result ≡ put_loads self loads }
     {
-        let mut next = self;
-        next.loads = loads;
-        next
+        StoredTables { loads, ..self }
     }
 
     // A new book: no rules, no marks. Loads and budget stay.
+    #[tactic(auto, unfolding(crate::specs::Operations::book_begun))]
     pub fn new_book(self, states: u8, stages: u8) -> StoredTables
         ensures { result ≡ book_begun self states stages }
     {
@@ -157,40 +149,33 @@ impl StoredTables {
     }
 
     // One more start state, or end stage.
+    #[tactic(auto, unfolding(crate::specs::Operations::mark_set))]
     pub fn mark(self, sort: Sort, number: usize) -> StoredTables
         ensures { result ≡ mark_set self sort number }
     {
-        let book = self.book;
-        let marks = book.marks(sort);
-        self.with_book(book.with_marks(sort, marks.with(number)))
+        let marks = self.book.marks(sort).with(number);
+        self.with_book(self.book.with_marks(sort, marks))
     }
 
     // One more load rule, or row rule.
-    pub fn add_rule(self, sort: Sort, t: Transition) -> Added
+    #[tactic(auto, unfolding(crate::specs::Operations::rule_added))]
+    pub fn add_rule(self, sort: Sort, t: Transition) -> Result<StoredTables, Refusal>
         ensures { result ≡ rule_added self sort t }
     {
-        let book = self.book;
-        let rules = book.rules(sort);
-        let a = rules.append(t);
-        let list = a.list;
-        Added {
-            number: a.number,
-            tables: self.with_book(book.with_rules(sort, list)),
-        }
+        let rules = self.book.rules(sort).append(t)?;
+        Ok(self.with_book(self.book.with_rules(sort, rules)))
     }
 
-    pub fn add_load(self, l: Load) -> Added
+    #[tactic(auto, unfolding(crate::specs::Operations::load_added))]
+    pub fn add_load(self, l: Load) -> Result<StoredTables, Refusal>
         ensures { result ≡ load_added self l }
     {
-        let a = self.loads.append(l);
-        let list = a.list;
-        Added {
-            number: a.number,
-            tables: self.with_loads(list),
-        }
+        let loads = self.loads.append(l)?;
+        Ok(self.with_loads(loads))
     }
 
     // Another figure of the load of this number.
+    #[tactic(auto, unfolding(crate::specs::Operations::figure_changed))]
     pub fn set_figure(self, figure: Figure, number: usize, value: u16) -> StoredTables
         ensures { result ≡ figure_changed self figure number value }
     {
@@ -198,17 +183,20 @@ impl StoredTables {
     }
 
     // The tables without the load of this number. A number of no load changes nothing.
+    #[tactic(auto, unfolding(crate::specs::Operations::load_dropped))]
     pub fn drop_load(self, number: usize) -> StoredTables
         ensures { result ≡ load_dropped self number }
     {
         self.with_loads(self.loads.remove(number))
     }
 
+    #[tactic(auto, unfolding(crate::specs::Operations::budget_changed))]
     pub fn set_budget(self, watts: u16) -> StoredTables
         ensures { result ≡ budget_changed self watts }
     {
-        let mut next = self;
-        next.budget = watts;
-        next
+        StoredTables {
+            budget: watts,
+            ..self
+        }
     }
 }

@@ -4,8 +4,10 @@ use native.Mathlib.Omega.{arith}
 use Rattle.marks.proofs.Sets.{has-low, has-high}
 use Rattle.marks.proofs.LoadSet.has.Goals as goal
 
-pub returns-then-load-le-HALF : goal.returns-then-load-le-HALF
-returns-then-load-le-HALF c = let a = c.args in c.half_has.ensures ∙ has-low a.self a.load c.if-load-le-HALF.true
+pub returns-then-load-le-WORD : goal.returns-then-load-le-WORD
+returns-then-load-le-WORD c = let a = c.args in c.word_has.ensures ∙ has-low a.self a.load c.if-load-le-WORD.true
 
-pub returns : goal.returns
-returns c = let a = c.args in c.half_has-2.ensures ∙ has-high a.self a.load (omega (arith, c.if-load-le-HALF.false))
+pub returns-else-load-le-WORD : goal.returns-else-load-le-WORD
+returns-else-load-le-WORD c =
+    let a = c.args in
+    c.word_has-else-load-le-WORD.ensures ∙ has-high a.self a.load (omega (arith, c.if-load-le-WORD.false))

@@ -1,16 +1,19 @@
 -- `LoadList::replace` meets its contract. Assumes nothing.
+use Prim.Native.Nat.{◌≤◌}
 use borrow.Author.Rules.{rules}
+use native.Mathlib.Omega.{arith}
+use Rattle.std.proofs.lemmas.Grind.{common_steps}
 use Rattle.lists.proofs.Arrays.{of_map}
-use Rattle.marks.proofs.Laws.{within-over}
 use Rattle.tables.specs.Limits.{max_loads}
-use Rattle.tables.proofs.Changes.{replaced-in, replaced-out}
+use Rattle.tables.proofs.Changes.{within_not, replaced-in, replaced-out}
 use Rattle.tables.proofs.load.LoadList.replace.Goals as goal
 
-pub returns-then-number-eq0 : goal.returns-then-number-eq0
-returns-then-number-eq0 c = replaced-out max_loads _ _ (search (rules, of_map)) (rw c.if-number-eq0.true) _
-
-pub returns-then-number-gt-MAX_LOADS : goal.returns-then-number-gt-MAX_LOADS
-returns-then-number-gt-MAX_LOADS c = replaced-out max_loads _ _ (search (rules, of_map)) (within-over max_loads _ c.if-number-gt-MAX_LOADS.true) _
+pub returns-then-not-contains : goal.returns-then-not-contains
+returns-then-not-contains c =
+    replaced-out max_loads _ _ (search (rules, of_map)) (within_not max_loads c.args.number (λ p q. grind (arith, common_steps))) _
 
 pub returns : goal.returns
-returns c = replaced-in max_loads _ _ (search (rules, of_map)) c.if-number-eq0.false c.if-number-gt-MAX_LOADS.false _
+returns c =
+    let l : 1 ≤ c.args.number = grind (arith, common_steps) in
+    let m : c.args.number ≤ max_loads = grind (arith, common_steps) in
+    replaced-in max_loads _ _ (search (rules, of_map)) (λ e. omega arith) m _
