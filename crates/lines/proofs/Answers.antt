@@ -7,7 +7,8 @@ use lib.Dec.{lit≤}
 use lib.ListN.{length, length-append}
 use Rattle.lists.specs.Each.{none, more}
 use Rattle.tables.specs.declared.entry.Entry.{Entry}
-use Rattle.lines.specs.Text.{comma, line_feed, decimal, field}
+use Rattle.lines.specs.Text.{bytes, comma, line_feed, decimal, field}
+use Rattle.lines.specs.Written.{parted, line}
 use Rattle.lines.specs.Answers.{yes, refused, plan_line, need_line, entry_line, entry_lines, free_bytes, run_bytes, Ranged, AllRanged}
 use Rattle.lines.proofs.Decimal.{decimal-length}
 
@@ -31,6 +32,15 @@ pub entry_length : (l : Entry)
     → length (entry_line l) ≡ length (field l.number comma) + length (field l.mark comma) + length (field l.state comma) + length (field l.rule comma) + length (field l.row line_feed)
 unfolding entry_line
 entry_length l = simp length-append
+
+-- ---- a plan's line and an entry's, as a word and numbers
+pub plan_as_line : (v w n : ℕ) → line (bytes "plan") (v ∷ w ∷ n ∷ []) ++ (line_feed ∷ []) ≡ plan_line v w n
+unfolding parted plan_line field
+plan_as_line v w n = simp append_assoc
+
+pub entry_as_line : (e : Entry) → decimal e.number ++ (line [] (e.mark ∷ e.state ∷ e.rule ∷ e.row ∷ []) ++ (line_feed ∷ [])) ≡ entry_line e
+unfolding parted entry_line field
+entry_as_line e = simp append_assoc
 
 -- ---- a field of so many digits
 field_fits : (k n after : ℕ) → 1 ≤ k → n < 10 ^ k → length (field n after) ≤ k + 1

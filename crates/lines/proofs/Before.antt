@@ -1,13 +1,15 @@
 -- A loop that looks for the first that passes a test, or for the first byte x: what is known of its place at each turn. Assumes nothing.
 use Prim.Native.Nat.{ℕ, zero, suc, ◌+◌, ◌≤◌, ◌<◌}
-use mathlib.Core.Path.{◌≡◌, ap}
-use mathlib.Core.Bool.{Bool, true, false}
+use mathlib.Core.Path.{◌≡◌, refl, sym, ap, ◌∙◌}
+use mathlib.Core.Bool.{Bool, true, false, not, cond}
 use mathlib.Core.List.{List, [], ◌∷◌}
 use native.Mathlib.Nat.{le_of_suc-le-suc}
 use native.Mathlib.Omega.{arith}
-use borrow.Author.Tests.{eq-eqb, ne_eqb}
-use lib.Dec.{eqb}
+use borrow.Author.Tests.{eq-eqb, ne_eqb, ltb-true, ltb-false}
+use lib.Dec.{eqb, ltb}
 use lib.ListN.{length, get_or}
+use Rattle.std.proofs.Common.{Option, Some, None, unwrap_or}
+use Rattle.std.specs.List.{position_or_len}
 use Rattle.lists.specs.Tests.{pick}
 use Rattle.lines.specs.Text.{first_at, before}
 
@@ -46,6 +48,41 @@ module _ (p : ℕ → Bool) where
   -- none in the whole does
   pub first-end : (s : List ℕ) (i : ℕ) → i ≤ first_at p s → length s ≤ i → first_at p s ≡ i
   first-end s i l h = omega (arith, first-most s)
+
+  -- where `position` finds it
+  place-is : (s : List ℕ) → position_or_len p s ≡ first_at p s
+  unfolding first_at
+  place-is [] = refl
+  place-is (b ∷ bs) = rw (place-is bs) (go (p b))
+    where
+      go : (t : Bool) → cond (not t) (1 + first_at p bs) 0 ≡ pick t 0 (suc (first_at p bs))
+      go true = refl
+      go false = omega arith
+
+  module _ (s : List ℕ) (r : Option ℕ) (e : r ≡ cond (ltb (position_or_len p s) (length s)) (Some (position_or_len p s)) None) where
+    found : r ≡ cond (ltb (first_at p s) (length s)) (Some (first_at p s)) None
+    found = rw place-is at e
+
+    pub first-or-length : unwrap_or r (length s) ≡ first_at p s
+    first-or-length = rw found (go (ltb (first_at p s) (length s)) refl)
+      where
+        go : (t : Bool) → ltb (first_at p s) (length s) ≡ t → unwrap_or (cond t (Some (first_at p s)) None) (length s) ≡ first_at p s
+        go true h = refl
+        go false h = omega (arith, ltb-false (first_at p s) (length s) h, first-most s)
+
+    pub first-some : (i : ℕ) → r ≡ Some i → (i ≡ first_at p s) × (first_at p s < length s)
+    first-some i q = go (ltb (first_at p s) (length s)) refl
+      where
+        go : (t : Bool) → ltb (first_at p s) (length s) ≡ t → (i ≡ first_at p s) × (first_at p s < length s)
+        go true h = let k : ◌≡◌ {A = Option ℕ} (Some i) (Some (first_at p s)) = sym q ∙ found ∙ rw h in (cc, ltb-true (first_at p s) (length s) h)
+        go false h = let k : ◌≡◌ {A = Option ℕ} (Some i) None = sym q ∙ found ∙ rw h in cc
+
+    pub first-none : r ≡ None → first_at p s ≡ length s
+    first-none q = go (ltb (first_at p s) (length s)) refl
+      where
+        go : (t : Bool) → ltb (first_at p s) (length s) ≡ t → first_at p s ≡ length s
+        go true h = let k : ◌≡◌ {A = Option ℕ} (Some (first_at p s)) None = sym (found ∙ rw h) ∙ q in cc
+        go false h = omega (arith, ltb-false (first_at p s) (length s) h, first-most s)
 
 module _ (x : ℕ) (s : List ℕ) where
   pub before-most : before x s ≤ length s

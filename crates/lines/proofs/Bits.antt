@@ -1,17 +1,18 @@
 -- The bits of a check: one turn of the loop that reads them, and which loads the set holds. Assumes nothing.
-use Prim.Native.Nat.{ℕ, zero, suc, ◌+◌, ◌-◌, ◌≤◌, ◌<◌}
+use Prim.Native.Nat.{ℕ, zero, suc, ◌+◌, ◌-◌, ◌≤◌, ◌<◌, min}
 use mathlib.Core.Path.{◌≡◌, refl, sym, ◌∙◌}
 use mathlib.Core.Bool.{Bool, true, false, ◌&&◌}
 use mathlib.Core.List.{List, [], ◌∷◌}
 use mathlib.Core.Logic.{◌⊎◌, inl, inr, ⊎_elim}
 use native.Mathlib.Numerals.{add-one}
 use native.Mathlib.Omega.{arith}
-use borrow.Author.Tests.{le-leb, eq-eqb, ne_eqb}
+use borrow.Author.Tests.{le-leb, lt-leb, eq-eqb, ne_eqb}
 use lib.Dec.{leb, eqb}
-use lib.ListN.{length, get_or, drop, drop_of_length-le}
+use lib.ListN.{length, get_or, take, drop, drop_of_length-le}
 use lib.Seq.{drop-cons}
+use Rattle.std.proofs.lemmas.List.{take_rest}
 use Rattle.lists.specs.Tests.{pick, every}
-use Rattle.lists.proofs.Bools.{and-false}
+use Rattle.lists.proofs.Bools.{and-false, below_or}
 use Rattle.marks.specs.declared.LoadSet.{LoadSet}
 use Rattle.marks.specs.Sets.{set_width, no_loads, joined, has_load}
 use Rattle.marks.proofs.Sets.{has-no-loads, has-joined-same, has-joined-other}
@@ -28,6 +29,13 @@ bits_from n s f = pick (leb 1 (n + length f) && every is_bit f) (Check (joined_f
 pub bits-begin : (f : List ℕ) → bits_of f ≡ bits_from 0 no_loads f
 unfolding bits_of bits_from is_bits
 bits-begin f = let e : 0 + length f ≡ length f = omega arith in rw e
+
+no_bit : (b : ℕ) → (b ≡ nought → ⊥) → (b ≡ nought + 1 → ⊥) → is_bit b ≡ false
+no_bit b p q = go (below_or b nought)
+  where
+    go : (b < nought) ⊎ (nought ≤ b) → is_bit b ≡ false
+    go (inl l) = rw (lt-leb nought b l)
+    go (inr l) = rw (le-leb nought b l, lt-leb b (nought + 1) (omega arith))
 
 module _ (l : List ℕ) (i n : ℕ) (s : LoadSet) where
   pub bits_none : length l ≤ i → n ≡ 0 → bits_from n s (drop i l) ≡ Broken
@@ -52,9 +60,17 @@ module _ (l : List ℕ) (i n : ℕ) (s : LoadSet) where
     pub bits-off : {r : LoadSet} → (get_or l i 0 ≡ nought + 1 → ⊥) → r ≡ s → bits_from n s (drop i l) ≡ bits_from (n + 1) r (drop (i + 1) l)
     bits-off e q = turn (rw (ne_eqb _ (nought + 1) e) (sym q))
 
-  pub bits-bad : i < length l → is_bit (get_or l i 0) ≡ false → bits_from n s (drop i l) ≡ Broken
+  pub bits-bad : i < length l → (get_or l i 0 ≡ nought → ⊥) → (get_or l i 0 ≡ nought + 1 → ⊥) → bits_from n s (drop i l) ≡ Broken
   unfolding bits_from every
-  bits-bad h b = rw (drop-cons l i 0, b, and-false (leb 1 (n + suc (length (drop (suc i) l)))))
+  bits-bad h p q = rw (drop-cons l i 0, no_bit (get_or l i 0) p q, and-false (leb 1 (n + suc (length (drop (suc i) l)))))
+
+-- the bits from a place on, none where it lies past the end
+pub bits-after : (s : List ℕ) (start n : ℕ) → n ≡ min start (length s) → take (length s - n) (drop n s) ≡ drop start s
+bits-after s start n e = take_rest s n ∙ go (below_or (length s) start)
+  where
+    go : (length s < start) ⊎ (start ≤ length s) → drop n s ≡ drop start s
+    go (inl l) = let k : length s ≤ n = omega arith in rw (drop_of_length-le s k, drop_of_length-le s {i = start} (omega arith))
+    go (inr l) = let k : n ≡ start = omega arith in rw k
 
 -- ---- which loads the set holds
 step : ℕ → LoadSet → ℕ → LoadSet

@@ -1,31 +1,32 @@
 -- The command that the parts of `read` find in a line is that of the grammar. Assumes nothing.
-use Prim.Native.Nat.{ℕ, zero, suc, ◌+◌, ◌-◌, ◌*◌, ◌/◌, ◌%◌, ◌≤◌, ◌<◌, zero-le}
-use mathlib.Core.Path.{◌≡◌, refl, sym, ap, subst⁻¹, ◌∙◌}
+use Prim.Native.Nat.{ℕ, zero, suc, ◌+◌, ◌-◌, ◌≤◌, ◌<◌, max}
+use mathlib.Core.Path.{◌≡◌, refl, sym, ap, ◌∙◌}
 use mathlib.Core.Bool.{Bool, true, false, ◌&&◌}
 use mathlib.Core.List.{List, [], ◌∷◌, map}
 use mathlib.Core.Logic.{◌⊎◌, inl, inr}
 use native.Mathlib.Nat.{le_trans, le_of_suc-le-suc}
 use native.Mathlib.Numerals.{add-one}
 use native.Mathlib.Omega.{arith}
-use borrow.Author.Tests.{lt-ltb, le-ltb, le-leb, lt-leb, leb-true, leb-false, ltb-true, ltb-false, eqb-true, ne_eqb}
-use lib.Dec.{eqb, leb, ltb, lit<, leb-suc-suc}
-use lib.ListN.{length, get_or, take, drop, length-map, length-take, drop_of_length-le}
+use borrow.Author.Tests.{lt-ltb, le-ltb, leb-true, leb-false, eqb-true, ne_eqb}
+use lib.Dec.{eqb, leb, ltb, leb-suc-suc}
+use lib.ListN.{length, get_or, take, drop, length-map, drop_of_length-le}
+use Rattle.std.proofs.Common.{Option, Some, None}
+use Rattle.std.specs.Str.{bytes_eq}
 use Rattle.lists.specs.Tests.{pick, every}
 use Rattle.lists.specs.Arrays.{laid}
 use Rattle.lists.proofs.Bools.{and_left, and_right, and-false, below_or}
 use Rattle.lines.specs.declared.Command.{Command}
 use Rattle.lines.specs.declared.Command.TheVariants.{Broken, Check}
-use Rattle.lines.specs.declared.reading.Word.{Word}
+use Rattle.lines.specs.declared.reading.Numbers.{Numbers}
 use Rattle.lines.specs.Text.{comma, same, first_at, before}
 use Rattle.lines.specs.Grammar.{on_first, fields, is_number, value_from, value, is_bit, is_bits, loads_of, Form, numbers, bits, table, find_form, parse, meant}
-use Rattle.lines.specs.Reading.{code_from, code, most_letters, word_of, fields_after, most_numbers, numbers_in, bits_of, row_code, rows, or_more, most_from, most_after, place_of, command_at, with_numbers}
-use Rattle.lines.proofs.Before.{before-most}
+use Rattle.lines.specs.Reading.{fields_after, most_numbers, numbers_in, bits_of, most_from, most_after, row_command}
+use Rattle.lines.proofs.Same.{same-is, same_refl, not_same, same_bytes}
 use Rattle.lines.proofs.Fields.{Cons, cons, fields-cons}
-use Rattle.lines.proofs.Codes.{Bytes, bytes_take, code-word, not_same, same_code}
-use Rattle.lines.proofs.Rows.{check, is_letter, Row, Kept, kept, most-least, most-few, none-numbers}
+use Rattle.lines.proofs.Rows.{check, Kept, kept, most-least, most-few}
 
 -- ---- a line: its word, and the fields after it
-abbrev word_in : List ℕ → List ℕ
+abbrev pub word_in : List ℕ → List ℕ
 word_in s = take (before comma s) s
 
 word_split : (s : List ℕ) → fields s ≡ word_in s ∷ fields_after (before comma s) s
@@ -39,30 +40,6 @@ word_split (b ∷ bs) = go (eqb b comma) (word_split bs)
         ∷ pick (ltb (pick t 0 (suc (before comma bs))) (suc (length bs))) (fields (drop (pick t 0 (suc (before comma bs)) + 1) (b ∷ bs))) []
     go true ih = rw (lt-ltb 0 (suc (length bs)) (omega arith))
     go false ih = rw (ih, add-one (suc (before comma bs)), add-one (before comma bs), leb-suc-suc (suc (before comma bs)) (length bs))
-
--- ---- the number of a word, 0 where it has too many letters
-abbrev short_code : List ℕ → ℕ
-short_code w = pick (leb (length w) most_letters) (code w) 0
-
-long-word : (v w : List ℕ) → length v < length w → same v w ≡ false
-long-word v w h = not_same v w (λ e. absurd (omega (arith, ap length e)))
-
-code-positive : (n : ℕ) (w : List ℕ) → 0 < n → 0 < code_from n w
-code-positive n [] h = h
-code-positive n (b ∷ w) h = code-positive (n * 256 + b) w (omega arith)
-
-same-short : (v w : List ℕ) → Bytes v → Bytes w → length v ≤ most_letters → same v w ≡ eqb (short_code w) (code v)
-same-short v w p q h = go (below_or most_letters (length w))
-  where
-    go : (most_letters < length w) ⊎ (length w ≤ most_letters) → same v w ≡ eqb (short_code w) (code v)
-    go (inl l) = rw (lt-leb (length w) most_letters l, long-word v w (omega arith)) (sym (ne_eqb 0 (code v) (λ e. absurd (omega (arith, code-positive 1 v (lit< tt))))))
-    go (inr l) = rw (le-leb (length w) most_letters l) (same_code v w p q)
-
-letters-bytes : (w : List ℕ) → every is_letter w ≡ true → Bytes w
-unfolding every
-letters-bytes [] h = tt
-letters-bytes (x ∷ w) h =
-    (ltb-true x 256 (and_right (ltb comma x) (ltb x 256) (and_left (is_letter x) (every is_letter w) h)), letters-bytes w (and_right (is_letter x) (every is_letter w) h))
 
 -- fields that are no numbers, or more of them than m, are not as many numbers as n, which is no more
 not-fitting : (a : Bool) (k n m : ℕ) → n ≤ m → a && leb k m ≡ false → eqb k n && a ≡ false
@@ -98,60 +75,48 @@ find-meant w o fs h (numbers v n f ∷ xs) q = rw (h, length-map fs value, find-
     go false y = refl
 find-meant w o fs h (bits v f ∷ xs) q = rw (q.0, o) (find-meant w o fs h xs q.1)
 
-module _ (w : List ℕ) (b : Bytes w) (other : same check w ≡ false) where
-  -- the word of a row is this one exactly if the row's number says so
-  row_word : (v : List ℕ) (n : ℕ) → Row v n → same v w ≡ eqb (short_code w) (row_code v n / 256)
-  row_word v n r =
-      let e : row_code v n / 256 ≡ code v = omega (arith, r.count) in
-      rw e (same-short v w (letters-bytes v r.letters) b r.few)
+-- what the numbers after a word ask for, if they are numbers in form
+abbrev pub given : (word : List ℕ) → Option Numbers → Command
+given w None = Broken
+given w (Some n) = row_command table w n
 
-  -- the row is found by its number, and it sees no more of the numbers than there are
-  meant-row : (ns : List ℕ) → length ns ≤ most_numbers → (xs : List Form) → Kept xs → meant xs w ns ≡ command_at xs (place_of (short_code w) (length ns) (rows xs)) (laid 0 most_numbers ns)
-  unfolding meant first_at
-  meant-row ns few [] q = refl
-  meant-row ns few (numbers v n f ∷ xs) q =
-      let e : row_code v n % 256 ≡ n = omega (arith, q.0.count) in
-      rw (row_word v n q.0, e) (go (eqb (short_code w) (row_code v n / 256) && eqb (length ns) n) (meant-row ns few xs q.1))
-    where
-      go : (t : Bool) → meant xs w ns ≡ command_at xs (place_of (short_code w) (length ns) (rows xs)) (laid 0 most_numbers ns)
-          → pick t (f (λ k. get_or ns (k - 1) 0)) (meant xs w ns) ≡ command_at (numbers v n f ∷ xs) (pick t 0 (suc (place_of (short_code w) (length ns) (rows xs)))) (laid 0 most_numbers ns)
-      go true ih = simp (laid-at 0 most_numbers ns few)
-      go false ih = ih
-  meant-row ns few (bits v f ∷ xs) q = meant-row ns few xs q.1
+module _ (w : List ℕ) (other : same check w ≡ false) where
+  -- the row sees no more of the numbers than there are
+  meant-row : (ns : List ℕ) → length ns ≤ most_numbers → (xs : List Form) → meant xs w ns ≡ row_command xs w (record { count = length ns; values = laid 0 most_numbers ns })
+  unfolding meant row_command
+  meant-row ns few [] = refl
+  meant-row ns few (numbers v n f ∷ xs) = rw (meant-row ns few xs) (simp (laid-at 0 most_numbers ns few))
+  meant-row ns few (bits v f ∷ xs) = meant-row ns few xs
 
   -- fields that are no numbers, or more of them than any row of the word has
-  find-broken : (fs : List (List ℕ)) (xs : List Form) → Kept xs → (k : ℕ) → every is_number fs && leb (length fs) (most_from k (short_code w) (rows xs)) ≡ false → find_form xs w fs ≡ Broken
+  find-broken : (fs : List (List ℕ)) (xs : List Form) → Kept xs → (k : ℕ) → every is_number fs && leb (length fs) (most_from k w xs) ≡ false → find_form xs w fs ≡ Broken
   unfolding find_form most_from
   find-broken fs [] q k h = refl
-  find-broken fs (numbers v n f ∷ xs) q k h = rw (row_word v n q.0, no (eqb (short_code w) (x / 256)) refl) (find-broken fs xs q.1 next h)
+  find-broken fs (numbers v n f ∷ xs) q k h = rw (no (same v w) refl) (find-broken fs xs q.1 next h)
     where
-      x : ℕ
-      x = row_code v n
-
       next : ℕ
-      next = or_more k (short_code w) x
+      next = pick (same v w) (max n k) k
 
-      reached : (u : Bool) → ltb k (x % 256) ≡ u → eqb (short_code w) (x / 256) ≡ true → n ≤ next
-      reached true d e = rw (d, e) (omega (arith, q.0.count))
-      reached false d e = rw (d, e) (omega (arith, q.0.count, ltb-false k (x % 256) d))
+      reached : same v w ≡ true → n ≤ next
+      reached e = rw e (omega arith)
 
-      no : (t : Bool) → eqb (short_code w) (x / 256) ≡ t → t && eqb (length fs) n && every is_number fs ≡ false
-      no true e = not-fitting (every is_number fs) (length fs) n (most_from next (short_code w) (rows xs)) (le_trans (reached (ltb k (x % 256)) refl e) (most-least next (short_code w) (rows xs))) h
+      no : (t : Bool) → same v w ≡ t → t && eqb (length fs) n && every is_number fs ≡ false
+      no true e = not-fitting (every is_number fs) (length fs) n (most_from next w xs) (le_trans (reached e) (most-least next w xs)) h
       no false e = refl
   find-broken fs (bits v f ∷ xs) q k h = rw (q.0, other) (find-broken fs xs q.1 k h)
 
   -- the command that is found by the rows is that of the grammar
-  with-find : (fs : List (List ℕ)) → with_numbers (short_code w) (numbers_in (most_after (short_code w) (rows table)) fs) ≡ find_form table w fs
-  unfolding with_numbers numbers_in
+  with-find : (fs : List (List ℕ)) → given w (numbers_in (most_after w table) fs) ≡ find_form table w fs
+  unfolding numbers_in
   with-find fs = go (every is_number fs && leb (length fs) m) refl
     where
       m : ℕ
-      m = most_after (short_code w) (rows table)
+      m = most_after w table
 
-      go : (t : Bool) → every is_number fs && leb (length fs) m ≡ t → with_numbers (short_code w) (numbers_in m fs) ≡ find_form table w fs
+      go : (t : Bool) → every is_number fs && leb (length fs) m ≡ t → given w (numbers_in m fs) ≡ find_form table w fs
       go true e =
           let few = leb-true (length fs) m (and_right (every is_number fs) (leb (length fs) m) e) in
-          let row = meant-row (map value fs) (omega (arith, length-map fs value, most-few (short_code w) table kept 0 (omega arith))) table kept in
+          let row = meant-row (map value fs) (omega (arith, length-map fs value, most-few w table kept 0 (omega arith))) table in
           rw e (sym (find-meant w other fs (and_left (every is_number fs) (leb (length fs) m) e) table kept ∙ rw (length-map fs value) at row))
       go false e = rw e (sym (find-broken fs table kept 0 e))
 
@@ -211,70 +176,27 @@ bits-after e s = go (below_or e (length s))
     go (inl l) = rw (lt-ltb e (length s) l) (sym (bits-field (drop (e + 1) s)))
     go (inr l) = rw (le-ltb e (length s) l, drop_of_length-le s {i = e + 1} (omega arith)) empty-bits
 
-module _ (s : List ℕ) (b : Bytes s) where
+module _ (s : List ℕ) where
   parse-find : parse s ≡ find_form table (word_in s) (fields_after (before comma s) s)
   unfolding parse
   parse-find = rw (word_split s)
 
-  length-word : length (word_in s) ≡ before comma s
-  length-word = omega (arith, length-take (before comma s) s, before-most comma s)
-
-  short : before comma s ≤ most_letters → word_of s ≡ record { code = short_code (word_in s); end = before comma s }
-  unfolding word_of
-  short l = rw (length-word, le-leb (before comma s) most_letters l)
-
-  long : most_letters < before comma s → word_of s ≡ record { code = 0; end = 0 }
-  unfolding word_of
-  long l = rw (lt-leb (before comma s) most_letters l)
-
-  coded : (word_of s).code ≡ short_code (word_in s)
-  coded = go (below_or most_letters (before comma s))
-    where
-      go : (most_letters < before comma s) ⊎ (before comma s ≤ most_letters) → (word_of s).code ≡ short_code (word_in s)
-      go (inl l) = rw (long l, lt-leb (length (word_in s)) most_letters (omega (arith, length-word)))
-      go (inr l) = rw (short l)
-
   -- a word that is not the one before bits: the table has it before numbers, or not at all
-  numbers-parse : ((word_of s).code ≡ code check → ⊥) → with_numbers (word_of s).code (numbers_in (most_after (word_of s).code (rows table)) (fields_after (word_of s).end s)) ≡ parse s
-  numbers-parse h = go (below_or most_letters (before comma s))
-    where
-      w : List ℕ
-      w = word_in s
-
-      other : same check w ≡ false
-      other = same-short check w (omega arith) (bytes_take (before comma s) s b) (omega arith) ∙ ne_eqb (short_code w) (code check) (λ q. h (coded ∙ q))
-
-      found : with_numbers (short_code w) (numbers_in (most_after (short_code w) (rows table)) (fields_after (before comma s) s)) ≡ parse s
-      found = with-find w (bytes_take (before comma s) s b) other (fields_after (before comma s) s) ∙ sym parse-find
-
-      go : (most_letters < before comma s) ⊎ (before comma s ≤ most_letters)
-          → with_numbers (word_of s).code (numbers_in (most_after (word_of s).code (rows table)) (fields_after (word_of s).end s)) ≡ parse s
-      go (inl g) = rw (long g) (none-numbers _) ∙ sym (none-numbers _) ∙ rw (sym coded ∙ ap (λ (x : Word). x.code) (long g)) at found
-      go (inr g) = rw (short g) found
+  numbers-parse : same check (word_in s) ≡ false → {o : Option Numbers} → o ≡ numbers_in (most_after (word_in s) table) (fields_after (before comma s) s)
+      → given (word_in s) o ≡ parse s
+  numbers-parse other {o} e = ap (given (word_in s)) e ∙ with-find (word_in s) other (fields_after (before comma s) s) ∙ sym parse-find
 
   -- the word before bits
-  bits-parse : (word_of s).code ≡ code check → bits_of (drop ((word_of s).end + 1) s) ≡ parse s
-  bits-parse h = go (below_or most_letters (before comma s))
-    where
-      go : (most_letters < before comma s) ⊎ (before comma s ≤ most_letters) → bits_of (drop ((word_of s).end + 1) s) ≡ parse s
-      go (inl l) = absurd (omega (arith, ap (λ (x : Word). x.code) (long l)))
-      go (inr l) =
-          let few : length (word_in s) ≤ most_letters = omega (arith, length-word) in
-          let c : code (word_in s) ≡ code check = rw (short l, le-leb (length (word_in s)) most_letters few) at h in
-          let w : word_in s ≡ check = code-word (word_in s) check (bytes_take (before comma s) s b) (omega arith) c in
-          rw (short l) (bits-after (before comma s) s ∙ sym (parse-find ∙ rw w (find-check (fields_after (before comma s) s))))
+  bits-parse : word_in s ≡ check → bits_of (drop (before comma s + 1) s) ≡ parse s
+  bits-parse w = bits-after (before comma s) s ∙ sym (parse-find ∙ rw w (find-check (fields_after (before comma s) s)))
 
-  module _ {r : Word} (e : r ≡ word_of s) where
-    pub read-bits : r.code ≡ code check → bits_of (drop (r.end + 1) s) ≡ parse s
-    read-bits = subst⁻¹ (λ (x : Word). x.code ≡ code check → bits_of (drop (x.end + 1) s) ≡ parse s) e bits-parse
+  -- as the code tests the word that ends at a place
+  module _ {e : ℕ} (ends : e ≡ before comma s) where
+    pub read-bits : bytes_eq (take e s) check ≡ true → bits_of (drop (e + 1) s) ≡ parse s
+    read-bits h = rw ends (bits-parse (rw ends at (same-is (take e s) check (sym (same_bytes (take e s) check) ∙ h))))
 
-    pub read-numbers : (r.code ≡ code check → ⊥) → {m : ℕ} → m ≡ most_after r.code (rows table) → with_numbers r.code (numbers_in m (fields_after r.end s)) ≡ parse s
-    read-numbers h k = rw (k, e) (numbers-parse (rw e at h))
-
-pub word-inside : (s : List ℕ) → (word_of s).end ≤ length s
-unfolding word_of
-word-inside s = go (leb (before comma s) most_letters)
-  where
-    go : (t : Bool) → (pick {A = Word} t (record { code = code (word_in s); end = before comma s }) (record { code = 0; end = 0 })).end ≤ length s
-    go true = before-most comma s
-    go false = zero-le
+    pub read-numbers : bytes_eq (take e s) check ≡ false → {m : ℕ} → m ≡ most_after (take e s) table → {o : Option Numbers} → o ≡ numbers_in m (fields_after e s) → given (take e s) o ≡ parse s
+    read-numbers h {m} k {o} q = rw ends (numbers-parse (rw ends at other) (rw (k, ends) at q))
+      where
+        other : same check (take e s) ≡ false
+        other = not_same check (take e s) (λ w. let z : true ≡ false = sym (same_refl check) ∙ rw (← w) at (sym (same_bytes (take e s) check) ∙ h) in cc)

@@ -1,18 +1,18 @@
 -- The laws of the definitions in specs/, and what the loops of the code compute.
 pub mod Examples
 pub mod Before
-pub mod Words
 pub mod Decimal
 pub mod Fields
 pub mod Numbers
 pub mod Bits
-pub mod Codes
+pub mod Same
 pub mod Rows
 pub mod Commands
 pub mod Sizes
 pub mod Padding
 pub mod Answers
 pub mod Wrote
+pub mod Writes
 pub mod Saves
 pub mod Taking
 pub mod Without

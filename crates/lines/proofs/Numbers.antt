@@ -10,6 +10,7 @@ use borrow.Author.Tests.{le-leb, lt-leb, lt-ltb, le-ltb, ltb-true, ltb-false}
 use lib.Dec.{leb, ltb, lit<}
 use lib.ListN.{length, set, drop, get_or, replicate}
 use lib.Seq.{append_snoc}
+use Rattle.std.proofs.Common.{Option, None}
 use Rattle.lists.specs.Tests.{pick, every}
 use Rattle.lists.specs.Arrays.{laid}
 use Rattle.lists.proofs.Bools.{and_left, and_right, and-false}
@@ -17,7 +18,7 @@ use Rattle.lists.proofs.Arrays.{laid-snoc, length-snoc}
 use Rattle.lines.specs.declared.reading.Numbers.{Numbers}
 use Rattle.lines.specs.Text.{comma, nought}
 use Rattle.lines.specs.Grammar.{on_first, fields, most_digits, is_digit, is_number, value_from, value}
-use Rattle.lines.specs.Reading.{fields_after, most_numbers, may_follow, no_numbers, some_numbers, numbers_in}
+use Rattle.lines.specs.Reading.{fields_after, most_numbers, may_follow, some_numbers, numbers_in}
 use Rattle.lines.proofs.Decimal.{digit-range}
 use Rattle.lines.proofs.Fields.{Cons, cons, fields-cons, fields-end, fields-comma, fields-byte}
 
@@ -61,20 +62,20 @@ unfolding is_number
 good-number f = good-on 0 f (omega arith) ∙ rw zero-add
 
 -- ---- what the fields from one on give, n numbers of at most m being read, and of this field d digits with the value v
-pub collect : (m n : ℕ) → List ℕ → ℕ → ℕ → List (List ℕ) → Numbers
-collect m n vs d v [] = no_numbers
-collect m n vs d v (f ∷ []) = pick (good d f && ltb n m) (some_numbers (n + 1) (set vs n (value_from v f))) no_numbers
-collect m n vs d v (f ∷ g ∷ fs) = pick (good d f && ltb n m) (collect m (n + 1) (set vs n (value_from v f)) 0 0 (g ∷ fs)) no_numbers
+pub collect : (m n : ℕ) → List ℕ → ℕ → ℕ → List (List ℕ) → Option Numbers
+collect m n vs d v [] = None
+collect m n vs d v (f ∷ []) = pick (good d f && ltb n m) (some_numbers (n + 1) (set vs n (value_from v f))) None
+collect m n vs d v (f ∷ g ∷ fs) = pick (good d f && ltb n m) (collect m (n + 1) (set vs n (value_from v f)) 0 0 (g ∷ fs)) None
 
 -- a field ends, and others follow
 collect-more : (m n : ℕ) (vs : List ℕ) (d v : ℕ) (f : List ℕ) (fs : List (List ℕ)) → Cons fs
-    → collect m n vs d v (f ∷ fs) ≡ pick (good d f && ltb n m) (collect m (n + 1) (set vs n (value_from v f)) 0 0 fs) no_numbers
+    → collect m n vs d v (f ∷ fs) ≡ pick (good d f && ltb n m) (collect m (n + 1) (set vs n (value_from v f)) 0 0 fs) None
 unfolding collect
 collect-more m n vs d v f fs (cons g gs) = refl
 
 -- a byte of a field
 collect-byte : (m n : ℕ) (vs : List ℕ) (d v b : ℕ) (u : Bool) → may_follow d b ≡ u → (fs : List (List ℕ)) → Cons fs
-    → collect m n vs d v (on_first b fs) ≡ pick u (collect m n vs (d + 1) (v * 10 + (b - nought)) fs) no_numbers
+    → collect m n vs d v (on_first b fs) ≡ pick u (collect m n vs (d + 1) (v * 10 + (b - nought)) fs) None
 unfolding collect good value_from
 collect-byte m n vs d v b true e fs (cons f []) = rw e
 collect-byte m n vs d v b true e fs (cons f (g ∷ gs)) = rw e
@@ -82,25 +83,25 @@ collect-byte m n vs d v b false e fs (cons f []) = rw e
 collect-byte m n vs d v b false e fs (cons f (g ∷ gs)) = rw e
 
 -- what a line gives from the end of its word or of a number on: no more numbers, or a comma and more of them
-pub after : (m : ℕ) → List ℕ → ℕ → ℕ → List ℕ → Numbers
+pub after : (m : ℕ) → List ℕ → ℕ → ℕ → List ℕ → Option Numbers
 after m s i n vs = pick (ltb i (length s)) (collect m n vs 0 0 (fields (drop (i + 1) s))) (some_numbers n vs)
 
 -- ---- one turn
 module _ (m : ℕ) (s : List ℕ) (i n : ℕ) (vs : List ℕ) (d v : ℕ) where
-  abbrev pub from : Numbers
+  abbrev pub from : Option Numbers
   from = collect m n vs d v (fields (drop i s))
 
   module _ (h : i < length s) (k : get_or s i 0 ≡ comma → ⊥) where
-    turn : (u : Bool) → may_follow d (get_or s i 0) ≡ u → from ≡ pick u (collect m n vs (d + 1) (v * 10 + (get_or s i 0 - nought)) (fields (drop (i + 1) s))) no_numbers
+    turn : (u : Bool) → may_follow d (get_or s i 0) ≡ u → from ≡ pick u (collect m n vs (d + 1) (v * 10 + (get_or s i 0 - nought)) (fields (drop (i + 1) s))) None
     turn u e = ap (collect m n vs d v) (fields-byte s i h k) ∙ collect-byte m n vs d v (get_or s i 0) u e (fields (drop (i + 1) s)) (fields-cons (drop (i + 1) s))
 
     pub digit : may_follow d (get_or s i 0) ≡ true → from ≡ collect m n vs (d + 1) (v * 10 + (get_or s i 0 - nought)) (fields (drop (i + 1) s))
     digit e = turn true e
 
-    pub bad : may_follow d (get_or s i 0) ≡ false → from ≡ no_numbers
+    pub bad : may_follow d (get_or s i 0) ≡ false → from ≡ None
     bad e = turn false e
 
-  ended : i < length s → get_or s i 0 ≡ comma → from ≡ pick (ltb 0 d && ltb n m) (collect m (n + 1) (set vs n v) 0 0 (fields (drop (i + 1) s))) no_numbers
+  ended : i < length s → get_or s i 0 ≡ comma → from ≡ pick (ltb 0 d && ltb n m) (collect m (n + 1) (set vs n v) 0 0 (fields (drop (i + 1) s))) None
   unfolding good value_from
   ended h k = ap (collect m n vs d v) (fields-comma s i h k) ∙ collect-more m n vs d v [] (fields (drop (i + 1) s)) (fields-cons (drop (i + 1) s))
 
@@ -114,15 +115,15 @@ module _ (m : ℕ) (s : List ℕ) (i n : ℕ) (vs : List ℕ) (d v : ℕ) where
   ends-line h p l = ap (collect m n vs d v) (fields-end s i h) ∙ rw (lt-ltb 0 d (omega arith), lt-ltb n m l, le-ltb i (length s) h)
 
   -- one with none breaks the form
-  pub none-comma : i < length s → get_or s i 0 ≡ comma → d ≡ 0 → from ≡ no_numbers
+  pub none-comma : i < length s → get_or s i 0 ≡ comma → d ≡ 0 → from ≡ None
   none-comma h k p = ended h k ∙ rw p
 
-  pub none-line : length s ≤ i → d ≡ 0 → from ≡ no_numbers
+  pub none-line : length s ≤ i → d ≡ 0 → from ≡ None
   unfolding collect good
   none-line h p = ap (collect m n vs d v) (fields-end s i h) ∙ rw p
 
 -- so does a number too many
-full : (m n : ℕ) (vs : List ℕ) → m ≤ n → (fs : List (List ℕ)) → collect m n vs 0 0 fs ≡ no_numbers
+full : (m n : ℕ) (vs : List ℕ) → m ≤ n → (fs : List (List ℕ)) → collect m n vs 0 0 fs ≡ None
 unfolding collect
 full m n vs h [] = refl
 full m n vs h (f ∷ []) = rw (le-ltb n m h, and-false (good 0 f))
@@ -137,7 +138,7 @@ module _ (m : ℕ) (s : List ℕ) (i n : ℕ) (vs : List ℕ) where
   unfolding after
   at-comma h = rw (lt-ltb i (length s) h)
 
-  pub too_many : i < length s → m ≤ n → after m s i n vs ≡ no_numbers
+  pub too_many : i < length s → m ≤ n → after m s i n vs ≡ None
   too_many h l = at-comma h ∙ full m n vs l (fields (drop (i + 1) s))
 
 -- ---- what a digit is, and the number that it makes
@@ -157,8 +158,8 @@ is-digit d v b h m =
     record { low = r.0; high = r.1; few = few; small = omega (arith, r.1); fits = omega (arith, r.1) }
 
 -- ---- the numbers of all the fields, laid out after those read
-abbrev told : (m : ℕ) → List ℕ → List (List ℕ) → Numbers
-told m xs fs = pick (every is_number fs && leb (length xs + length fs) m) (some_numbers (length xs + length fs) (laid 0 most_numbers (xs ++ map value fs))) no_numbers
+abbrev told : (m : ℕ) → List ℕ → List (List ℕ) → Option Numbers
+told m xs fs = pick (every is_number fs && leb (length xs + length fs) m) (some_numbers (length xs + length fs) (laid 0 most_numbers (xs ++ map value fs))) None
 
 told_more : (m : ℕ) (xs : List ℕ) (f : List ℕ) (fs : List (List ℕ)) → is_number f ≡ true → told m (xs ++ (value f ∷ [])) fs ≡ told m xs (f ∷ fs)
 unfolding every
@@ -167,11 +168,11 @@ told_more m xs f fs h =
     rw (h, n, append_snoc xs (value f) (map value fs))
 
 -- no number in form, or one too many
-told-broken : (m : ℕ) (xs : List ℕ) (f : List ℕ) (fs : List (List ℕ)) → is_number f ≡ false → told m xs (f ∷ fs) ≡ no_numbers
+told-broken : (m : ℕ) (xs : List ℕ) (f : List ℕ) (fs : List (List ℕ)) → is_number f ≡ false → told m xs (f ∷ fs) ≡ None
 unfolding every
 told-broken m xs f fs h = rw h
 
-told-full : (m : ℕ) (xs : List ℕ) (f : List ℕ) (fs : List (List ℕ)) → m ≤ length xs → told m xs (f ∷ fs) ≡ no_numbers
+told-full : (m : ℕ) (xs : List ℕ) (f : List ℕ) (fs : List (List ℕ)) → m ≤ length xs → told m xs (f ∷ fs) ≡ None
 told-full m xs f fs h = rw (lt-leb (length xs + suc (length fs)) m (omega arith), and-false (every is_number (f ∷ fs)))
 
 told-last : (m : ℕ) (xs : List ℕ) → length xs ≤ m → told m xs [] ≡ some_numbers (length xs) (laid 0 most_numbers xs)
@@ -185,7 +186,7 @@ unfolding collect
 collect-told m l [] f xs = rw (good-number f) (go (is_number f) refl (ltb (length xs) m) refl)
   where
     go : (a : Bool) → is_number f ≡ a → (t : Bool) → ltb (length xs) m ≡ t
-        → pick (a && t) (some_numbers (length xs + 1) (set (laid 0 most_numbers xs) (length xs) (value f))) no_numbers ≡ told m xs (f ∷ [])
+        → pick (a && t) (some_numbers (length xs + 1) (set (laid 0 most_numbers xs) (length xs) (value f))) None ≡ told m xs (f ∷ [])
     go false e t h = sym (told-broken m xs f [] e)
     go true e false h = sym (told-full m xs f [] (ltb-false (length xs) m h))
     go true e true h =
@@ -196,7 +197,7 @@ collect-told m l (g ∷ fs) f xs = rw (good-number f) (go (is_number f) refl (lt
   where
     go : (a : Bool) → is_number f ≡ a → (t : Bool) → ltb (length xs) m ≡ t
         → collect m (length (xs ++ (value f ∷ []))) (laid 0 most_numbers (xs ++ (value f ∷ []))) 0 0 (g ∷ fs) ≡ told m (xs ++ (value f ∷ [])) (g ∷ fs)
-        → pick (a && t) (collect m (length xs + 1) (set (laid 0 most_numbers xs) (length xs) (value f)) 0 0 (g ∷ fs)) no_numbers ≡ told m xs (f ∷ g ∷ fs)
+        → pick (a && t) (collect m (length xs + 1) (set (laid 0 most_numbers xs) (length xs) (value f)) 0 0 (g ∷ fs)) None ≡ told m xs (f ∷ g ∷ fs)
     go false e t h ih = sym (told-broken m xs f (g ∷ fs) e)
     go true e false h ih = sym (told-full m xs f (g ∷ fs) (ltb-false (length xs) m h))
     go true e true h ih =

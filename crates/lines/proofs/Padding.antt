@@ -20,7 +20,7 @@ use Rattle.lines.specs.Length.{most_bytes, too_long}
 use Rattle.lines.specs.Grammar.{fields, most_digits, is_digit, is_number, value_from, value, Form, numbers, bits, table, find_form, command, parse}
 use Rattle.lines.specs.Padding.{unpadded, SameField, equal, padded, first_word, later_fields, OnlyZeros, KindWritten, SameLine, identical, zeros, kind_written, kind_left_out}
 use Rattle.lines.proofs.Fields.{Cons, cons, fields-cons}
-use Rattle.lines.proofs.Codes.{not_same}
+use Rattle.lines.proofs.Same.{not_same}
 use Rattle.lines.proofs.Rows.{check, Kept, kept}
 use Rattle.lines.proofs.Sizes.{number-few}
 use Rattle.lines.proofs.Decimal.{decimal-one, decimal-value, decimal-digits, decimal-some, digit-range, decimal-on}

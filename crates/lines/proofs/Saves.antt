@@ -1,13 +1,14 @@
 -- Lines of changes as they are written: a number more, a change more, and a save part by part. Assumes nothing.
-use Prim.Native.Nat.{ℕ, zero, suc, ◌+◌, ◌≤◌, ◌<◌}
-use mathlib.Core.Path.{◌≡◌, refl, sym, ap, ap₂, subst, ◌∙◌}
+use Prim.Native.Nat.{ℕ, zero, suc, ◌+◌, ◌<◌}
+use mathlib.Core.Path.{◌≡◌, refl, sym, ap, ap₂, ◌∙◌}
 use mathlib.Core.Bool.{Bool, true, false}
 use mathlib.Core.List.{List, [], ◌∷◌, ◌++◌, map, map-append, append-nil, append_assoc}
 use native.Mathlib.Numerals.{add-one}
+use native.Mathlib.Omega.{arith}
 use borrow.Author.Tests.{eq-eqb, ne_eqb}
-use lib.Dec.{eqb, lit≤}
+use lib.Dec.{eqb}
 use lib.ListN.{length, take, get_or}
-use lib.Seq.{take-suc}
+use lib.Seq.{take-suc, take_all}
 use Rattle.lists.specs.Tests.{pick}
 use Rattle.marks.specs.declared.Marks.{Marks}
 use Rattle.marks.specs.Bits.{has_mark}
@@ -20,12 +21,13 @@ use Rattle.lines.specs.declared.SaveForm.{SaveForm}
 use Rattle.lines.specs.declared.SaveForm.TheVariants.{Kinds, Plain}
 use Rattle.lines.specs.declared.Change.{Change}
 use Rattle.lines.specs.declared.Change.TheVariants.{Clear, Book, Budget}
-use Rattle.lines.specs.Text.{comma, line_feed, decimal}
+use Rattle.lines.specs.Text.{comma, decimal}
 use Rattle.lines.specs.Grammar.{kind_field, number_count, line_of}
-use Rattle.lines.specs.Reading.{most_numbers}
 use Rattle.lines.specs.Written.{parted, line, change_line}
-use Rattle.lines.specs.Answers.{Wrote}
+use Rattle.lines.specs.declared.writing.Writer.{Writer}
+use Rattle.lines.specs.Writing.{HasRoom, Writes}
 use Rattle.lines.specs.Saved.{mark_change, mark_if_set, mark_changes, rule_change, load_change, size_change, book_changes, saved, changes_text, save_text}
+use Rattle.lines.proofs.Writes.{turn_room, turn_more}
 
 -- ---- a line with one number more
 parted-snoc : (fs : List (List ℕ)) (w f : List ℕ) → parted w (fs ++ (f ∷ [])) ≡ parted w fs ++ (comma ∷ f)
@@ -42,30 +44,10 @@ line_word w (n ∷ ns) = refl
 pub line-next : (w v : List ℕ) (i : ℕ) → i < length v → line w (take (i + 1) v) ≡ line w (take i v) ++ (comma ∷ decimal (get_or v i 0))
 line-next w v i h = rw (add-one i, take-suc v i 0 h, map-append) (parted-snoc (map decimal (take i v)) w (decimal (get_or v i 0)))
 
--- ---- the numbers of the line of a load and of a load rule
-module _ (f : SaveForm) (w : List ℕ) (a b c k : ℕ) {m : ℕ} (e : m ≡ number_count f) where
-  few : (f : SaveForm) → number_count f ≤ most_numbers
-  few Kinds = lit≤ tt
-  few Plain = lit≤ tt
-
-  first : (f : SaveForm) → take (number_count f) (a ∷ b ∷ c ∷ k ∷ []) ≡ a ∷ b ∷ c ∷ kind_field f k
-  first Kinds = refl
-  first Plain = refl
-
-  -- so many of all numbers are those of the form
-  taken : take m (a ∷ b ∷ c ∷ k ∷ []) ≡ a ∷ b ∷ c ∷ kind_field f k
-  taken = ap (λ (x : ℕ). take x (a ∷ b ∷ c ∷ k ∷ [])) e ∙ first f
-
-  pub kind-room : (at n : ℕ) → at + length (line w (a ∷ b ∷ c ∷ kind_field f k) ++ (line_feed ∷ [])) ≤ n
-      → (m ≤ most_numbers) × (at + length (line w (take m (a ∷ b ∷ c ∷ k ∷ [])) ++ (line_feed ∷ [])) ≤ n)
-  kind-room at n h = (
-    subst (λ (x : ℕ). x ≤ most_numbers) (sym e) (few f),
-    subst (λ (ns : List ℕ). at + length (line w ns ++ (line_feed ∷ [])) ≤ n) (sym taken) h,
-  )
-
-  pub kind-wrote : {before after : List ℕ} {at next : ℕ} → Wrote before after at next (line w (take m (a ∷ b ∷ c ∷ k ∷ [])) ++ (line_feed ∷ []))
-      → Wrote before after at next (line w (a ∷ b ∷ c ∷ kind_field f k) ++ (line_feed ∷ []))
-  kind-wrote {before} {after} {at} {next} h = subst (λ (ns : List ℕ). Wrote before after at next (line w ns ++ (line_feed ∷ []))) taken h
+-- so many of all numbers of a load or of a load rule are those of the form
+pub kind_taken : (f : SaveForm) (a b c k : ℕ) {m : ℕ} → m ≡ number_count f → take m (a ∷ b ∷ c ∷ k ∷ []) ≡ a ∷ b ∷ c ∷ kind_field f k
+kind_taken Kinds a b c k e = rw e refl
+kind_taken Plain a b c k e = rw e refl
 
 -- ---- the text of changes
 module _ (f : SaveForm) where
@@ -100,6 +82,23 @@ module _ (f : SaveForm) where
   each_next h d xs i l =
       rw (add-one i, take-suc xs i d l, map-append)
       (text-append (map h (take i xs)) (h (get_or xs i d) ∷ []) ∙ ap (λ (t : List ℕ). changes_text f (map h (take i xs)) ++ t) (text-one (h (get_or xs i d))))
+
+  -- a line each of a list, as a loop writes them
+  module _ {A : Type 0} (h : A → Change) (d : A) (xs : List A) (i : ℕ) (less : i < length xs) where
+    abbrev begun : ℕ → List ℕ
+    begun i = changes_text f (map h (take i xs))
+
+    abbrev part : ℕ → List ℕ
+    part i = change_line f (h (get_or xs i d))
+
+    whole : take (length xs) xs ≡ xs
+    whole = take_all (length xs) xs (omega arith)
+
+    pub each_room : {v w : Writer} → Writes v w (begun i) → HasRoom v (changes_text f (map h xs)) → HasRoom w (part i)
+    each_room q room = turn_room begun part (length xs) (each_next h d xs) i less q (rw whole room)
+
+    pub each_more : {u v w : Writer} → Writes u v (begun i) → Writes v w (part i) → Writes u w (begun (i + 1))
+    each_more q r = turn_more begun part (length xs) (each_next h d xs) i less q r
 
   -- one number more that may be marked
   pub mark-next : (k : Sort) (m : Marks) (i : ℕ) → changes_text f (mark_changes k m (i + 1)) ≡ changes_text f (mark_changes k m i) ++ changes_text f (mark_if_set k m (i + 1))
@@ -141,15 +140,15 @@ marks-same f k m (suc n) =
 -- ---- the parts of a save
 pub book-text : (f : SaveForm) (b : StoredBook) → changes_text f (book_changes (book_of b))
     ≡ changes_text Kinds (size_change b.states b.stages)
-    ++ changes_text Kinds (mark_changes sort.Load b.starts b.states)
-    ++ changes_text Kinds (mark_changes sort.Row b.ends b.stages)
-    ++ changes_text f (map (rule_change sort.Load) (rules_of b.load_rules))
-    ++ changes_text f (map (rule_change sort.Row) (rules_of b.row_rules))
+    ++ (changes_text Kinds (mark_changes sort.Load b.starts b.states)
+    ++ (changes_text Kinds (mark_changes sort.Row b.ends b.stages)
+    ++ (changes_text f (map (rule_change sort.Load) (rules_of b.load_rules))
+    ++ changes_text f (map (rule_change sort.Row) (rules_of b.row_rules)))))
 unfolding book_changes book_of
 book-text f b =
-    simp (text-append f) (rw (size_same f b.states b.stages, marks-same f sort.Load b.starts b.states, marks-same f sort.Row b.ends b.stages))
+    simp (text-append f, append_assoc) (rw (size_same f b.states b.stages, marks-same f sort.Load b.starts b.states, marks-same f sort.Row b.ends b.stages))
 
 pub save-text : (f : SaveForm) (s : StoredTables) → save_text f (tables_of s)
-    ≡ change_line f Clear ++ changes_text f (book_changes (book_of s.book)) ++ changes_text f (map load_change (loads_of s.loads)) ++ change_line f (Budget s.budget)
+    ≡ change_line f Clear ++ (changes_text f (book_changes (book_of s.book)) ++ (changes_text f (map load_change (loads_of s.loads)) ++ change_line f (Budget s.budget)))
 unfolding saved tables_of
-save-text f s = simp (text-append f, text-one f)
+save-text f s = simp (text-append f, text-one f, append_assoc)

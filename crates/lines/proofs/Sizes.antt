@@ -18,10 +18,10 @@ use Rattle.lines.specs.declared.Command.TheVariants.{Change, Plan, Check, Save, 
 use Rattle.lines.specs.Text.{comma, same}
 use Rattle.lines.specs.Length.{most_bytes, too_long}
 use Rattle.lines.specs.Grammar.{on_first, fields, most_digits, is_digit, is_number, is_bits, loads_of, Form, numbers, bits, table, find_form, command, parse}
-use Rattle.lines.specs.Reading.{most_letters, most_numbers}
+use Rattle.lines.specs.Reading.{most_numbers}
 use Rattle.lines.proofs.Fields.{Cons, cons, fields-cons}
-use Rattle.lines.proofs.Codes.{same-is}
-use Rattle.lines.proofs.Rows.{check, Kept, kept}
+use Rattle.lines.proofs.Same.{same-is}
+use Rattle.lines.proofs.Rows.{check, most_letters, Kept, kept}
 
 -- ---- the bytes of a line are those of its fields, with a comma between them
 total : List (List ℕ) → ℕ

@@ -19,7 +19,7 @@ use Rattle.lines.specs.declared.Command.TheVariants.{Change, Check, Broken}
 use Rattle.lines.specs.Text.{comma, nought, same, decimal}
 use Rattle.lines.specs.Grammar.{fields, is_number, value, is_bit, is_bits, loads_of, Form, numbers, bits, table, find_form, parse, meant, told, line_of}
 use Rattle.lines.specs.Written.{parted, line, Short, written, bits_in, written_check}
-use Rattle.lines.proofs.Codes.{same-is, same_refl}
+use Rattle.lines.proofs.Same.{same-is, same_refl}
 use Rattle.lines.proofs.Decimal.{decimal-digits, decimal-form, decimal-value}
 use Rattle.lines.proofs.Without.{Without, none, byte, without-digits, fields-first, fields-last}
 use Rattle.lines.proofs.Rows.{check, is_letter, Row, Kept, kept}

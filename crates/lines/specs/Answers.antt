@@ -1,11 +1,12 @@
 -- What is printed: paper 01, "An accepted change prints `ok`" and what follows. Assumes nothing.
-use Rattle.std.specs.Prelude.{ℕ, zero, suc, ◌+◌, ◌≤◌, ◌<◌, ◌≡◌, List, [], ◌∷◌, ◌++◌, length}
+use Rattle.std.specs.Prelude.{ℕ, zero, suc, ◌+◌, ◌≤◌, ◌<◌, ◌≡◌, List, [], ◌∷◌, ◌++◌, length, Result, Ok, Err}
 use Rattle.std.proofs.lemmas.List.Edits.{sets}
 use Rattle.lists.specs.Each.{Each}
 use Rattle.tables.specs.declared.entry.Entry.{Entry}
 use Rattle.tables.specs.Limits.{max_states, max_rules}
+pub use Rattle.tables.specs.Refusals.{numbered}
 use Rattle.lines.specs.declared.answer.Answer.{Answer}
-use Rattle.lines.specs.declared.answer.Answer.TheVariants.{Accepted, Planned, Allowed, Saved, Needed, Refused}
+use Rattle.lines.specs.declared.answer.Answer.TheVariants.{Accepted, Planned, Allowed, Saved, Needed}
 use Rattle.lines.specs.declared.Change.{Change}
 use Rattle.lines.specs.Text.{bytes, comma, line_feed, field}
 use Rattle.lines.specs.Saved.{changes_text}
@@ -38,28 +39,28 @@ unfoldable pub entry_lines : List Entry → List ℕ
 entry_lines [] = []
 entry_lines (e ∷ es) = entry_line e ++ entry_lines es
 
--- ---- an answer: for each of its cases the paper's number and text. "A call on a line returns its number, 0 if accepted"
-abbrev pub number_of : Answer → ℕ
-number_of Accepted = 0
-number_of (Planned v w n) = 0
-number_of Allowed = 0
-number_of (Saved f) = 0
-number_of (Needed b) = 0
-number_of (Refused n) = n
+-- ---- what a line is answered, or the number that refuses it: for each case the paper's number and text. "A call on a line returns its number, 0 if
+-- accepted"
+abbrev pub number_of : {A : Type 0} → Result A ℕ → ℕ
+number_of (Ok a) = 0
+number_of (Err n) = n
 
--- its text: with the lines of the run beside it, or of the changes that a save writes
-abbrev pub text_of : Answer → List Entry → List Change → List ℕ
-text_of Accepted es cs = ok
-text_of (Planned v w n) es cs = plan_line v w n ++ entry_lines es
-text_of Allowed es cs = yes ++ entry_lines es
-text_of (Saved f) es cs = changes_text f cs
-text_of (Needed b) es cs = need_line b
-text_of (Refused n) es cs = refused n
+-- the text of an answer: with the lines of the run beside it, or of the changes that a save writes
+abbrev pub answer_text : Answer → List Entry → List Change → List ℕ
+answer_text Accepted es cs = ok
+answer_text (Planned v w n) es cs = plan_line v w n ++ entry_lines es
+answer_text Allowed es cs = yes ++ entry_lines es
+answer_text (Saved f) es cs = changes_text f cs
+answer_text (Needed b) es cs = need_line b
+
+abbrev pub text_of : Result Answer ℕ → List Entry → List Change → List ℕ
+text_of (Ok a) es cs = answer_text a es cs
+text_of (Err n) es cs = refused n
 
 -- the answer of a change with this number
-abbrev pub answer_of : ℕ → Answer
-answer_of zero = Accepted
-answer_of (suc n) = Refused (suc n)
+abbrev pub answer_of : ℕ → Result Answer ℕ
+answer_of zero = Ok Accepted
+answer_of (suc n) = Err (suc n)
 
 -- "1,024 bytes must be free from there."
 abbrev pub free_bytes : ℕ

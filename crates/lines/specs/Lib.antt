@@ -4,6 +4,7 @@ pub mod Text
 pub mod Length
 pub mod Grammar
 pub mod Padding
+pub mod Writing
 pub mod Written
 pub mod Saved
 pub mod Answers

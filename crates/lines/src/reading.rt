@@ -1,143 +1,142 @@
 // Reading a line, left to right: its word, then its numbers or its bits. Reading stops at the first byte that breaks the form.
 ghost use Rattle.std.specs.Prelude.{◌≤◌, ◌≡◌, drop};
+ghost use Rattle.lines.specs.Text.{comma, before};
 ghost use Rattle.lines.specs.Grammar.{table, parse, line_command};
-ghost use Rattle.lines.specs.Reading.{word_of, may_follow, most_numbers, no_numbers, some_numbers, fields_after, numbers_in, bits_of, rows, most_after, place_of, command_at, with_numbers};
+ghost use Rattle.lines.specs.Reading.{may_follow, most_numbers, fields_after, numbers_in, bits_of, most_after, requested, row_command};
 
 use crate::{COMMA, Change, Command, MOST_BYTES, MOST_NUMBERS, NOUGHT, SaveForm};
 use marks::LoadSet;
 
-const MOST_LETTERS: usize = 6;
-
 const MOST_DIGITS: u32 = 6;
 
-// The rows of the table with numbers, each as one number: the bytes of its word in base 256 after a 1, and as one byte more the count of
-// its numbers.
-const ROWS: [u64; 18] = [
-    0x1_636c656172_00, // clear
-    0x1_626f6f6b_02, // book
-    0x1_7374617274_01, // start
-    0x1_656e64_01, // end
-    0x1_72756c65_03, // rule
-    0x1_72756c65_04, // rule, with a kind
-    0x1_726f77_03, // row
-    0x1_6c6f6164_03, // load
-    0x1_6c6f6164_04, // load, with a kind
-    0x1_706f776572_02, // power
-    0x1_776f727468_02, // worth
-    0x1_627564676574_01, // budget
-    0x1_706c616e_00, // plan
-    0x1_73617665_00, // save
-    0x1_7361766531_00, // save1
-    0x1_64726f70_01, // drop
-    0x1_6c617374_00, // last
-    0x1_6e656564_01, // need
+// What a row of the table asks for. A rule and a load have two rows: without a kind and with it.
+#[derive(Clone, Copy)]
+enum Request {
+    Clear,
+    Book,
+    Start,
+    End,
+    Rule,
+    RuleOfKind,
+    Row,
+    Load,
+    LoadOfKind,
+    Power,
+    Worth,
+    Budget,
+    Plan,
+    Save,
+    Save1,
+    Drop,
+    Last,
+    Need,
+}
+
+// A row of the table: a word, the count of the numbers after it, and what both ask for.
+#[derive(Clone, Copy)]
+struct Row(&'static [u8], usize, Request);
+
+// The rows with numbers.
+const ROWS: [Row; 18] = [
+    Row(b"clear", 0, Request::Clear),
+    Row(b"book", 2, Request::Book),
+    Row(b"start", 1, Request::Start),
+    Row(b"end", 1, Request::End),
+    Row(b"rule", 3, Request::Rule),
+    Row(b"rule", 4, Request::RuleOfKind),
+    Row(b"row", 3, Request::Row),
+    Row(b"load", 3, Request::Load),
+    Row(b"load", 4, Request::LoadOfKind),
+    Row(b"power", 2, Request::Power),
+    Row(b"worth", 2, Request::Worth),
+    Row(b"budget", 1, Request::Budget),
+    Row(b"plan", 0, Request::Plan),
+    Row(b"save", 0, Request::Save),
+    Row(b"save1", 0, Request::Save1),
+    Row(b"drop", 1, Request::Drop),
+    Row(b"last", 0, Request::Last),
+    Row(b"need", 1, Request::Need),
 ];
 
 // The word before bits.
-const CHECK: u64 = 0x1_636865636b;
+const CHECK: &'static [u8] = b"check";
 
-// A word's number, and the place after it in the line. A word with more letters than any of the table has number 0.
-#[derive(Clone, Copy)]
-struct Word {
-    code: u64,
-    end: usize,
-}
-
-// The numbers after a word. Where the fields are not numbers in form, ok is false.
+// The numbers after a word, in their order.
 #[derive(Clone, Copy)]
 struct Numbers {
-    ok: bool,
     count: usize,
     values: [u32; MOST_NUMBERS],
 }
 
-// The word that a line begins with: up to the first comma, or the whole line.
-fn read_word(s: &[u8]) -> Word
-    ensures { result ≡ word_of s.now }
+impl Request {
+    // The command, with the numbers of its line.
+    fn command(self, values: [u32; MOST_NUMBERS]) -> Command
+        ensures { result ≡ requested self values }
+    {
+        let [a, b, c, d] = values;
+        match self {
+            Request::Clear => Command::Change(Change::Clear),
+            Request::Book => Command::Change(Change::Book(a, b)),
+            Request::Start => Command::Change(Change::Start(a)),
+            Request::End => Command::Change(Change::End(a)),
+            Request::Rule => Command::Change(Change::Rule(a, b, c, 0)),
+            Request::RuleOfKind => Command::Change(Change::Rule(a, b, c, d)),
+            Request::Row => Command::Change(Change::Row(a, b, c)),
+            Request::Load => Command::Change(Change::Load(a, b, c, 0)),
+            Request::LoadOfKind => Command::Change(Change::Load(a, b, c, d)),
+            Request::Power => Command::Change(Change::Power(a, b)),
+            Request::Worth => Command::Change(Change::Worth(a, b)),
+            Request::Budget => Command::Change(Change::Budget(a)),
+            Request::Plan => Command::Plan,
+            Request::Save => Command::Save(SaveForm::Kinds),
+            Request::Save1 => Command::Save(SaveForm::Plain),
+            Request::Drop => Command::Change(Change::Drop(a)),
+            Request::Last => Command::Last,
+            Request::Need => Command::Need(a),
+        }
+    }
+}
+
+// Where the word that a line begins with ends: at the first comma, or with the line.
+fn word_end(line: &[u8]) -> usize
+    ensures { result ≡ before comma line.now }
 {
-    let mut code: u64 = 1;
-    let mut at: usize = 0;
-    while at < s.len() {
-        let b = s[at];
-        if b == COMMA {
-            break;
-        }
-        if MOST_LETTERS <= at {
-            return Word { code: 0, end: 0 };
-        }
-        code = code * 256 + (b as u64);
-        at += 1;
-    }
-    Word {
-        code: code,
-        end: at,
-    }
+    line.iter().position(|b| *b == COMMA).unwrap_or(line.len())
 }
 
 // How many numbers the table has at most after a word; 0 where it has no such word before numbers.
-fn numbers_of(code: u64) -> usize
-    ensures { result ≡ most_after code (rows table) }
+fn most_after(word: &[u8]) -> usize
+    ensures { result ≡ most_after word.now table }
 {
     let rows = ROWS;
-    let mut most: usize = 0;
-    let mut i: usize = 0;
-    while i < rows.len() {
-        let row = rows[i];
-        let count = (row % 256) as usize;
-        if (code == row / 256) & (most < count) {
-            most = count;
-        }
-        i += 1;
-    }
-    most
+    rows.iter().fold(
+        0,
+        |most, row| if row.0 == word { row.1.max(most) } else { most },
+    )
 }
 
-// The place of the row with this word and so many numbers; that past all rows where there is none.
-fn row_of(code: u64, count: usize) -> usize
-    ensures { result ≡ place_of code count (rows table) }
+// The command of a word and the numbers after it.
+fn command_of(word: &[u8], numbers: Numbers) -> Command
+    ensures { result ≡ row_command table word.now numbers }
 {
     let rows = ROWS;
-    let mut i: usize = 0;
-    while i < rows.len() {
-        let row = rows[i];
-        if (code == row / 256) & (count == (row % 256) as usize) {
-            break;
-        }
-        i += 1;
+    match rows.iter().find(|r| r.0 == word && numbers.count == r.1) {
+        Some(row) => row.2.command(numbers.values),
+        None => Command::Broken,
     }
-    i
 }
 
 // May b be the next digit of a number with this many digits so far?
 fn may_follow(digits: u32, b: u8) -> bool
     ensures { result ≡ may_follow digits b }
 {
-    (NOUGHT <= b) & (b <= NOUGHT + 9) & (digits < MOST_DIGITS)
-}
-
-fn no_numbers() -> Numbers
-    ensures { result ≡ no_numbers }
-{
-    Numbers {
-        ok: false,
-        count: 0,
-        values: [0; MOST_NUMBERS],
-    }
-}
-
-fn some_numbers(count: usize, values: [u32; MOST_NUMBERS]) -> Numbers
-    ensures { result ≡ some_numbers count values }
-{
-    Numbers {
-        ok: true,
-        count: count,
-        values: values,
-    }
+    NOUGHT <= b && b <= NOUGHT + 9 && digits < MOST_DIGITS
 }
 
 // The numbers after a word that ends at a place, where there are at most so many. Each has a comma before it. "It .. stops at the first byte
 // that breaks its form": the paper names nested loops over fields and digits for this, left by a label at the first bad byte.
-fn read_numbers(s: &[u8], end: usize, most: usize) -> Numbers
+// One place runs through both loops, so neither is a `for`.
+fn read_numbers(s: &[u8], end: usize, most: usize) -> Option<Numbers>
     requires { most ≤ most_numbers }
     ensures { result ≡ numbers_in most (fields_after end s.now) }
 {
@@ -146,7 +145,7 @@ fn read_numbers(s: &[u8], end: usize, most: usize) -> Numbers
     let mut at = end;
     'fields: loop {
         if s.len() <= at {
-            return some_numbers(count, values);
+            return Some(Numbers { count, values });
         }
         if most <= count {
             break 'fields;
@@ -162,7 +161,7 @@ fn read_numbers(s: &[u8], end: usize, most: usize) -> Numbers
             if !may_follow(digits, b) {
                 break 'fields;
             }
-            value = value * 10 + ((b - NOUGHT) as u32);
+            value = value * 10 + u32::from(b - NOUGHT);
             digits += 1;
             at += 1;
         }
@@ -172,94 +171,43 @@ fn read_numbers(s: &[u8], end: usize, most: usize) -> Numbers
         values[count] = value;
         count += 1;
     }
-    no_numbers()
+    None
 }
 
 // The bits that stand from a place on to the end of the line: `Check` with their loads and their count, or `Broken`.
 pub fn read_bits(s: &[u8], start: usize) -> Command
     ensures { result ≡ bits_of (drop start s.now) }
 {
+    let bits = &s[start.min(s.len())..];
     let mut set = LoadSet::EMPTY;
     let mut count: usize = 0;
-    let mut at = start;
-    while at < s.len() {
-        let b = s[at];
-        if b < NOUGHT {
-            return Command::Broken;
-        }
-        if NOUGHT + 1 < b {
-            return Command::Broken;
-        }
+    for b in bits {
         count += 1;
-        if b == NOUGHT + 1 {
-            set = set.with(count);
+        match *b {
+            b'0' => {}
+            b'1' => set = set.with(count),
+            _ => return Command::Broken,
         }
-        at += 1;
     }
     if count == 0 {
         return Command::Broken;
     }
-    Command::Check {
-        set: set,
-        count: count,
-    }
-}
-
-// The command of the row at a place, with its numbers. Past all rows there is none.
-fn command_of(row: usize, v: [u32; MOST_NUMBERS]) -> Command
-    ensures { result ≡ command_at table row v }
-{
-    let a = v[0];
-    let b = v[1];
-    let c = v[2];
-    let d = v[3];
-    match row {
-        0 => Command::Change(Change::Clear),
-        1 => Command::Change(Change::Book(a, b)),
-        2 => Command::Change(Change::Start(a)),
-        3 => Command::Change(Change::End(a)),
-        4 => Command::Change(Change::Rule(a, b, c, 0)),
-        5 => Command::Change(Change::Rule(a, b, c, d)),
-        6 => Command::Change(Change::Row(a, b, c)),
-        7 => Command::Change(Change::Load(a, b, c, 0)),
-        8 => Command::Change(Change::Load(a, b, c, d)),
-        9 => Command::Change(Change::Power(a, b)),
-        10 => Command::Change(Change::Worth(a, b)),
-        11 => Command::Change(Change::Budget(a)),
-        12 => Command::Plan,
-        13 => Command::Save(SaveForm::Kinds),
-        14 => Command::Save(SaveForm::Plain),
-        15 => Command::Change(Change::Drop(a)),
-        16 => Command::Last,
-        17 => Command::Need(a),
-        _ => Command::Broken,
-    }
-}
-
-// The command of a word with the numbers after it.
-fn with_numbers(code: u64, n: Numbers) -> Command
-    ensures { result ≡ with_numbers code n }
-{
-    if !n.ok {
-        return Command::Broken;
-    }
-    let v = n.values;
-    let count = n.count;
-    command_of(row_of(code, count), v)
+    Command::Check { set, count }
 }
 
 // The command of a line by its form. No byte after a word that is not in the table is read.
 fn read_form(line: &[u8]) -> Command
     ensures { result ≡ parse line.now }
 {
-    let word = read_word(line);
-    let end = word.end;
-    let code = word.code;
-    if code == CHECK {
+    let end = word_end(line);
+    let word = &line[..end];
+    if word == CHECK {
         return read_bits(line, end + 1);
     }
-    let most = numbers_of(code);
-    with_numbers(code, read_numbers(line, end, most))
+    match read_numbers(line, end, most_after(word)) {
+        Some(numbers) => command_of(word, numbers),
+        None => Command::Broken,
+    }
 }
 
 // What a line asks for. Its length is judged before its form.

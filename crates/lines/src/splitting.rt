@@ -18,26 +18,22 @@ pub struct Taken {
 pub fn take_line(chunk: &[u8], line: &mut [u8; MOST_KEPT], held: usize) -> Taken
     ensures { Took chunk.now line.old line.new held result }
 {
-    let mut at: usize = 0;
-    let mut len = held;
-    while at < chunk.len() {
-        let b = chunk[at];
-        if b == LINE_FEED {
-            return Taken {
-                count: at + 1,
-                held: len,
-                ended: true,
-            };
-        }
-        if len < MOST_KEPT {
-            line[len] = b;
-            len += 1;
-        }
-        at += 1;
-    }
-    Taken {
-        count: at,
-        held: len,
-        ended: false,
+    let end = chunk.iter().position(|b| *b == LINE_FEED);
+    let bytes = &chunk[..end.unwrap_or(chunk.len())];
+    let start = held.min(MOST_KEPT);
+    let kept = &bytes[..bytes.len().min(MOST_KEPT - start)];
+    line[start..start + kept.len()].copy_from_slice(kept);
+    let held = held + kept.len();
+    match end {
+        Some(at) => Taken {
+            count: at + 1,
+            held,
+            ended: true,
+        },
+        None => Taken {
+            count: chunk.len(),
+            held,
+            ended: false,
+        },
     }
 }

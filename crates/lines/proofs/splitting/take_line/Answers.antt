@@ -1,21 +1,25 @@
--- `take_line` meets its contract. The invariant: no line feed yet, and the bytes so far are in the line as far as there is room. Assumes nothing.
-use Rattle.lines.proofs.Taking.{taking-none, taking-put, taking-drop, taking-feed, taking-all}
+-- `take_line` meets its contract: the bytes up to the line feed go to the line as far as there is room. Assumes nothing.
+use mathlib.Core.Path.{◌∙◌}
+use Rattle.std.proofs.Common.{rules, tests}
+use Rattle.std.proofs.lemmas.Iterator.{YieldsList-from_slice}
+use Rattle.std.proofs.lemmas.Iterator.Search.{position_from_yields_List}
+use Rattle.lines.specs.Text.{before}
+use Rattle.lines.proofs.Before.{first-or-length, first-some, first-none}
+use Rattle.lines.proofs.Taking.{is_feed, took-some, took-none}
 use Rattle.lines.proofs.splitting.take_line.Goals as goal
-use Rattle.lines.proofs.splitting.take_line.Goals.{then-len-lt-MOST_KEPT, else-len-lt-MOST_KEPT}
 
-pub returns-then-b-eq-LINE_FEED : goal.returns-then-b-eq-LINE_FEED
-returns-then-b-eq-LINE_FEED c = taking-feed c.loop-at.invariant c.loop-at-test.true c.if-b-eq-LINE_FEED.true
+pub returns-in-Some : goal.returns-in-Some
+unfolding before
+returns-in-Some c =
+    let s = c.args.chunk.now in
+    let p = position_from_yields_List is_feed _ _ c.position-end.result c.position-end.ensures.ran (YieldsList-from_slice _ c.iter.ensures.rest) (λ x b q k. search (rules, tests)) in
+    took-some s c.args.line.now c.args.held (search rules) (c.unwrap_or.ensures ∙ first-or-length is_feed s c.position-end.result p) c.min-start.ensures c.min.ensures
+    c.copy_from_slice.ensures.after c.in-Some.at (first-some is_feed s c.position-end.result p c.in-Some.at c.in-Some.is)
 
-pub loop-at-preserved : goal.loop-at-preserved
-loop-at-preserved c =
-    let t = c.loop-at.invariant in
-    elim c.if-len-lt-MOST_KEPT.branch [
-      | then-len-lt-MOST_KEPT w ↦ rw (w.line-is, w.len-is) (taking-put t c.loop-at-test.true c.if-b-eq-LINE_FEED.false w.if-len-lt-MOST_KEPT.true)
-      | else-len-lt-MOST_KEPT w ↦ rw (w.line-is, w.len-is) (taking-drop t c.loop-at-test.true c.if-b-eq-LINE_FEED.false w.if-len-lt-MOST_KEPT.false)
-    ]
-
-pub returns : goal.returns
-returns c = taking-all c.loop-at.invariant c.loop-at-test.false
-
-pub loop-at-init : goal.loop-at-init
-loop-at-init c = taking-none _ _ _
+pub returns-in-None : goal.returns-in-None
+unfolding before
+returns-in-None c =
+    let s = c.args.chunk.now in
+    let p = position_from_yields_List is_feed _ _ c.position-end.result c.position-end.ensures.ran (YieldsList-from_slice _ c.iter.ensures.rest) (λ x b q k. search (rules, tests)) in
+    took-none s c.args.line.now c.args.held (search rules) (c.unwrap_or.ensures ∙ first-or-length is_feed s c.position-end.result p) c.min-start.ensures c.min.ensures
+    c.copy_from_slice.ensures.after (first-none is_feed s c.position-end.result p c.in-None.is)
