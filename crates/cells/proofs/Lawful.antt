@@ -1,7 +1,8 @@
 -- The problems of tables that keep their limits are lawful. Assumes nothing.
 use Prim.Native.Nat.{ℕ, suc, ◌≤◌, ◌<◌, zero-le}
 use mathlib.Core.Path.{◌≡◌}
-use mathlib.Core.Bool.{Bool, true}
+use mathlib.Core.Bool.{true}
+use Rattle.std.specs.Prelude.{Option}
 use native.Mathlib.Omega.{arith}
 use lib.ListN.{length, get_or}
 use Rattle.lists.proofs.Arrays.{at_every}
@@ -42,10 +43,10 @@ loads-in l full h = record {
 
 module _ (s : StoredTables) (h : keeps_limits s ≡ true) (len : Lengths s) (full : places_of s.loads ≡ max_loads) where
   -- at the tables' budget or less
-  pub lawful : (b : ℕ) → b ≤ s.budget → (fixed : Bool) (set : LoadSet)
-      → Lawful (record { tables = record { book = s.book; loads = s.loads; budget = b }; fixed = fixed; set = set })
+  pub lawful : (b : ℕ) → b ≤ s.budget → (set : Option LoadSet)
+      → Lawful (record { tables = record { book = s.book; loads = s.loads; budget = b }; set = set })
   unfolding tables_of book_of
-  lawful b less fixed set =
+  lawful b less set =
       let k = kept s h in
       let p = k.lawful in
       let m = rule_range s.book.states s.book.stages in

@@ -1,8 +1,10 @@
 -- The splits of an allowance between a branch and the later children: a loop over the branch's share raises a strip to the best of them,
 -- though it passes over shares that give the branch no more than a smaller one did; and either of the two may lead. Assumes nothing.
 use Prim.Native.Nat.{ℕ, zero, suc, ◌+◌, ◌-◌, ◌≤◌, ◌<◌, zero-le}
-use mathlib.Core.Path.{◌≡◌, refl, sym, ap, ◌∙◌}
+use mathlib.Core.Path.{◌≡◌, refl, sym, ap, ap₂, ◌∙◌}
 use mathlib.Core.List.{List}
+use Rattle.std.specs.Prelude.{Option, None, Some}
+use Rattle.std.specs.Option.{MatchOption, unwrap_or}
 use native.Mathlib.Nat.{le_refl, le_of_suc-le-suc, max-eq_right}
 use native.Mathlib.Omega.{arith}
 use native.Mathlib.Decide.{dec_le}
@@ -12,7 +14,8 @@ use Rattle.lists.proofs.Argmax.{argmax-agree, argmax-bound, argmax-least}
 use Rattle.meaning.specs.Cell.{◌⊕◌, empty}
 use Rattle.meaning.specs.Best.{shares}
 use Rattle.meaning.proofs.Cell.{⊕-mono, ⊕-comm, ⊕-left, ⊕-right, ⊕-empty}
-use Rattle.cells.specs.Strip.{moved, Raised, Rising, Starts, Passed}
+use Rattle.cells.specs.Work.{Agrees}
+use Rattle.cells.specs.Strip.{moved, Raised, Rising, Starts, Passed, NextStep}
 use Rattle.cells.proofs.Strips.{argmax-next, moved_at, raised-agree, raised-start, raised-next}
 
 -- values that are no greater change nothing
@@ -42,13 +45,38 @@ module _ {f : ℕ → ℕ} {last from to : ℕ} where
 pub passed-stride : {f : ℕ → ℕ} {last to : ℕ} (c e n : ℕ) → c ≤ e → e < to → f e ≡ last → n ≡ e + 1 → Passed f last c to n
 passed-stride c e n k h q o = record { low = omega arith; high = omega arith; at = λ r d l m. omega (arith, r d e (omega arith) h) }
 
+-- the first that says something else than last, after those passed over: a step
+pub step-found : (f : ℕ → ℕ) (last from to : ℕ) {near : ℕ} → Passed f last from to near → (found : Option ℕ)
+    → MatchOption found ((a : ℕ) → near ≤ a → a < to → f a ≡ last)
+    (λ c. (near ≤ c) × (c < to) × (f c ≡ last → ⊥) × ((a : ℕ) → near ≤ a → a < c → f a ≡ last))
+    → NextStep f last from to found
+step-found f last from to p None h = passed_then p (record { low = p.high; high = le_refl to; at = λ r d l m. omega (arith, h d l m) })
+step-found f last from to p (Some c) h =
+    (h.1, passed_then p (record { low = h.0; high = omega arith; at = λ r d l m. omega (arith, h.3 d l m) }), h.2)
+
+-- where the next step is, past the last allowance where there is none
+abbrev pub step_or : Option ℕ → (to : ℕ) → ℕ
+step_or found to = unwrap_or found to
+
+pub step-passed : {f : ℕ → ℕ} {last from to : ℕ} (found : Option ℕ) → NextStep f last from to found → Passed f last from to (step_or found to)
+step-passed None h = h
+step-passed (Some c) h = h.1
+
+pub step-within : (f : ℕ → ℕ) (last from to : ℕ) (found : Option ℕ) → NextStep f last from to found → MatchOption found (Unit {0}) (λ c. c < to)
+step-within f last from to None h = tt
+step-within f last from to (Some c) h = h.0
+
 -- cells that do not fall say something from the first step on
-pub passed-starts : {f : ℕ → ℕ} {to n : ℕ} → Rising f to → Passed f 0 0 to n → (n < to → f n ≡ 0 → ⊥) → Starts f n to
+passed-starts : {f : ℕ → ℕ} {to n : ℕ} → Rising f to → Passed f 0 0 to n → (n < to → f n ≡ 0 → ⊥) → Starts f n to
 passed-starts {f} {to} {n} r p h = record { none = λ c l. omega (arith, p.at r c zero-le l); some = λ c l m. go c l m (f n) refl }
   where
     go : (c : ℕ) → n ≤ c → c < to → (z : ℕ) → f n ≡ z → 0 < f c
     go c l m zero e = absurd (h (omega arith) e)
     go c l m (suc z) e = omega (arith, r n c l m)
+
+pub step-starts : {f : ℕ → ℕ} {to : ℕ} → Rising f to → (found : Option ℕ) → NextStep f 0 0 to found → Starts f (step_or found to) to
+step-starts r None h = passed-starts r h (λ l. absurd (omega arith))
+step-starts r (Some c) h = passed-starts r h.1 (λ l. h.2)
 
 -- the parts of an allowance, one after the other
 module _ (x y : ℕ → ℕ) where
@@ -104,6 +132,14 @@ shares-le x y a = argmax-least (λ c. x c ⊕ y (a - c)) (suc a) _ (λ c l.
 
 pub shares-swap : (x y : ℕ → ℕ) (a : ℕ) → (shares x y a).value ≡ (shares y x a).value
 shares-swap x y a = omega (arith, shares-le x y a, shares-le y x a)
+
+-- as far as two sides say what others do, so do their splits
+pub rising-agree : {f g : ℕ → ℕ} {n : ℕ} → Agrees f g n → Rising g n → Rising f n
+rising-agree h r c d l m = omega (arith, h c (omega arith), h d m, r c d l m)
+
+pub shares-agree : {f g x y : ℕ → ℕ} {n : ℕ} → Agrees f x n → Agrees g y n → (a : ℕ) → a < n → (shares f g a).value ≡ (shares x y a).value
+shares-agree h k a l =
+    ap (λ (p : Greatest). p.value) (argmax-agree _ _ (suc a) (λ c m. ap₂ (λ u v. u ⊕ v) (h c (omega arith)) (k (a - c) (omega arith))))
 
 -- a branch at the end of its row
 module _ (f : ℕ → ℕ) (n : ℕ) (r : Rising f n) where

@@ -2,9 +2,10 @@
 -- after it. Assumes nothing.
 use Prim.Native.Nat.{ℕ, zero, suc, ◌+◌, ◌-◌, ◌≤◌, ◌<◌, zero-le}
 use mathlib.Core.Path.{◌≡◌, refl, sym, ap, ◌∙◌}
-use mathlib.Core.Bool.{Bool, true, false, cond}
+use mathlib.Core.Bool.{Bool, cond}
 use mathlib.Core.Logic.{◌⊎◌, inl, inr}
 use mathlib.Core.List.{List}
+use Rattle.std.specs.Prelude.{Option, None, Some}
 use native.Mathlib.Nat.{le_trans}
 use native.Mathlib.Numerals.{add-one}
 use native.Mathlib.Omega.{arith}
@@ -13,6 +14,7 @@ use borrow.Author.Tests.{lt-ltb, le-ltb, lt-leb, le-leb, leb-true}
 use lib.ListN.{length, get_or}
 use Rattle.lists.specs.Tests.{pick}
 use Rattle.lists.specs.Argmax.{Greatest}
+use Rattle.marks.specs.declared.LoadSet.{LoadSet}
 use Rattle.tables.specs.Tables.{no_load}
 use Rattle.tables.specs.Stored.{book_of}
 use Rattle.meaning.specs.Forest.{Item, after}
@@ -59,11 +61,11 @@ module _ (p : Problem) (ok : Lawful p) where
 
   -- every cell fits
   cheap : Cheap (items_for p) max_worth (loads_for p)
-  cheap k j = go p.fixed
+  cheap k j = go p.set
     where
-      go : (f : Bool) → (items_if f p.set k (get_or (loads_for p) j no_load)).worth ≤ max_worth
-      go true = zero-le
-      go false = ok.loads.worths j
+      go : (σ : Option LoadSet) → (items_if σ k (get_or (loads_for p) j no_load)).worth ≤ max_worth
+      go None = ok.loads.worths j
+      go (Some _) = zero-le
 
   pub row_small : (k g c : ℕ) → row_for p k g c < cell_limit
   row_small k g c =

@@ -7,15 +7,17 @@ use mathlib.Core.List.{List}
 use native.Mathlib.Nat.{le_refl, eq-or-lt_of_le, zero-max}
 use native.Mathlib.Numerals.{add-one}
 use native.Mathlib.Omega.{arith}
-use native.Mathlib.Decide.{dec_le}
+use native.Mathlib.Decide.{dec_le, dec_lt}
 use borrow.Author.Tests.{ltb-true, ltb-false, le-leb, lt-leb}
-use lib.Dec.{ltb}
-use lib.ListN.{length, get_or, set, replicate}
-use lib.Seq.{get_or-set_same, get_or-set_other}
-use Rattle.lists.specs.Argmax.{argmax}
+use lib.Dec.{ltb, leb}
+use lib.ListN.{length, get_or, set, replicate, take, length-take}
+use lib.Seq.{get_or-set_same, get_or-set_other, get_or-take}
+use Rattle.std.proofs.lemmas.List.{get_or_past}
+use Rattle.lists.specs.Argmax.{guard, argmax}
 use Rattle.meaning.specs.Cell.{cell, power_limit, ◌⊕◌}
 use Rattle.meaning.proofs.Cell.{⊕-right, ⊕-both}
-use Rattle.cells.specs.Strip.{strip_limit, Small, moved, Raised, Starts, Stored}
+use Rattle.cells.specs.Work.{Agrees}
+use Rattle.cells.specs.Strip.{strip_limit, Small, moved, Raised, Starts}
 
 -- the greater of two
 max_none : (x y : ℕ) → y ≡ 0 → x ≡ max x y
@@ -83,6 +85,9 @@ moved_at shift own f a h = rw (le-leb shift a h)
 pub moved_none : (shift own : ℕ) (f : ℕ → ℕ) (a : ℕ) → a < shift → moved shift own f a ≡ 0
 moved_none shift own f a h = rw (lt-leb shift a h)
 
+pub moved-agree : {f g : ℕ → ℕ} {n : ℕ} → Agrees f g n → (shift own a : ℕ) → a < n → moved shift own f a ≡ moved shift own g a
+moved-agree h shift own a l = ap (λ z. guard (leb shift a) (own ⊕ z)) (h (a - shift) (omega arith))
+
 -- the strip as it is, where nothing is above 0
 pub raised-none : (s : List ℕ) (from to : ℕ) (f : ℕ → ℕ) → ((a : ℕ) → from ≤ a → a < to → f a ≡ 0) → Raised s s from to f
 raised-none s from to f h = record { small = λ o. o; below = λ a l. refl; at = λ o a l m. max_none _ _ (h a l m) }
@@ -92,7 +97,7 @@ pub raised-agree : {s t : List ℕ} {from to : ℕ} {f : ℕ → ℕ} → Raised
 raised-agree {s} r g h = record { small = r.small; below = r.below; at = λ o a l m. r.at o a l m ∙ ap (max (get_or s a 0)) (h a l m) }
 
 -- a strip may be raised from an allowance on below which f says nothing
-raised-from : {s t : List ℕ} {start to : ℕ} {f : ℕ → ℕ} → Raised s t start to f → (from : ℕ) → from ≤ start
+pub raised-from : {s t : List ℕ} {start to : ℕ} {f : ℕ → ℕ} → Raised s t start to f → (from : ℕ) → from ≤ start
     → ((a : ℕ) → from ≤ a → a < start → f a ≡ 0) → Raised s t from to f
 raised-from {s} {t} {start} {to} {f} r from b h = record {
   small = r.small;
@@ -125,8 +130,17 @@ zeros zero a = refl
 zeros (suc n) zero = refl
 zeros (suc n) (suc a) = zeros n a
 
-pub zeros-raised : (n : ℕ) {t : List ℕ} {from to : ℕ} {f : ℕ → ℕ} → Raised (replicate n 0) t from to f → (a : ℕ) → from ≤ a → a < to → get_or t a 0 ≡ f a
-zeros-raised n {f = f} r a l m = r.at (λ b. omega (arith, zeros n b)) a l m ∙ ap (λ z. max z (f a)) (zeros n a) ∙ zero-max (f a)
+pub zeros-raised : (n to : ℕ) → to ≤ n → {t : List ℕ} {from : ℕ} {f : ℕ → ℕ}
+    → Raised (take to (replicate n 0)) t from to f → (a : ℕ) → from ≤ a → a < to → get_or t a 0 ≡ f a
+zeros-raised n to h {f = f} r a l m =
+    r.at (λ b. omega (arith, front b)) a l m ∙ ap (λ z. max z (f a)) (front a) ∙ zero-max (f a)
+  where
+    front : (a : ℕ) → get_or (take to (replicate {A = ℕ} n 0)) a 0 ≡ 0
+    front a = go (dec_lt a to)
+      where
+        go : Dec (a < to) → get_or (take to (replicate {A = ℕ} n 0)) a 0 ≡ 0
+        go (yes l) = get_or-take to (replicate n 0) a 0 l ∙ zeros n a
+        go (no l) = get_or_past (take to (replicate n 0)) a 0 (omega (arith, length-take to (replicate {A = ℕ} n 0)))
 
 -- a strip that is raised to one value after another is raised to the greatest
 pub raised-start : (f : ℕ → ℕ → ℕ) (s : List ℕ) (from to : ℕ) → Raised s s from to (λ a. (argmax (f a) 0).value)
@@ -141,19 +155,3 @@ raised-next f j {s} p q = record {
   at = λ o a l m. q.at (p.small o) a l m ∙ ap (λ z. max z (f a j)) (p.at o a l m)
       ∙ max_assoc (get_or s a 0) _ (f a j) ∙ ap (max (get_or s a 0)) (sym (argmax-next (f a) j));
 }
-
--- storing
-pub stored-none : (w s : List ℕ) (at from : ℕ) → Stored w s w at from from
-stored-none w s at from = record { below = λ i l. refl; above = λ i l. refl; inside = λ a l m. absurd (omega arith) }
-
-pub stored_more : {w s v : List ℕ} {at from a : ℕ} → Stored w s v at from a → from ≤ a → at + a < length v
-    → Stored w s (set v (at + a) (get_or s a 0)) at from (a + 1)
-stored_more {w} {s} {v} {at} {from} {a} p f h = record {
-  below = λ i l. get_or-set_other v (at + a) i _ 0 (λ q. absurd (omega arith)) ∙ p.below i l;
-  above = λ i l. get_or-set_other v (at + a) i _ 0 (λ q. absurd (omega arith)) ∙ p.above i (omega arith);
-  inside = λ b l m. go b l (eq-or-lt_of_le (omega arith));
-}
-  where
-    go : (b : ℕ) → from ≤ b → (b ≡ a) ⊎ (b < a) → get_or (set v (at + a) (get_or s a 0)) (at + b) 0 ≡ get_or s b 0
-    go b l (inl q) = rw q (get_or-set_same v (at + a) _ 0 h)
-    go b l (inr q) = get_or-set_other v (at + a) (at + b) _ 0 (λ r. absurd (omega arith)) ∙ p.inside b l q

@@ -1,7 +1,7 @@
 -- The outline of a problem: what a search reads of the tables, looked up once and lent as numbers.
 -- It stands for "a row is to be worked out from the few figures it needs, with no whole planner copied for each child" of request Seven of
 -- paper 02. Assumes nothing.
-use Rattle.std.specs.Prelude.{ℕ, ◌+◌, ◌-◌, ◌*◌, ◌≤◌, ◌<◌, ◌≡◌, Bool, true, List, eqb, leb, length, get_or, set}
+use Rattle.std.specs.Prelude.{ℕ, ◌+◌, ◌-◌, ◌*◌, ◌≤◌, ◌<◌, ◌≡◌, Bool, true, Option, MatchOption, List, eqb, leb, length, get_or, set}
 use Rattle.lists.specs.Tests.{pick}
 use Rattle.lists.specs.Argmax.{guard, Greatest, argmax}
 use Rattle.tables.specs.declared.rule.Transition.{Transition}
@@ -76,12 +76,17 @@ joint_in sh o k x = record { branch = of_row sh x; load = k; item = item_in o k;
 abbrev pub best_in : List ℕ → Rules → (Transition → ℕ) → Greatest
 best_in o r reach = argmax (λ j. guard (eqb (rule_in o r.at j).from r.from) (reach (rule_in o r.at j))) r.count
 
--- i is the next rule from rule j on that begins where r says, or all rules are passed
-pub record NextRule (o : List ℕ) (r : Rules) (j i : ℕ) : Type 0 where
-  pub low : j ≤ i
-  pub high : i ≤ r.count
-  pub passed : (m : ℕ) → j ≤ m → m < i → (rule_in o r.at m).from ≡ r.from → ⊥
-  pub found : i < r.count → (rule_in o r.at i).from ≡ r.from
+-- rule i begins where r says
+abbrev pub Begins : List ℕ → Rules → (i : ℕ) → Type 0
+Begins o r i = (rule_in o r.at i).from ≡ r.from
+
+-- no rule from rule j on, and before rule i, begins there
+abbrev pub NoneBegins : List ℕ → Rules → (j i : ℕ) → Type 0
+NoneBegins o r j i = (m : ℕ) → j ≤ m → m < i → Begins o r m → ⊥
+
+-- the next rule from rule j on that begins where r says, or that there is none
+abbrev pub NextRule : List ℕ → Rules → (j : ℕ) → Option ℕ → Type 0
+NextRule o r j found = MatchOption found (NoneBegins o r j r.count) (λ i. (j ≤ i) × (i < r.count) × Begins o r i × NoneBegins o r j i)
 
 -- ---- the numbers are in range
 pub record JointFits (sh : Shape) (t : Joint) : Type 0 where

@@ -1,9 +1,9 @@
 -- A problem: the tables of a search, with what counts of each load. Planning and checking a set are one search of two problems.
 -- It stands for "The plan has the greatest worth of all allowed sets whose power is within the budget" and for "For a checked set the run
 -- takes the lowest .. that can be completed to that set" of paper 01. Assumes nothing.
-use Rattle.std.specs.Prelude.{ℕ, ◌≤◌, ◌<◌, ◌≡◌, Bool, true, false, ◌&&◌, ◌||◌, List, eqb, length, get_or}
+use Rattle.std.specs.Prelude.{ℕ, ◌≤◌, ◌<◌, ◌≡◌, Bool, ◌&&◌, ◌||◌, Option, None, Some, List, eqb, length, get_or}
 use Rattle.marks.specs.declared.LoadSet.{LoadSet}
-use Rattle.marks.specs.Sets.{no_loads, mark_in}
+use Rattle.marks.specs.Sets.{mark_in}
 use Rattle.tables.specs.declared.load.Load.{Load}
 use Rattle.tables.specs.declared.load.LoadList.{LoadList}
 use Rattle.tables.specs.declared.rule.TransitionList.{TransitionList}
@@ -19,11 +19,11 @@ use Rattle.cells.specs.declared.problem.StoredItem.{StoredItem}
 
 -- the problem of a plan: the tables as they are
 abbrev pub plan_problem : StoredTables → Problem
-plan_problem s = record { tables = s; fixed = false; set = no_loads }
+plan_problem s = record { tables = s; set = None }
 
 -- the problem of a checked set: no allowance, and no marks but its own
 abbrev pub check_problem : StoredTables → LoadSet → Problem
-check_problem s σ = record { tables = record { book = s.book; loads = s.loads; budget = 0 }; fixed = true; set = σ }
+check_problem s σ = record { tables = record { book = s.book; loads = s.loads; budget = 0 }; set = Some σ }
 
 -- the book and the loads on paper
 abbrev pub book_for : Problem → Book
@@ -33,12 +33,12 @@ abbrev pub loads_for : Problem → List Load
 loads_for p = loads_of p.tables.loads
 
 -- what counts of each load, by its number
-abbrev pub items_if : Bool → LoadSet → ℕ → Load → Item
-items_if false σ = planned
-items_if true σ = checked (mark_in σ)
+abbrev pub items_if : Option LoadSet → ℕ → Load → Item
+items_if None = planned
+items_if (Some σ) = checked (mark_in σ)
 
 abbrev pub items_for : Problem → ℕ → Load → Item
-items_for p = items_if p.fixed p.set
+items_for p = items_if p.set
 
 -- what counts of a load, as the code holds it: any load rule of its kind serves, or those with the load's mark
 abbrev pub any_mark : ℕ

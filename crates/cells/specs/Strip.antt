@@ -1,6 +1,6 @@
 -- A strip is a local list of cells, by allowance, that is raised rule by rule and then stored in the work.
 -- It stands for no sentence of a paper. Assumes nothing.
-use Rattle.std.specs.Prelude.{ℕ, max, ◌+◌, ◌-◌, ◌≤◌, ◌<◌, ◌≡◌, List, leb, get_or}
+use Rattle.std.specs.Prelude.{ℕ, max, ◌+◌, ◌-◌, ◌≤◌, ◌<◌, ◌≡◌, Option, MatchOption, List, leb, get_or}
 use Rattle.lists.specs.Argmax.{guard}
 use Rattle.meaning.specs.Cell.{◌⊕◌}
 
@@ -21,6 +21,10 @@ pub record Raised (s t : List ℕ) (from to : ℕ) (f : ℕ → ℕ) : Type 0 wh
   pub below : (a : ℕ) → a < from → get_or t a 0 ≡ get_or s a 0
   pub at : Small s → (a : ℕ) → from ≤ a → a < to → get_or t a 0 ≡ max (get_or s a 0) (f a)
 
+-- what R says at the allowances from .. to is f, and no more than a strip holds
+abbrev pub Tells : (R : ℕ → ℕ → Type 0) → (f : ℕ → ℕ) → (from to : ℕ) → Type 0
+Tells R f from to = (a y : ℕ) → from ≤ a → a < to → R a y → (y ≡ f a) × (f a < strip_limit)
+
 -- f does not fall below n
 abbrev pub Rising : (ℕ → ℕ) → ℕ → Type 0
 Rising f n = (c d : ℕ) → c ≤ d → d < n → f c ≤ f d
@@ -35,6 +39,10 @@ pub record Passed (f : ℕ → ℕ) (last from to r : ℕ) : Type 0 where
   pub low : from ≤ r
   pub high : r ≤ to
   pub at : Rising f to → (d : ℕ) → from ≤ d → d < r → f d ≤ last
+
+-- the first allowance from `from` on at which f, if it does not fall below `to`, says more than last; or that it says no more as far as `to`
+abbrev pub NextStep : (f : ℕ → ℕ) → (last from to : ℕ) → Option ℕ → Type 0
+NextStep f last from to found = MatchOption found (Passed f last from to to) (λ c. (c < to) × Passed f last from to c × (f c ≡ last → ⊥))
 
 -- v is the work w with the strip's allowances from .. to at their places
 pub record Stored (w s v : List ℕ) (at from to : ℕ) : Type 0 where

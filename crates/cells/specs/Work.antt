@@ -30,9 +30,17 @@ cell_limit = 1073741824
 abbrev pub held_in : ℕ → ℕ
 held_in x = x % cell_limit
 
+-- what cells say, by allowance
+abbrev pub cells_in : List ℕ → ℕ → ℕ
+cells_in s c = held_in (get_or s c 0)
+
 -- the cells from a place on, by allowance
 abbrev pub cells_from : List ℕ → (at : ℕ) → ℕ → ℕ
 cells_from w at c = held_in (get_or w (at + c) 0)
+
+-- f and g say the same below n
+abbrev pub Agrees : (f g : ℕ → ℕ) → ℕ → Type 0
+Agrees f g n = (c : ℕ) → c < n → f c ≡ g c
 
 -- the branch of load k in state q, by allowance, as the work holds it
 abbrev pub held_branch : Shape → List ℕ → (k q : ℕ) → ℕ → ℕ

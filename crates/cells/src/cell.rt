@@ -21,17 +21,11 @@ pub fn held(x: u32) -> u32
     x % CELL_LIMIT
 }
 
-fn greater(x: u32, y: u32) -> u32
-    ensures { result ≡ max x y }
-{
-    if x < y { y } else { x }
-}
-
 // A number of a strip, raised to y. Numbers below the limit compare alike with and without a sign, and with a sign it is cheaper.
 pub(crate) fn raised(x: u32, y: u32) -> u32
     ensures { result ≡ max (x % strip_limit) y }
 {
-    greater(x % STRIP_LIMIT, y)
+    (x % STRIP_LIMIT).max(y)
 }
 
 // The cell of two disjoint sets together. Where x stays the same a loop over y has no branch.
@@ -43,20 +37,14 @@ pub fn join(x: u32, y: u32) -> u32
         return y;
     }
     if x > EMPTY {
-        let mut more: u32 = 0;
-        if y != 0 {
-            more = x - EMPTY;
-        }
+        let more = if y == 0 { 0 } else { x - EMPTY };
         return y + more;
     }
     // No set, or one that is worth nothing and draws power.
     if x == 0 {
         return 0;
     }
-    if x + y < EMPTY {
-        return 0;
-    }
-    x + y - EMPTY
+    (x + y).saturating_sub(EMPTY)
 }
 
 // The cell of one load that is on.

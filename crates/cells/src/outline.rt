@@ -42,7 +42,8 @@ pub struct Lead {
     pub kind: usize,
 }
 
-// What a rule joins with the row from load `rest` onward, 0 for none: a row rule the branch of a load, a load rule the load alone.
+// What a rule joins with the row from load `rest` onward, 0 for none as in the outline: a row rule the branch of a load, a load rule the load alone.
+// Two cases of an enum would each hold the load and the row, and every use would take them apart.
 #[derive(Clone, Copy)]
 pub struct Joint {
     pub branch: bool,
@@ -51,32 +52,28 @@ pub struct Joint {
     pub rest: usize,
 }
 
-// What counts of load k. Where `fixed`, only its kind and the mark that it has in the set do.
-fn item_of(fixed: bool, set: LoadSet, k: usize, l: Load) -> StoredItem
+// What counts of load k: of a load in a set only its kind and its mark there do.
+fn item_of(set: Option<LoadSet>, k: usize, l: Load) -> StoredItem
     requires { (l.power < power_limit) × (l.worth ≤ max_worth) }
-    ensures { (item_of result ≡ items_if fixed set k l) × (result.power < power_limit) × (result.worth ≤ max_worth) }
+    ensures { (item_of result ≡ items_if set k l) × (result.power < power_limit) × (result.worth ≤ max_worth) }
 {
-    if fixed {
-        let mut mark: u16 = 0;
-        if set.has(k) {
-            mark = 1;
-        }
-        return StoredItem {
+    match set {
+        None => StoredItem {
+            power: usize::from(l.power),
+            worth: u32::from(l.worth),
+            mark: ANY_MARK,
+            kind: u16::from(l.kind),
+        },
+        Some(set) => StoredItem {
             power: 0,
             worth: 0,
-            mark: mark,
-            kind: l.kind as u16,
-        };
-    }
-    StoredItem {
-        power: l.power as usize,
-        worth: l.worth as u32,
-        mark: ANY_MARK,
-        kind: l.kind as u16,
+            mark: u16::from(set.has(k)),
+            kind: u16::from(l.kind),
+        },
     }
 }
 
-// Load k, below load q, is written: the child of q till now comes after it.
+// Load k, below load q, is written: the child of q till now comes after it. A slice would hide which number goes to which place.
 fn put_load(o: &mut [u16], k: usize, q: usize, i: StoredItem)
     requires { (length o.old ≡ outline_size) × (k ≤ max_loads) × (q ≤ max_loads) × (i.power < power_limit) × (i.worth ≤ max_worth) }
     ensures { o.new ≡ with_load o.old k q i }
@@ -96,27 +93,23 @@ fn put_loads(o: &mut [u16], p: Problem)
     requires o_value { o.old ≡ replicate outline_size 0 }
     ensures { LoadsPut p o.old 0 o.new }
 {
-    let tables = p.tables;
-    let loads = tables.loads;
-    let fixed = p.fixed;
-    let set = p.set;
-    let mut i = loads.count;
-    while 0 < i {
-        i -= 1;
+    let loads = p.tables.loads;
+    for i in (0..loads.count).rev() {
         let l = loads.items[i];
-        let item = item_of(fixed, set, i + 1, l);
-        put_load(&mut *o, i + 1, l.parent as usize, item);
+        let item = item_of(p.set, i + 1, l);
+        put_load(&mut *o, i + 1, usize::from(l.parent), item);
     }
 }
 
+// A rule is written, number by number as a load is.
 fn put_rule(o: &mut [u16], at: usize, t: Transition)
     requires { at + rule_numbers ≤ length o.old }
     ensures { o.new ≡ with_rule o.old at t }
 {
-    o[at] = t.from as u16;
-    o[at + 1] = t.label as u16;
-    o[at + 2] = t.to as u16;
-    o[at + 3] = t.kind as u16;
+    o[at] = u16::from(t.from);
+    o[at + 1] = u16::from(t.label);
+    o[at + 2] = u16::from(t.to);
+    o[at + 3] = u16::from(t.kind);
 }
 
 // Rules of one sort are written from a place on.
@@ -124,9 +117,7 @@ fn put_rules(o: &mut [u16], rules: TransitionList, at: usize)
     requires { (rules.count ≤ max_rules) × (length rules.items ≡ max_rules) × (at + rule_numbers * max_rules ≤ length o.old) }
     ensures { RulesPut rules o.old at rules.count o.new }
 {
-    let n = rules.count;
-    for j in 0..n {
-        let t = rules.items[j];
+    for (j, &t) in rules.items[..rules.count].iter().enumerate() {
         put_rule(&mut *o, at + RULE_NUMBERS * j, t);
     }
 }
@@ -137,15 +128,12 @@ pub fn put_outline(o: &mut [u16], p: Problem)
     requires o_value { o.old ≡ replicate outline_size 0 }
     ensures { Outlines p (shape_of p) o.new }
 {
-    let tables = p.tables;
-    let book = tables.book;
-    let load_rules = book.load_rules;
-    let row_rules = book.row_rules;
+    let book = p.tables.book;
     put_loads(&mut *o, p);
-    put_rules(&mut *o, load_rules, LOAD_RULES);
-    put_rules(&mut *o, row_rules, ROW_RULES);
-    o[COUNTS] = load_rules.count as u16;
-    o[COUNTS + 1] = row_rules.count as u16;
+    put_rules(&mut *o, book.load_rules, LOAD_RULES);
+    put_rules(&mut *o, book.row_rules, ROW_RULES);
+    o[COUNTS] = book.load_rules.count as u16;
+    o[COUNTS + 1] = book.row_rules.count as u16;
 }
 
 // The rules that begin at state or stage x.
@@ -156,13 +144,13 @@ pub fn rules_at(sh: Shape, o: &[u16], x: usize) -> Rules
     if sh.states <= x {
         return Rules {
             at: ROW_RULES,
-            count: o[COUNTS + 1] as usize,
+            count: usize::from(o[COUNTS + 1]),
             from: (x - sh.states + 1) as u16,
         };
     }
     Rules {
         at: LOAD_RULES,
-        count: o[COUNTS] as usize,
+        count: usize::from(o[COUNTS]),
         from: (x + 1) as u16,
     }
 }
@@ -173,49 +161,27 @@ pub fn joint_at(sh: Shape, o: &[u16], k: usize, x: usize) -> Joint
     ensures { result ≡ joint_in sh o.now k x }
 {
     let at = LOAD_NUMBERS * k;
-    let item = StoredItem {
-        power: o[at + 2] as usize,
-        worth: o[at + 3] as u32,
-        mark: o[at + 4],
-        kind: o[at + 5],
-    };
-    if sh.states <= x {
-        return Joint {
-            branch: true,
-            load: k,
-            item: item,
-            rest: o[at + 1] as usize,
-        };
-    }
+    let branch = sh.states <= x;
+    let rest = if branch { o[at + 1] } else { o[at] };
     Joint {
-        branch: false,
+        branch,
         load: k,
-        item: item,
-        rest: o[at] as usize,
+        item: StoredItem {
+            power: usize::from(o[at + 2]),
+            worth: u32::from(o[at + 3]),
+            mark: o[at + 4],
+            kind: o[at + 5],
+        },
+        rest: usize::from(rest),
     }
 }
 
-// The next of these rules from rule j on, their number if there is none. The rules of a book are reached through this function alone.
-pub fn next_rule(o: &[u16], r: Rules, j: usize) -> usize
+// The next of these rules from rule j on, if there is one. The rules of a book are reached through this function alone.
+pub fn next_rule(o: &[u16], r: Rules, j: usize) -> Option<usize>
     requires { (r.count ≤ max_rules) × (r.at + rule_numbers * max_rules ≤ length o.now) × (j ≤ r.count) }
     ensures { NextRule o.now r j result }
 {
-    let mut i = j;
-    while i < r.count {
-        if o[r.at + RULE_NUMBERS * i] == r.from {
-            return i;
-        }
-        i += 1;
-    }
-    i
-}
-
-// A number of the outline.
-fn number_at(o: &[u16], i: usize) -> usize
-    requires { i < length o.now }
-    ensures { result ≡ get_or o.now i 0 }
-{
-    o[i] as usize
+    (j..r.count).find(|&i| o[r.at + RULE_NUMBERS * i] == r.from)
 }
 
 // What one of these rules leads to.
@@ -225,8 +191,8 @@ pub fn lead_of(o: &[u16], r: Rules, j: usize) -> Lead
 {
     let at = r.at + RULE_NUMBERS * j;
     Lead {
-        label: number_at(o, at + 1),
-        stage: number_at(o, at + 2),
-        kind: number_at(o, at + 3),
+        label: usize::from(o[at + 1]),
+        stage: usize::from(o[at + 2]),
+        kind: usize::from(o[at + 3]),
     }
 }

@@ -10,12 +10,11 @@ use crate::cell;
 use marks::{LoadSet, Marks};
 use tables::tables::StoredTables;
 
-// The tables of a search. Where `fixed`, only the load rules with the marks of `set` serve, and no power or worth counts.
+// The tables of a search. Where there is a set, only the load rules with its marks serve, and no power or worth counts.
 #[derive(Clone, Copy)]
 pub struct Problem {
     pub tables: StoredTables,
-    pub fixed: bool,
-    pub set: LoadSet,
+    pub set: Option<LoadSet>,
 }
 
 // The numbers of loads, states and stages, the budget, the start states and the end stages.
@@ -29,7 +28,7 @@ pub struct Shape {
     pub ends: Marks,
 }
 
-// The mark of a load that every load rule of its kind serves.
+// The mark of a load that every load rule of its kind serves: a number, since the outline holds numbers.
 pub const ANY_MARK: u16 = 2;
 
 // What counts of a load. Only the load rules of its kind with its mark serve it.
@@ -46,11 +45,7 @@ pub fn plan_problem(tables: StoredTables) -> Problem
     requires { keeps_limits tables ≡ true }
     ensures { (result ≡ plan_problem tables) × Lawful result }
 {
-    Problem {
-        tables: tables,
-        fixed: false,
-        set: LoadSet::EMPTY,
-    }
+    Problem { tables, set: None }
 }
 
 // The problem of a checked set.
@@ -58,30 +53,27 @@ pub fn check_problem(tables: StoredTables, set: LoadSet) -> Problem
     requires { keeps_limits tables ≡ true }
     ensures { (result ≡ check_problem tables set) × Lawful result }
 {
-    let mut t = tables;
-    t.budget = 0;
+    let unbudgeted = StoredTables {
+        budget: 0,
+        ..tables
+    };
     Problem {
-        tables: t,
-        fixed: true,
-        set: set,
+        tables: unbudgeted,
+        set: Some(set),
     }
 }
 
 pub fn shape_of(p: Problem) -> Shape
     ensures { result ≡ shape_of p }
 {
-    let tables = p.tables;
-    let book = tables.book;
-    let loads = tables.loads;
-    let starts = book.starts;
-    let ends = book.ends;
+    let book = p.tables.book;
     Shape {
-        loads: loads.count,
-        states: book.states as usize,
-        stages: book.stages as usize,
-        budget: tables.budget as usize,
-        starts: starts,
-        ends: ends,
+        loads: p.tables.loads.count,
+        states: usize::from(book.states),
+        stages: usize::from(book.stages),
+        budget: usize::from(p.tables.budget),
+        starts: book.starts,
+        ends: book.ends,
     }
 }
 
@@ -89,7 +81,7 @@ pub fn shape_of(p: Problem) -> Shape
 pub fn serves(i: StoredItem, kind: usize, mark: usize) -> bool
     ensures { result ≡ serves_if i.kind i.mark kind mark }
 {
-    (kind == i.kind as usize) & ((i.mark == ANY_MARK) | (mark == i.mark as usize))
+    kind == usize::from(i.kind) && (i.mark == ANY_MARK || mark == usize::from(i.mark))
 }
 
 // The power of a load with this mark.

@@ -1,9 +1,10 @@
 -- What a plan and its root's cells say of a worth is what the tables say of it: the cell of the root at an allowance is the plan's at that budget.
 -- Assumes nothing.
 use Prim.Native.Nat.{ℕ, zero, suc, ◌≤◌}
-use mathlib.Core.Path.{◌≡◌, refl, sym, ap, ap₂, ◌∙◌}
+use mathlib.Core.Path.{◌≡◌, refl, sym, ap, ◌∙◌}
 use mathlib.Core.Bool.{Bool}
 use mathlib.Core.List.{List}
+use Rattle.std.specs.Prelude.{Option, None, Some, Ok, Err}
 use native.Mathlib.Omega.{arith}
 use borrow.Author.Tests.{ne_eqb}
 use lib.Dec.{eqb, ltb}
@@ -11,9 +12,11 @@ use lib.ListN.{length}
 use Rattle.lists.specs.Tests.{pick, first_from}
 use Rattle.lists.proofs.Tests.{first-is, first-agree}
 use Rattle.tables.specs.Limits.{max_loads, Limits}
+use Rattle.tables.specs.declared.refusal.Refusal.TheVariants.{NoneFits, TooPoor}
 use Rattle.tables.specs.Changes.{set_budget}
 use Rattle.tables.specs.declared.tables.StoredTables.{StoredTables}
 use Rattle.tables.specs.Stored.{tables_of}
+use Rattle.marks.specs.Sets.{mark_in}
 use Rattle.meaning.specs.Sets.{worth}
 use Rattle.meaning.specs.Cell.{floor}
 use Rattle.meaning.specs.Best.{best_plan}
@@ -22,11 +25,11 @@ use Rattle.meaning.specs.Need.{none_fits, poorer, least_budget}
 use Rattle.meaning.proofs.Claims.{claims}
 use Rattle.meaning.proofs.Need.{least-cell}
 use Rattle.runs.specs.declared.outcome.StoredOutcome.{StoredOutcome}
-use Rattle.runs.specs.Outcome.{found, stored_outcome}
+use Rattle.runs.specs.declared.run.Run.{Run}
+use Rattle.runs.specs.Outcome.{found, stored_outcome, stored_found}
 use Rattle.cells.specs.declared.problem.Problem.{Problem}
 use Rattle.cells.specs.declared.problem.Shape.{Shape}
 use Rattle.cells.specs.Problem.{plan_problem}
-use Rattle.engine.specs.declared.need.Need.TheVariants.{NoneFits, Poorer, Least}
 use Rattle.engine.specs.Search.{root_best}
 use Rattle.engine.specs.Pass.{best_at, Complete}
 use Rattle.engine.specs.Need.{need_of, need_by}
@@ -64,16 +67,19 @@ module _ (p : Problem) (sh : Shape) (o w : List ℕ) (all : Complete p sh o w) w
 
 -- ---- the plan's own worth, and what is said
 module _ (t : StoredTables) (h : Limits (tables_of t)) (few : length (tables_of t).loads ≤ max_loads) (v : ℕ) where
-  pub need-is : (o : StoredOutcome) → o ≡ stored_outcome max_loads (found (best_plan (tables_of t)) (plan_entries (tables_of t)))
+  pub need-is : (o : Option Run) → stored_found o ≡ stored_outcome max_loads (found (best_plan (tables_of t)) (plan_entries (tables_of t)))
       → (b : ℕ) → b ≡ least_budget (tables_of t) v → need_by o t.loads v b ≡ need_of (tables_of t) v
   unfolding need_by need_of none_fits poorer tables_of
-  need-is o eo b eb = ap₂ (λ (x : StoredOutcome) (n : ℕ). need_by x t.loads v n) eo eb ∙ go (best_plan (tables_of t)) refl
+  need-is o eo b eb = ap (need_by o t.loads v) eb ∙ go o (best_plan (tables_of t)) refl eo
     where
-      go : (x : ℕ) → best_plan (tables_of t) ≡ x
-          → need_by (stored_outcome max_loads (found x (plan_entries (tables_of t)))) t.loads v (least_budget (tables_of t) v)
-          ≡ pick (eqb x 0) NoneFits (pick (poorer (tables_of t) v) Poorer (Least (least_budget (tables_of t) v)))
-      go zero e = refl
-      go (suc x) e =
+      go : (o : Option Run) (x : ℕ) → best_plan (tables_of t) ≡ x → stored_found o ≡ stored_outcome max_loads (found x (plan_entries (tables_of t)))
+          → need_by o t.loads v (least_budget (tables_of t) v)
+          ≡ pick (eqb x 0) (Err NoneFits) (pick (poorer (tables_of t) v) (Err TooPoor) (Ok (least_budget (tables_of t) v)))
+      go None zero e is = refl
+      go None (suc x) e is = absurd (omega (arith, ap (λ (o : StoredOutcome). o.status) is))
+      go (Some r) zero e is = absurd (omega (arith, ap (λ (o : StoredOutcome). o.status) is))
+      go (Some r) (suc x) e is =
           let l = ((claims (tables_of t) h).planned (omega arith)).loads in
+          let set = ap (λ (o : StoredOutcome). mark_in o.run.set) is ∙ lines-set (tables_of t) (plan_entries (tables_of t)) l few in
           rw (ne_eqb (suc x) 0 (λ z. absurd (omega arith)))
-          (ap (λ (σ : ℕ → ℕ). pick (ltb (worth (tables_of t) σ) v) Poorer (Least (least_budget (tables_of t) v))) (lines-set (tables_of t) (plan_entries (tables_of t)) l few))
+          (ap (λ (σ : ℕ → ℕ). pick (ltb (worth (tables_of t) σ) v) (Err TooPoor) (Ok (least_budget (tables_of t) v))) set)

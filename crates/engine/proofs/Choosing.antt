@@ -3,6 +3,7 @@ use Prim.Native.Nat.{ℕ, suc, ◌+◌, ◌-◌, ◌≤◌, ◌<◌}
 use mathlib.Core.Path.{◌≡◌, refl, sym, ap, ap₂, ◌∙◌}
 use mathlib.Core.Bool.{Bool, true, false}
 use mathlib.Core.List.{List}
+use Rattle.std.specs.Prelude.{Option}
 use mathlib.Core.Logic.{◌⊎◌, inl, inr}
 use native.Mathlib.Nat.{eq-or-lt_of_le}
 use native.Mathlib.Omega.{arith}
@@ -15,7 +16,7 @@ use Rattle.cells.specs.declared.outline.Joint.{Joint}
 use Rattle.cells.specs.declared.outline.Rules.{Rules}
 use Rattle.cells.specs.Outline.{rule_in, lead_in, best_in, NextRule}
 use Rattle.cells.specs.Stretch.{leading, reach_of}
-use Rattle.cells.proofs.Rules.{term, term-met, term-passed}
+use Rattle.cells.proofs.Rules.{rule_or, next-walk, term, term-met, term-passed}
 use Rattle.cells.proofs.Served.{reach-leading}
 use Rattle.engine.specs.declared.choice.Choice.{Choice}
 use Rattle.engine.specs.Search.{share_if, share_of, choice_by, choice_in}
@@ -62,12 +63,12 @@ module _ (sh : Shape) (o w : List ℕ) (t : Joint) (r : Rules) (c goal : ℕ) wh
   abbrev pub Missed : ℕ → Type 0
   Missed j = goal ≡ (best_in o r (reach_of sh w t c)).value → 0 < goal → (m : ℕ) → m < j → term o r (reach_of sh w t c) m ≡ goal → ⊥
 
-  pub pass : (j i : ℕ) → Missed j → NextRule o r j i → Missed i
-  pass j i h n e pos m l q = go (dec_lt m j)
+  pub pass : (j : ℕ) (found : Option ℕ) → j ≤ r.count → Missed j → NextRule o r j found → Missed (rule_or o r found)
+  pass j found low h n e pos m l q = go (dec_lt m j)
     where
       go : Dec (m < j) → ⊥
       go (yes k) = h e pos m k q
-      go (no k) = absurd (omega (arith, term-passed o r (reach_of sh w t c) m (n.passed m (omega arith) l)))
+      go (no k) = absurd (omega (arith, term-passed o r (reach_of sh w t c) m ((next-walk o r found low n).1 m (omega arith) l)))
 
   pub miss : (j : ℕ) → Missed j → (goal ≡ (best_in o r (reach_of sh w t c)).value → 0 < goal → term o r (reach_of sh w t c) j ≡ goal → ⊥) → Missed (j + 1)
   miss j h k e pos m l q = go (eq-or-lt_of_le (omega arith))

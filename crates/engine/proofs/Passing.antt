@@ -2,13 +2,14 @@
 use Prim.Native.Nat.{ℕ, zero, suc, ◌-◌, ◌≤◌, ◌<◌}
 use mathlib.Core.Path.{◌≡◌, refl, sym, ap, ap₂, ◌∙◌}
 use mathlib.Core.Bool.{Bool, true, false}
-use mathlib.Core.List.{[], ◌∷◌, ◌++◌}
+use mathlib.Core.List.{List, [], ◌∷◌, ◌++◌}
+use Rattle.std.specs.Prelude.{Some}
 use mathlib.Core.Logic.{◌⊎◌, inl, inr}
 use native.Mathlib.Nat.{eq-or-lt_of_le, le_refl, sub-le, le_trans}
 use native.Mathlib.Omega.{arith}
 use borrow.Author.Tests.{eqb-true, eqb-false, le-leb}
 use lib.Dec.{eqb}
-use lib.ListN.{get_or, set, length-set}
+use lib.ListN.{length, set, length-set}
 use lib.Seq.{get_or-set_same, get_or-set_other}
 use Rattle.tables.specs.Limits.{max_loads}
 use Rattle.tables.specs.Stored.{book_of}
@@ -22,54 +23,55 @@ use Rattle.cells.specs.Problem.{book_for, loads_for, items_for, Lawful}
 use Rattle.cells.proofs.Tables.{rule-to, rule-label}
 use Rattle.cells.proofs.Stretches.{loads-long}
 use Rattle.runs.specs.declared.run.Run.{Run}
-use Rattle.engine.specs.declared.pass.Rows.{Rows}
+use Rattle.engine.specs.declared.pass.Entrance.{Entrance}
+use Rattle.engine.specs.declared.choice.Choice.{Choice}
 use Rattle.engine.specs.declared.pass.Pass.{Pass}
 use Rattle.runs.specs.Runs.{run_of, with_entry}
 use Rattle.engine.specs.Parts.{start_best, load_rule}
-use Rattle.engine.specs.Pass.{entries_for, load_choice, row_choice, within, entered, passed_load, BranchEntered, RowEntered, Opens, Known, Full, Passed}
+use Rattle.engine.specs.Pass.{entries_for, load_choice, row_choice, within, no_entrance, entrance_at, row_entered, entrance_of, entered, passed_load, BranchEntered, RowEntered, Opens, Known, Passed}
 use Rattle.runs.proofs.Runs.{order-length, order-next, run-snoc}
 use Rattle.engine.proofs.Parts.{load-reached, row-found, share-reached, root-part, below-part, shown-mark, shown-rules, branch-part, later-part}
 use Rattle.engine.proofs.Openers.{opener}
 
 -- ---- numbers in range are read as they are
-pub within_same : (x high : ℕ) → 0 < x → x ≤ high → within x high ≡ x - 1
+pub within_same : (x high : ℕ) → 0 < x → x ≤ high → within x high ≡ Some (x - 1)
 within_same x high l h = rw (le-leb 1 x l, le-leb x high h)
 
 -- ---- rows that are entered
-pub enter-none : (r : Rows) (k g c : ℕ) → k ≡ 0 → r ≡ entered r k g c
-unfolding entered
-enter-none r zero g c e = refl
-enter-none r (suc j) g c e = absurd (omega arith)
+row-some : (rs : List Entrance) (k : ℕ) (e : Entrance) → (k ≡ 0 → ⊥) → set rs (k - 1) e ≡ row_entered rs k e
+unfolding row_entered
+row-some rs zero e h = absurd (h refl)
+row-some rs (suc j) e h = let q : suc j - 1 ≡ j = omega arith in ap (λ i. set rs i e) q
 
-pub enter-some : (r : Rows) (k g c : ℕ) → (k ≡ 0 → ⊥) → record { stages = set r.stages (k - 1) g; left = set r.left (k - 1) c } ≡ entered r k g c
-unfolding entered
-enter-some r zero g c h = absurd (h refl)
-enter-some r (suc j) g c h =
-    let e : suc j - 1 ≡ j = omega arith in ap (λ i. record { stages = set r.stages i g; left = set r.left i c }) e
+pub enter-none : (s : Pass) (t : Choice) → t.rest ≡ 0 → s ≡ entered s t
+unfolding row_entered
+enter-none s t e = rw e
 
-pub enter-full : (r : Rows) (k g c : ℕ) → Full r → Full (entered r k g c)
-unfolding entered
-enter-full r zero g c f = f
-enter-full r (suc j) g c f = record { stages = length-set r.stages j g ∙ f.stages; left = length-set r.left j c ∙ f.left }
+pub enter-some : (s : Pass) (t : Choice) → (t.rest ≡ 0 → ⊥) → record { run = s.run; rows = set s.rows (t.rest - 1) (entrance_of t) } ≡ entered s t
+enter-some s t h = ap (λ (rs : List Entrance). record { run = s.run; rows = rs }) (row-some s.rows t.rest (entrance_of t) h)
+
+enter-full : (rs : List Entrance) (k : ℕ) (e : Entrance) → length rs ≡ max_loads → length (row_entered rs k e) ≡ max_loads
+unfolding row_entered
+enter-full rs zero e f = f
+enter-full rs (suc j) e f = length-set rs j e ∙ f
 
 -- the row that is entered is known, and every other that was known still is
-pub enter-known : (p : Problem) (r : Rows) → Full r → (k g c : ℕ) → RowEntered p k g c
-    → (i : ℕ) → i < max_loads → (k ≡ suc i) ⊎ Known p r i → Known p (entered r k g c) i
-unfolding entered
-enter-known p r f zero g c h i l (inl e) = absurd (omega arith)
-enter-known p r f zero g c h i l (inr o) = o
-enter-known p r f (suc j) g c h i l o = go (eqb i j) refl o
+enter-known : (p : Problem) (rs : List Entrance) → length rs ≡ max_loads → (k : ℕ) (e : Entrance) → RowEntered p k e.stage e.left
+    → (i : ℕ) → i < max_loads → (k ≡ suc i) ⊎ Known p rs i → Known p (row_entered rs k e) i
+unfolding row_entered
+enter-known p rs f zero e h i l (inl q) = absurd (omega arith)
+enter-known p rs f zero e h i l (inr o) = o
+enter-known p rs f (suc j) e h i l o = go (eqb i j) refl o
   where
-    same : i ≡ j → RowEntered p (suc i) (get_or (set r.stages j g) i 0) (get_or (set r.left j c) i 0)
-    same e =
-        rw (e, get_or-set_same r.stages j g 0 (omega (arith, f.stages)), get_or-set_same r.left j c 0 (omega (arith, f.left))) h
+    same : i ≡ j → Known p (set rs j e) i
+    same q = rw (q, get_or-set_same rs j e no_entrance (omega (arith, f))) h
 
-    other : (i ≡ j → ⊥) → Known p r i → RowEntered p (suc i) (get_or (set r.stages j g) i 0) (get_or (set r.left j c) i 0)
-    other e o = rw (get_or-set_other r.stages j i g 0 e, get_or-set_other r.left j i c 0 e) o
+    other : (i ≡ j → ⊥) → Known p rs i → Known p (set rs j e) i
+    other q o = rw (get_or-set_other rs j i e no_entrance q) o
 
-    go : (t : Bool) → eqb i j ≡ t → (suc j ≡ suc i) ⊎ Known p r i → RowEntered p (suc i) (get_or (set r.stages j g) i 0) (get_or (set r.left j c) i 0)
+    go : (t : Bool) → eqb i j ≡ t → (suc j ≡ suc i) ⊎ Known p rs i → Known p (set rs j e) i
     go true q o = same (eqb-true i j q)
-    go false q (inl e) = same (omega arith)
+    go false q (inl z) = same (omega arith)
     go false q (inr o) = other (eqb-false i j q) o
 
 next_of : (p : Problem) (k g c : ℕ) → (row_choice p k g c).rest ≡ next_sibling (loads_for p) k
@@ -148,7 +150,7 @@ module _ (p : Problem) (ok : Lawful p) where
         ∙ ap (run_of max_loads) (sym (order-next (entries_for p) n))
 
     -- load n + 1 is passed, after the rows that the earlier loads and its own row lead to
-    pass-load : (s : Pass) → s.run ≡ run_of max_loads (in_order (entries_for p) 1 n) → Full s.rows
+    pass-load : (s : Pass) → s.run ≡ run_of max_loads (in_order (entries_for p) 1 n) → length s.rows ≡ max_loads
         → ((i j : ℕ) → suc n ≤ i → i < p.tables.loads.count → 0 < j → j ≤ n → Opens (loads_for p) j (suc i) → Known p s.rows i)
         → ((i : ℕ) → i < p.tables.loads.count → 1 < suc n → next_sibling (loads_for p) (suc n) ≡ suc i → Known p s.rows i)
         → Passed p (suc n) (passed_load s (suc n) r q (load_choice p (suc n) q c))
@@ -157,8 +159,8 @@ module _ (p : Problem) (ok : Lawful p) where
         let below = below-entered (suc n) r q c h in
         record {
           run = run_more s.run e;
-          full = enter-full s.rows _ _ _ f;
-          led = λ i j a b o d w. enter-known p s.rows f _ _ _ below i (omega (arith, ok.sane.loads)) (known i j a b o (eq-or-lt_of_le d) w);
+          full = enter-full s.rows _ _ f;
+          led = λ i j a b o d w. enter-known p s.rows f _ _ below i (omega (arith, ok.sane.loads)) (known i j a b o (eq-or-lt_of_le d) w);
         }
       where
         known : (i j : ℕ) → suc n ≤ i → i < p.tables.loads.count → 0 < j → (j ≡ suc n) ⊎ (j < suc n) → Opens (loads_for p) j (suc i)
@@ -169,7 +171,7 @@ module _ (p : Problem) (ok : Lawful p) where
 
   -- the root, in its start state with the whole budget
   pub pass-root : 0 < p.tables.loads.count → 0 < (start_best (book_for p) (items_for p) (loads_for p) p.tables.budget).value
-      → (s : Pass) → s.run ≡ run_of max_loads [] → Full s.rows
+      → (s : Pass) → s.run ≡ run_of max_loads [] → length s.rows ≡ max_loads
       → (let q = suc (start_best (book_for p) (items_for p) (loads_for p) p.tables.budget).index in
       Passed p 1 (passed_load s 1 0 q (load_choice p 1 q p.tables.budget)))
   unfolding in_order
@@ -185,17 +187,15 @@ module _ (p : Problem) (ok : Lawful p) where
         let o = opener (loads_for p) ok.loads.ordered (suc n) (omega arith) (omega (arith, loads-long p ok)) in
         h.led n o.0 (le_refl n) few o.1 (omega (arith, o.2)) o.3
 
-    pub pass_step : (let t = row_choice p (suc n) (get_or s.rows.stages n 0) (get_or s.rows.left n 0) in
-        Passed p (suc n) (passed_load (record { run = s.run; rows = entered s.rows t.rest t.stage t.left }) (suc n) t.rule t.label
-        (load_choice p (suc n) t.label t.share)))
+    pub pass_step : (let t = row_choice p (suc n) (entrance_at s.rows n).stage (entrance_at s.rows n).left in
+        Passed p (suc n) (passed_load (entered s t) (suc n) t.rule t.label (load_choice p (suc n) t.label t.share)))
     pass_step =
-        let t = row_choice p (suc n) (get_or s.rows.stages n 0) (get_or s.rows.left n 0) in
+        let t = row_choice p (suc n) (entrance_at s.rows n).stage (entrance_at s.rows n).left in
         let later = later-entered n _ _ row-known in
-        let rows = entered s.rows t.rest t.stage t.left in
-        pass-load n t.rule t.label t.share few (branch-entered n _ _ row-known) (record { run = s.run; rows = rows }) h.run
-        (enter-full s.rows t.rest t.stage t.left h.full)
-        (λ i j a b o d w. enter-known p s.rows h.full t.rest t.stage t.left later i (omega (arith, ok.sane.loads)) (inr (h.led i j (omega arith) b o d w)))
-        (λ i b o w. enter-known p s.rows h.full t.rest t.stage t.left later i (omega (arith, ok.sane.loads)) (inl (next-is ∙ w)))
+        pass-load n t.rule t.label t.share few (branch-entered n _ _ row-known) (entered s t) h.run
+        (enter-full s.rows t.rest (entrance_of t) h.full)
+        (λ i j a b o d w. enter-known p s.rows h.full t.rest (entrance_of t) later i (omega (arith, ok.sane.loads)) (inr (h.led i j (omega arith) b o d w)))
+        (λ i b o w. enter-known p s.rows h.full t.rest (entrance_of t) later i (omega (arith, ok.sane.loads)) (inl (next-is ∙ w)))
       where
-        next-is : (row_choice p (suc n) (get_or s.rows.stages n 0) (get_or s.rows.left n 0)).rest ≡ next_sibling (loads_for p) (suc n)
+        next-is : (row_choice p (suc n) (entrance_at s.rows n).stage (entrance_at s.rows n).left).rest ≡ next_sibling (loads_for p) (suc n)
         next-is = next_of p (suc n) _ _

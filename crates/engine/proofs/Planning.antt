@@ -14,14 +14,15 @@ use Rattle.cells.specs.declared.problem.Problem.{Problem}
 use Rattle.cells.specs.declared.problem.Shape.{Shape}
 use Rattle.cells.specs.Problem.{plan_problem, check_problem, loads_for, shape_of, Sane, Lawful}
 use Rattle.marks.specs.Sets.{mark_in}
-use Rattle.cells.specs.Outline.{Outlines}
+use Rattle.cells.specs.Outline.{OutlineFits, Outlines}
 use Rattle.cells.specs.Work.{cells_needed, Ready, FilledTo}
 use Rattle.cells.specs.Stretch.{FilledBy}
 use Rattle.cells.proofs.Filling.{holds-none, filled-rest}
+use Rattle.cells.proofs.InRange.{outline-fits}
 use Rattle.cells.proofs.Places.{cells-small}
 use Rattle.cells.proofs.Stretches.{loads-long}
 use Rattle.runs.specs.Outcome.{found, stored_outcome}
-use Rattle.engine.specs.Pass.{best_for, entries_for, answer_to, check_cells, Complete}
+use Rattle.engine.specs.Pass.{best_for, entries_for, answer_to, check_cells, Complete, Readable}
 use Rattle.meaning.specs.Cells.{cells_of}
 
 -- work that has the cells of a problem, by its outline
@@ -41,6 +42,18 @@ module _ (p : Problem) (sh : Shape) (o : List ℕ) (d : Outlines p sh o) (w : Li
 
     pub rest-kept : drop (cells_needed (shape_of p)) v ≡ drop (cells_needed (shape_of p)) w
     rest-kept = subst (λ i. drop i v ≡ drop i w) (en ∙ ap cells_needed d.shape) (filled-rest p (f p d) l)
+
+-- work that was filled is read, and what is read from is in range
+module _ (sh : Shape) (o w : List ℕ) where
+  pub filled-readable : (p : Problem) → Complete p sh o w → Readable sh o w
+  filled-readable p k = record { problem = p; outlined = k.outlined; ready = k.ready; some = k.some }
+
+  module _ (k : Readable sh o w) where
+    pub readable-fits : OutlineFits sh o
+    readable-fits = outline-fits k.problem _ _ k.outlined
+
+    pub readable-some : 0 < sh.loads
+    readable-some = omega (arith, k.some, ap (λ (y : Shape). y.loads) k.outlined.shape)
 
 -- the first cells become 0, and the others are as they came
 pub all-cleared : (w v u : List ℕ) (n m : ℕ) → u ≡ replicate n 0 ++ drop n v → n ≡ m → drop m v ≡ drop m w → u ≡ replicate m 0 ++ drop m w

@@ -1,15 +1,12 @@
 -- A portion of a plan: its cells are those of the tables, and what is read from all of them is in range for the tables. Assumes nothing.
-use Prim.Native.Nat.{ℕ, zero, suc, ◌+◌, ◌-◌, ◌*◌, ◌≤◌, ◌<◌}
+use Prim.Native.Nat.{ℕ, ◌+◌, ◌-◌, ◌*◌, ◌≤◌, ◌<◌}
 use mathlib.Core.Path.{◌≡◌, refl, sym, ap, ◌∙◌, subst}
-use mathlib.Core.Bool.{Bool, true, false, not, ◌&&◌}
+use mathlib.Core.Bool.{Bool, true, false}
 use mathlib.Core.List.{List}
+use Rattle.std.specs.Prelude.{Option, None}
 use native.Mathlib.Omega.{arith}
-use borrow.Author.Tests.{eqb-false, ne_eqb, not-true}
-use lib.Dec.{eqb}
 use lib.ListN.{length, get_or}
 use Rattle.lists.specs.Tests.{pick}
-use Rattle.lists.proofs.Bools.{and_left, and_right}
-use Rattle.tables.specs.declared.entry.Entry.{Entry}
 use Rattle.tables.specs.declared.rule.TransitionList.{TransitionList}
 use Rattle.tables.specs.declared.tables.StoredTables.{StoredTables}
 use Rattle.tables.specs.Limits.{max_loads, Limits}
@@ -25,8 +22,9 @@ use Rattle.cells.specs.Work.{place_of, cells_needed, Ready, cell_of, FilledTo, F
 use Rattle.cells.proofs.Filling.{filled-front, filled-rest}
 use Rattle.cells.proofs.Stretches.{loads-long}
 use Rattle.cells.proofs.Tables.{rules-length}
+use Rattle.runs.specs.declared.run.Run.{Run}
 use Rattle.runs.specs.declared.outcome.StoredOutcome.{StoredOutcome}
-use Rattle.runs.specs.Outcome.{no_set, found, status_of, stored_outcome, range_of, held_range, outcome_in, keeps_outcome}
+use Rattle.runs.specs.Outcome.{no_set, found, stored_outcome, stored_found, range_of, held_range, outcome_in, keeps_outcome}
 use Rattle.runs.proofs.Stored.{stored-in, found_in}
 use Rattle.engine.specs.Pass.{Readable, Traced}
 use Rattle.engine.specs.Portion.{in_range, PartFilled, ReadFrom}
@@ -74,26 +72,19 @@ module _ (t : StoredTables) (ok : Lawful (plan_problem t)) where
     row_rules = held-rules t.book.row_rules ok.rows i;
   }
 
-  in-range-same : (r : StoredOutcome) → keeps_outcome (held_range t) r ≡ true → 0 < r.status → in_range t r ≡ r
+  in-range-same : (r : Option Run) → keeps_outcome (held_range t) (stored_found r) ≡ true → in_range t r ≡ r
   unfolding in_range
-  in-range-same r k s = rw (ne_eqb r.status 0 (λ e. absurd (omega arith)), k)
+  in-range-same r k = rw k
 
-  pub in-range-kept : (r : StoredOutcome) → (keeps_outcome (held_range t) (in_range t r) ≡ true) × (0 < (in_range t r).status)
+  pub in-range-kept : (r : Option Run) → keeps_outcome (held_range t) (stored_found (in_range t r)) ≡ true
   unfolding in_range outcome_in
-  in-range-kept r = go (not (eqb r.status 0) && keeps_outcome (held_range t) r) refl
+  in-range-kept r = go (keeps_outcome (held_range t) (stored_found r)) refl
     where
-      go : (b : Bool) → not (eqb r.status 0) && keeps_outcome (held_range t) r ≡ b
-          → (keeps_outcome (held_range t) (pick b r (stored_outcome max_loads no_set)) ≡ true) × (0 < (pick b r (stored_outcome max_loads no_set)).status)
-      go true e =
-          let s = eqb-false r.status 0 (not-true _ (and_left (not (eqb r.status 0)) _ e)) in
-          (and_right (not (eqb r.status 0)) _ e, omega (arith, s))
-      go false e = (stored-in max_loads (omega arith) (held_range t) few no_set refl, omega arith)
+      go : (b : Bool) → keeps_outcome (held_range t) (stored_found r) ≡ b → keeps_outcome (held_range t) (stored_found (pick b r None)) ≡ true
+      go true e = e
+      go false e = stored-in max_loads (omega arith) (held_range t) few no_set refl
 
   -- ---- the plan's own outcome is in range
-  some-status : (v : ℕ) (es : List Entry) → 0 < status_of (found v es)
-  some-status zero es = omega arith
-  some-status (suc v) es = omega arith
-
   module _ (h : Limits (tables_of t)) where
     abbrev outcome : StoredOutcome
     outcome = stored_outcome max_loads (found (best_plan (tables_of t)) (plan_entries (tables_of t)))
@@ -103,8 +94,8 @@ module _ (t : StoredTables) (ok : Lawful (plan_problem t)) where
         let m : (held_range t).loads ≤ max_loads = few in
         rw range-held (stored-in max_loads (omega arith) (range_of (tables_of t)) (omega (arith, ap (λ r. r.loads) range-held)) _ (found_in (tables_of t) h))
 
-    pub plan-same : in_range t outcome ≡ outcome
-    plan-same = in-range-same outcome plan-kept (some-status (best_plan (tables_of t)) _)
+    pub plan-same : (r : Option Run) → stored_found r ≡ outcome → in_range t r ≡ r
+    plan-same r e = in-range-same r (ap (keeps_outcome (held_range t)) e ∙ plan-kept)
 
 module _ (t : StoredTables) (p : Problem) (ok : Lawful p) (e : p ≡ plan_problem t) where
   own : Lawful (plan_problem t)
@@ -133,14 +124,13 @@ module _ (t : StoredTables) (p : Problem) (ok : Lawful p) (e : p ≡ plan_proble
     readable-here = record { problem = p; outlined = d; ready = ready-here; some = some-own }
 
     -- what was read, kept in range
-    pub read-from : Limits (tables_of t) → (r s : StoredOutcome) → Traced sh o w s → r ≡ in_range t s → ReadFrom t w r
+    pub read-from : Limits (tables_of t) → (r s : Option Run) → Traced sh o w s → r ≡ in_range t s → ReadFrom t w r
     read-from h r s read er = record {
-      right = λ g. er ∙ ap (in_range t) (plan-read g) ∙ plan-same t own h;
-      kept = rw er (in-range-kept t own s).0;
-      some = rw er (in-range-kept t own s).1;
+      right = λ g. ap stored_found (er ∙ plan-same t own h s (plan-read g)) ∙ plan-read g;
+      kept = rw er (in-range-kept t own s);
     }
       where
-        plan-read : Holding (tables_of t) w (cells_of (tables_of t)) → s ≡ stored_outcome max_loads (found (best_plan (tables_of t)) (plan_entries (tables_of t)))
+        plan-read : Holding (tables_of t) w (cells_of (tables_of t)) → stored_found s ≡ stored_outcome max_loads (found (best_plan (tables_of t)) (plan_entries (tables_of t)))
         plan-read g =
             let all : FilledTo p w (cells_needed sh) = subst (λ (p : Problem). FilledTo p w (cells_needed sh)) (sym e) (filled-to t own w _ (rw cells_are g)) in
             read p (record { outlined = d; ready = ready-here; holds = all; some = some-own }) ∙ plan-is t p ok e

@@ -3,6 +3,7 @@ use Prim.Native.Nat.{ℕ, zero, suc, ◌+◌, ◌-◌, ◌≤◌, ◌<◌}
 use mathlib.Core.Path.{◌≡◌, sym, ap, ap₂, ◌∙◌, subst}
 use mathlib.Core.Bool.{Bool}
 use mathlib.Core.List.{List}
+use Rattle.std.specs.Prelude.{Option, Some}
 use mathlib.Core.Logic.{◌⊎◌, inl, inr}
 use native.Mathlib.Omega.{arith}
 use native.Mathlib.Nat.{le_trans, le_refl}
@@ -203,9 +204,9 @@ module _ (p : Problem) (o w : List ℕ) (all : Complete p (shape_of p) o w) wher
           made r m a = record { rule = suc number; label = r.label; share = a; rest = m; stage = r.to; left = c - a }
 
 -- what `choose` promises of its answer d for load k and state or stage x with allowance c
-abbrev pub Promised : Shape → (o w : List ℕ) → (k x c : ℕ) → Choice → Type 0
+abbrev pub Promised : Shape → (o w : List ℕ) → (k x c : ℕ) → Option Choice → Type 0
 Promised sh o w k x c d =
-    cells_from w (place_of sh k x) c ≡ reached sh o w k x c → 0 < reached sh o w k x c → d ≡ choice_in sh o w (joint_in sh o k x) (rules_in sh o x) c
+    cells_from w (place_of sh k x) c ≡ reached sh o w k x c → 0 < reached sh o w k x c → d ≡ Some (choice_in sh o w (joint_in sh o k x) (rules_in sh o x) c)
 
 -- of the shape at hand
 module _ (p : Problem) (sh : Shape) (o w : List ℕ) (all : Complete p sh o w) where
@@ -215,21 +216,21 @@ module _ (p : Problem) (sh : Shape) (o w : List ℕ) (all : Complete p sh o w) w
   pub budget-is : sh.budget ≡ p.tables.budget
   budget-is = ap (λ (y : Shape). y.budget) all.outlined.shape
 
-  module _ (j x c : ℕ) (l : suc j ≤ p.tables.loads.count) (fits : c ≤ p.tables.budget) (d : Choice) (h : Promised sh o w (suc j) x c d) where
+  module _ (j x c : ℕ) (l : suc j ≤ p.tables.loads.count) (fits : c ≤ p.tables.budget) (d : Option Choice) (h : Promised sh o w (suc j) x c d) where
     own : Promised (shape_of p) o w (suc j) x c d
     own = subst (λ (y : Shape). Promised y o w (suc j) x c d) all.outlined.shape h
 
-    pub load_is : x < p.tables.book.states → 0 < branch_for p (suc j) (suc x) c → d ≡ load_choice p (suc j) (suc x) c
+    pub load_is : x < p.tables.book.states → 0 < branch_for p (suc j) (suc x) c → d ≡ Some (load_choice p (suc j) (suc x) c)
     load_is s pos =
         own (cell-settled p o w whole j x c l (omega arith) fits)
         (rw (cell-reached p o w whole j x c l (omega arith) fits, stretches.cell-branch p (suc j) x c s) pos)
-        ∙ load-chosen p o w whole j x c l (omega arith) fits s pos
+        ∙ ap Some (load-chosen p o w whole j x c l (omega arith) fits s pos)
 
-    pub row_is : (g : ℕ) → 0 < g → g ≤ p.tables.book.stages → x ≡ p.tables.book.states + (g - 1) → 0 < row_for p (suc j) g c → d ≡ row_choice p (suc j) g c
+    pub row_is : (g : ℕ) → 0 < g → g ≤ p.tables.book.stages → x ≡ p.tables.book.states + (g - 1) → 0 < row_for p (suc j) g c → d ≡ Some (row_choice p (suc j) g c)
     row_is g low high ex pos =
         let s : p.tables.book.states ≤ x = omega arith in
         let lx : x < p.tables.book.states + p.tables.book.stages = omega arith in
         let eg : suc (x - p.tables.book.states) ≡ g = omega arith in
         own (cell-settled p o w whole j x c l lx fits)
         (rw (cell-reached p o w whole j x c l lx fits, stretches.cell_row p (suc j) x c s, eg) pos)
-        ∙ row-chosen p o w whole j x c l lx fits s g eg pos
+        ∙ ap Some (row-chosen p o w whole j x c l lx fits s g eg pos)

@@ -1,9 +1,10 @@
 -- Searches of the cells: a turn of a loop that keeps the greatest value, values that count where a test passes, and the lowest number with the
 -- greatest value, found by comparing. Assumes nothing.
-use Prim.Native.Nat.{ℕ, suc, ◌+◌, ◌-◌, ◌≤◌, ◌<◌}
+use Prim.Native.Nat.{ℕ, suc, zero-le, ◌+◌, ◌-◌, ◌≤◌, ◌<◌}
 use mathlib.Core.Path.{◌≡◌, refl, sym, ap, ap₂, ◌∙◌}
 use mathlib.Core.Bool.{Bool, true, false}
 use mathlib.Core.List.{List}
+use Rattle.std.specs.Prelude.{Option, None, Some, IfSome, MatchOption}
 use native.Mathlib.Numerals.{add-one}
 use native.Mathlib.Omega.{arith}
 use native.Mathlib.Decide.{dec_lt}
@@ -18,6 +19,13 @@ use Rattle.cells.specs.declared.problem.Shape.{Shape}
 use Rattle.cells.specs.Work.{place_of, Ready}
 use Rattle.cells.proofs.Places.{place-room}
 use Rattle.engine.specs.Search.{FirstAt, Reaches}
+
+-- ---- what there is
+pub some_same : {A : Type 0} {x y : A} → Some x ≡ Some y → x ≡ y
+some_same e = cc
+
+pub none-some : {A : Type 0} {x : A} → None ≡ Some x → ⊥
+none-some e = cc
 
 pub greatest-none : (f : ℕ → ℕ) → record { value = 0; index = 0 } ≡ argmax f 0
 unfolding argmax
@@ -44,21 +52,28 @@ argmax-met f n j l pos e h = go (dec_lt (argmax f n).index j) (dec_lt j (argmax 
     go (no k) (no d) = omega arith
 
 -- so the first that reaches a goal which no value exceeds
-pub first-reaches : (f : ℕ → ℕ) (goal c r : ℕ) → FirstAt f goal (c + 1) r → 0 < goal → (argmax f (suc c)).value ≤ goal
-    → Reaches (argmax f (suc c)).value (argmax f (suc c)).index goal c r
-first-reaches f goal c r d pos le = record { hit = λ l. (whole l, sym (index l)); miss = λ l e. none l e }
+pub first-reaches : (f : ℕ → ℕ) (goal c : ℕ) (r : Option ℕ) → FirstAt f goal (c + 1) r → 0 < goal → (argmax f (suc c)).value ≤ goal
+    → Reaches (argmax f (suc c)).value (argmax f (suc c)).index goal r
+first-reaches f goal c None h pos le =
+    λ e. let k = argmax-found f (suc c) (omega arith) in h (argmax f (suc c)).index (omega (arith, k.0)) (k.1 ∙ e)
+first-reaches f goal c (Some r) h pos le = (whole, sym index)
   where
-    whole : r ≤ c → (argmax f (suc c)).value ≡ goal
-    whole l = omega (arith, argmax-bound f (suc c) r (omega arith), d.found (omega arith), le)
+    whole : (argmax f (suc c)).value ≡ goal
+    whole = omega (arith, argmax-bound f (suc c) r (omega (arith, h.0)), h.1, le)
 
-    index : r ≤ c → (argmax f (suc c)).index ≡ r
-    index l =
-        argmax-met f (suc c) r (omega arith) (omega (arith, whole l)) (d.found (omega arith) ∙ sym (whole l)) (λ m k e. d.passed m k (e ∙ whole l))
+    index : (argmax f (suc c)).index ≡ r
+    index = argmax-met f (suc c) r (omega (arith, h.0)) (omega (arith, whole)) (h.1 ∙ sym whole) (λ m k e. h.2 m k (e ∙ whole))
 
-    none : c < r → (argmax f (suc c)).value ≡ goal → ⊥
-    none l e =
-        let h = argmax-found f (suc c) (omega arith) in
-        d.passed (argmax f (suc c)).index (omega (arith, h.0, l)) (h.1 ∙ e)
+pub first-within : (f : ℕ → ℕ) (goal c : ℕ) (r : Option ℕ) → FirstAt f goal (c + 1) r → IfSome r (λ a. a ≤ c)
+first-within f goal c None h = tt
+first-within f goal c (Some r) h = omega (arith, h.0)
+
+-- the first is found by a search of the range
+pub first-at : (f : ℕ → ℕ) (goal n : ℕ) (r : Option ℕ)
+    → MatchOption r ((m : ℕ) → 0 ≤ m → m < n → f m ≡ goal → ⊥) (λ i. (0 ≤ i) × (i < n) × (f i ≡ goal) × ((m : ℕ) → 0 ≤ m → m < i → f m ≡ goal → ⊥))
+    → FirstAt f goal n r
+first-at f goal n None h = λ m l. h m zero-le l
+first-at f goal n (Some r) h = (h.1, h.2, λ m l. h.3 m zero-le l)
 
 -- a cell is within the work
 pub cell-within : (sh : Shape) (w : List ℕ) → Ready sh w → (k x c : ℕ) → 0 < k → k ≤ sh.loads → x < sh.states + sh.stages → c ≤ sh.budget

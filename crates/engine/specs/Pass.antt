@@ -1,7 +1,7 @@
 -- The pass over the loads in number order: what is chosen for each, and what is known when some loads were passed.
 -- It stands for "Equals are parted from the top down" of paper 01: a load's row is known when it is reached, since its parent and the
 -- earlier children of its row have lower numbers. Assumes nothing.
-use Rattle.std.specs.Prelude.{ℕ, zero, suc, ◌+◌, ◌-◌, ◌*◌, ◌≤◌, ◌<◌, ◌≡◌, List, ◌⊎◌, length, get_or, set}
+use Rattle.std.specs.Prelude.{ℕ, zero, suc, ◌+◌, ◌-◌, ◌*◌, ◌≤◌, ◌<◌, ◌≡◌, List, Option, None, Some, IsSomeAnd, ◌⊎◌, length, get_or, set}
 use Rattle.lists.specs.Tests.{pick}
 use Rattle.tables.specs.declared.load.Load.{Load}
 use Rattle.tables.specs.Limits.{max_loads, between}
@@ -17,8 +17,9 @@ use Rattle.cells.specs.Problem.{book_for, loads_for, items_for}
 use Rattle.cells.specs.Outline.{Outlines}
 use Rattle.cells.specs.Work.{cells_needed, Ready, FilledTo}
 use Rattle.runs.specs.declared.outcome.StoredOutcome.{StoredOutcome}
-use Rattle.runs.specs.Outcome.{found, stored_outcome}
-use Rattle.engine.specs.declared.pass.Rows.{Rows}
+use Rattle.runs.specs.declared.run.Run.{Run}
+use Rattle.runs.specs.Outcome.{found, stored_outcome, stored_found}
+use Rattle.engine.specs.declared.pass.Entrance.{Entrance}
 use Rattle.engine.specs.declared.pass.Pass.{Pass}
 use Rattle.engine.specs.declared.choice.Choice.{Choice}
 use Rattle.runs.specs.Runs.{run_of, with_entry}
@@ -72,15 +73,22 @@ row_choice p k g c = record {
 }
 
 -- the row from load k onward is entered; load 0 stands for no load
-unfoldable pub entered : Rows → (k g c : ℕ) → Rows
-entered r zero g c = r
-entered r (suc j) g c = record { stages = set r.stages j g; left = set r.left j c }
+unfoldable pub row_entered : List Entrance → (k : ℕ) → Entrance → List Entrance
+row_entered rs zero e = rs
+row_entered rs (suc j) e = set rs j e
+
+-- where the row that follows a choice is entered
+abbrev pub entrance_of : Choice → Entrance
+entrance_of t = record { stage = t.stage; left = t.left }
+
+abbrev pub entered : Pass → Choice → Pass
+entered s t = record { run = s.run; rows = row_entered s.rows t.rest (entrance_of t) }
 
 -- load k is passed, and the row below it is entered
 unfoldable pub passed_load : Pass → (k row_rule q : ℕ) → Choice → Pass
 passed_load s k r q t = record {
   run = with_entry s.run (record { number = k; mark = t.label; state = q; rule = t.rule; row = r });
-  rows = entered s.rows t.rest t.stage t.left;
+  rows = row_entered s.rows t.rest (entrance_of t);
 }
 
 -- a branch of load k and a row from load k onward that are part of the chosen run, with an allowance and a stage in range
@@ -98,18 +106,21 @@ pub record RowEntered (p : Problem) (k g c : ℕ) : Type 0 where
 abbrev pub Opens : List Load → (j k : ℕ) → Type 0
 Opens ls j k = (first_child ls j ≡ k) ⊎ ((1 < j) × (next_sibling ls j ≡ k))
 
--- the row from load i + 1 onward is entered as the rows say
-abbrev pub Known : Problem → Rows → ℕ → Type 0
-Known p r i = RowEntered p (suc i) (get_or r.stages i 0) (get_or r.left i 0)
+-- where the row from load i + 1 onward is entered, as the rows say
+abbrev pub no_entrance : Entrance
+no_entrance = record { stage = 0; left = 0 }
 
-pub record Full (r : Rows) : Type 0 where
-  pub stages : length r.stages ≡ max_loads
-  pub left : length r.left ≡ max_loads
+abbrev pub entrance_at : List Entrance → ℕ → Entrance
+entrance_at rs i = get_or rs i no_entrance
+
+-- it is part of the chosen run
+abbrev pub Known : Problem → List Entrance → ℕ → Type 0
+Known p rs i = RowEntered p (suc i) (entrance_at rs i).stage (entrance_at rs i).left
 
 -- the first n loads were passed: the run has them, and the rows that they lead to are known
 pub record Passed (p : Problem) (n : ℕ) (s : Pass) : Type 0 where
   pub run : s.run ≡ run_of max_loads (in_order (entries_for p) 1 n)
-  pub full : Full s.rows
+  pub full : length s.rows ≡ max_loads
   pub led : (i j : ℕ) → n ≤ i → i < p.tables.loads.count → 0 < j → j ≤ n → Opens (loads_for p) j (suc i) → Known p s.rows i
 
 -- ---- of the outline alone
@@ -120,14 +131,14 @@ pub record Readable (sh : Shape) (o w : List ℕ) : Type 0 where
   pub ready : Ready sh w
   pub some : 0 < problem.tables.loads.count
 
--- a number from 1 to high, less 1; else 0
-abbrev pub within : (x high : ℕ) → ℕ
-within x h = pick (between 1 h x) (x - 1) 0
+-- a number from 1 to high, less 1
+abbrev pub within : (x high : ℕ) → Option ℕ
+within x h = pick (between 1 h x) (Some (x - 1)) None
 
--- whatever problem that is, and if the cells hold what they are to hold, r is the pass with one load more
-abbrev pub PassedOn : Shape → (o w : List ℕ) → ℕ → (s r : Pass) → Type 0
-PassedOn sh o w n s r = (p : Problem) → Complete p sh o w → Passed p n s → 0 < n → n < p.tables.loads.count → Passed p (n + 1) r
+-- whatever problem that is, and if the cells hold what they are to hold, there is a pass with one load more
+abbrev pub PassedOn : Shape → (o w : List ℕ) → ℕ → Pass → Option Pass → Type 0
+PassedOn sh o w n s r = (p : Problem) → Complete p sh o w → Passed p n s → 0 < n → n < p.tables.loads.count → IsSomeAnd r (Passed p (n + 1))
 
 -- and r is the answer to it
-abbrev pub Traced : Shape → (o w : List ℕ) → StoredOutcome → Type 0
-Traced sh o w r = (p : Problem) → Complete p sh o w → r ≡ answer_to p
+abbrev pub Traced : Shape → (o w : List ℕ) → Option Run → Type 0
+Traced sh o w r = (p : Problem) → Complete p sh o w → stored_found r ≡ answer_to p

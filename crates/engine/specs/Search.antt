@@ -1,7 +1,7 @@
 -- What a search of the filled cells finds: the greatest value and the lowest number that has it, and the lowest rule and the smallest
 -- allowance that reach a goal.
 -- It stands for "the lowest .. that still reaches the best" and "the smallest allowance .. that does" of paper 01. Assumes nothing.
-use Rattle.std.specs.Prelude.{ℕ, suc, ◌-◌, ◌≤◌, ◌<◌, ◌≡◌, Bool, true, false, List}
+use Rattle.std.specs.Prelude.{ℕ, suc, ◌-◌, ◌<◌, ◌≡◌, Bool, true, false, List, Option, None, Some}
 use Rattle.lists.specs.Argmax.{guard, Greatest, argmax}
 use Rattle.marks.specs.Bits.{has_mark}
 use Rattle.tables.specs.declared.rule.Transition.{Transition}
@@ -24,11 +24,10 @@ greatest_of b = record { value = b.value; index = b.index }
 abbrev pub root_best : Shape → List ℕ → (c : ℕ) → Greatest
 root_best sh w c = argmax (λ s. guard (has_mark sh.starts.0 (suc s)) (held_branch sh w 1 (suc s) c)) sh.states
 
--- r is the first of the numbers below n at which f says the goal, or n
-pub record FirstAt (f : ℕ → ℕ) (goal n r : ℕ) : Type 0 where
-  pub high : r ≤ n
-  pub passed : (m : ℕ) → m < r → f m ≡ goal → ⊥
-  pub found : r < n → f r ≡ goal
+-- the number, if any, is the first below n at which f says the goal
+abbrev pub FirstAt : (f : ℕ → ℕ) (goal n : ℕ) → Option ℕ → Type 0
+FirstAt f goal n None = (m : ℕ) → m < n → f m ≡ goal → ⊥
+FirstAt f goal n (Some r) = (r < n) × (f r ≡ goal) × ((m : ℕ) → m < r → f m ≡ goal → ⊥)
 
 -- what a row rule reaches where the joint's branch gets the part a of the allowance c
 abbrev pub split_at : Shape → List ℕ → Joint → ℕ → Transition → ℕ → ℕ
@@ -42,10 +41,10 @@ share_if true sh w t c r = (shares (held_branch sh w t.load r.label) (held_row s
 abbrev pub share_of : Shape → List ℕ → Joint → ℕ → Transition → ℕ
 share_of sh w t = share_if t.branch sh w t
 
--- r is the share with which the goal is reached, or more than the allowance c
-pub record Reaches (reach share goal c r : ℕ) : Type 0 where
-  pub hit : r ≤ c → (reach ≡ goal) × (r ≡ share)
-  pub miss : c < r → reach ≡ goal → ⊥
+-- the number, if any, is the share with which the goal is reached
+abbrev pub Reaches : (reach share goal : ℕ) → Option ℕ → Type 0
+Reaches reach share goal None = reach ≡ goal → ⊥
+Reaches reach share goal (Some r) = (reach ≡ goal) × (r ≡ share)
 
 -- what is chosen by rule j
 abbrev pub choice_by : Shape → List ℕ → Joint → (c j : ℕ) → Transition → Choice

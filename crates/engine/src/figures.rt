@@ -21,7 +21,7 @@ pub struct Figures {
 fn counted_if(on: bool, figure: u16) -> u32
     ensures { (result ≡ counted (guard on 1) figure) × (result ≤ 65535) }
 {
-    if on { figure as u32 } else { 0 }
+    if on { u32::from(figure) } else { 0 }
 }
 
 // The sums of the figures of the loads that are in the set.
@@ -29,14 +29,13 @@ pub fn figures_of(loads: LoadList, set: LoadSet) -> Figures
     requires { loads.count ≤ max_loads }
     ensures { result ≡ figures_of (loads_of loads) (mark_in set) }
 {
-    let n = loads.count;
-    let mut power: u32 = 0;
-    let mut worth: u32 = 0;
-    for i in 0..n {
-        let l = loads.items[i];
+    let used = &loads.items[..loads.count];
+    let mut power = 0;
+    let mut worth = 0;
+    for (i, load) in used.iter().enumerate() {
         let on = set.has(i + 1);
-        power += counted_if(on, l.power);
-        worth += counted_if(on, l.worth);
+        power += counted_if(on, load.power);
+        worth += counted_if(on, load.worth);
     }
     Figures { power, worth }
 }

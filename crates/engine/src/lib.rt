@@ -4,6 +4,7 @@
 mod best;
 mod choice;
 pub mod figures;
+mod filled;
 pub mod need;
 mod pass;
 pub mod plan;

@@ -8,7 +8,7 @@ use crate::plan::{outlined, read_back};
 use cells::fill::fill;
 use cells::outline::OUTLINE;
 use cells::problem::plan_problem;
-use runs::outcome::{NO_SET, NOTHING, RunRange, StoredOutcome};
+use runs::outcome::{RunRange, StoredOutcome};
 use runs::run::Run;
 use tables::tables::StoredTables;
 
@@ -24,21 +24,19 @@ pub fn fill_part(t: StoredTables, work: &mut [u32], from: usize, to: usize)
     fill(sh, &outline[..], work, from, to);
 }
 
-// What was read, where it is in range for the tables; else that no allowed set fits. (Work that others wrote in may say anything.)
-fn in_range(t: StoredTables, found: StoredOutcome) -> StoredOutcome
+// The run that was read, where it is in range for the tables. (Work that others wrote in may say anything.)
+fn in_range(t: StoredTables, found: Option<Run>) -> Option<Run>
     ensures { result ≡ in_range t found }
 {
-    if (found.status != NOTHING) & found.keeps_limits(RunRange::of(t)) {
+    let outcome = StoredOutcome::of(found);
+    if outcome.keeps_limits(RunRange::of(t)) {
         return found;
     }
-    StoredOutcome {
-        status: NO_SET,
-        run: Run::EMPTY,
-    }
+    None
 }
 
-// The outcome of the tables' plan is read from its cells, which are 0 afterwards.
-pub fn read_all(t: StoredTables, work: &mut [u32]) -> StoredOutcome
+// The run of the tables' plan is read from its cells, which are 0 afterwards.
+pub fn read_all(t: StoredTables, work: &mut [u32]) -> Option<Run>
     requires t_value { keeps_limits t ≡ true }
     requires count_nonzero { (0 < t.loads.count) × (cells_of (tables_of t) ≤ length work.old) }
     ensures read { ReadFrom t work.old result }

@@ -1,12 +1,15 @@
 -- The outcome of a plan, which a planner keeps beside the tables: on paper, as a planner holds it, and the range of its figures.
 -- It stands for "A plan, or its refusal 9, stores its outcome beside the tables" and "A stored figure out of range for the tables is refusal 1"
 -- of request Five of paper 02. Assumes nothing.
-use Rattle.std.specs.Prelude.{ℕ, zero, suc, Bool, true, false, ◌&&◌, List, [], eqb, leb, length, drop}
+use Rattle.std.specs.Prelude.{ℕ, zero, suc, Bool, true, false, ◌&&◌, List, [], Option, None, Some, Result, Ok, Err, eqb, leb, length, drop}
 use Rattle.lists.specs.Tests.{every, every_from}
 use Rattle.marks.specs.Sets.{loads_up_to}
 use Rattle.tables.specs.declared.tables.StoredTables.{StoredTables}
 use Rattle.tables.specs.declared.entry.Entry.{Entry}
+use Rattle.tables.specs.declared.refusal.Refusal.{Refusal}
+use Rattle.tables.specs.declared.refusal.Refusal.TheVariants.{NoPlan, NoneFits}
 use Rattle.tables.specs.Tables.{Tables}
+use Rattle.tables.specs.Limits.{max_loads}
 use Rattle.meaning.specs.Runs.{named_in}
 use Rattle.meaning.specs.Choice.{assigned}
 use Rattle.runs.specs.declared.run.Run.{Run}
@@ -50,6 +53,17 @@ status_of (planned es) = 2
 
 abbrev pub stored_outcome : (places : ℕ) → Outcome → StoredOutcome
 stored_outcome w o = record { status = status_of o; run = run_of w (entries_of o) }
+
+-- what a search found, as a planner stores it: no set, or the plan of a run
+abbrev pub stored_found : Option Run → StoredOutcome
+stored_found None = stored_outcome max_loads no_set
+stored_found (Some r) = record { status = 2; run = r }
+
+-- the run of the latest plan; else why there is none
+abbrev pub latest_by : (status : ℕ) → Run → Result Run Refusal
+latest_by zero r = Err NoPlan
+latest_by (suc zero) r = Err NoneFits
+latest_by (suc (suc k)) r = Ok r
 
 -- what a status says
 abbrev pub of_status : (status : ℕ) → List Entry → Outcome

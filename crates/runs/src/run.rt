@@ -3,15 +3,16 @@ ghost use Rattle.std.specs.Prelude.{◌≡◌, ◌≤◌, ◌<◌};
 ghost use Rattle.marks.specs.Sets.{mark_in};
 ghost use Rattle.tables.specs.Limits.{max_loads};
 ghost use Rattle.runs.specs.Runs.{entry_at, with_entry};
-ghost use Rattle.runs.specs.Places.{free_from};
+ghost use Rattle.runs.specs.Outcome.{zero_from, run_free};
 
 use marks::LoadSet;
 use tables::entry::Entry;
 use tables::load::MAX_LOADS;
 
-// A state, a load rule and a row rule for each load, in load order, and the loads that are on. Unused places hold 0.
+// A state, a load rule and a row rule for each load, in load order, and the loads that are on. Unused places hold 0. C has the planner's layout: so
+// they lie in columns, and `entry` and `with` have them load by load.
 #[repr(C)]
-#[derive(Clone, Copy)]
+#[derive(Clone, Copy, PartialEq, Eq)]
 pub struct Run {
     pub states: [u8; MAX_LOADS],
     pub load_rules: [u8; MAX_LOADS],
@@ -23,7 +24,14 @@ pub struct Run {
 fn mark_in(set: LoadSet, number: usize) -> u8
     ensures { result ≡ mark_in set number }
 {
-    if set.has(number) { 1 } else { 0 }
+    u8::from(set.has(number))
+}
+
+// Do all places of a column from place n on hold 0?
+fn zero_from(column: &[u8; MAX_LOADS], n: usize) -> bool
+    ensures { result ≡ zero_from n column.now }
+{
+    column.iter().skip(n).all(|number| *number == 0)
 }
 
 impl Run {
@@ -48,24 +56,24 @@ impl Run {
         }
     }
 
-    // Do all places from place n on hold 0?
+    // Do all places from place n on hold 0, and is no load past the n-th on?
+    #[tactic(auto, unfolding(crate::specs::Outcome::run_free))]
     pub(crate) fn free_from(self, n: usize) -> bool
-        ensures { result ≡ free_from n self }
+        ensures { result ≡ run_free n self }
     {
-        let mut free = true;
-        for i in 0..MAX_LOADS {
-            let zero = (self.states[i] == 0) & (self.load_rules[i] == 0) & (self.row_rules[i] == 0);
-            free = free & ((i < n) | zero);
-        }
-        free
+        zero_from(&self.states, n)
+            && zero_from(&self.load_rules, n)
+            && zero_from(&self.row_rules, n)
+            && self.set.up_to(n)
     }
 
     // The run with the line of a load.
+    #[tactic(auto, unfolding(crate::specs::Runs::with_entry))]
     pub fn with(self, e: Entry) -> Run
         requires { (0 < e.number) × (e.number ≤ max_loads) }
         ensures { result ≡ with_entry self e }
     {
-        let number = e.number as usize;
+        let number = usize::from(e.number);
         let at = number - 1;
         let mut next = self;
         next.states[at] = e.state;

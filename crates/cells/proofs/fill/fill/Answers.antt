@@ -45,20 +45,20 @@ overflow_sub-at c = omega (arith, div-add-mod' c.loop-i.i (c.args.sh.budget + 1)
 
 pub nonzero_div-rank-in-loop-i : goal.nonzero_div-rank-in-loop-i
 nonzero_div-rank-in-loop-i c =
-    across-pos c.args.sh _ (inside c.args.sh _ c.args.to _ c.loop-i-test.true c.requires.from_le_to.1 c.lesser-end.ensures)
+    across-pos c.args.sh _ (inside c.args.sh _ c.args.to _ c.loop-i-test.true c.requires.from_le_to.1 c.min-end.ensures)
 
 pub overflow_sub-sh : goal.overflow_sub-sh
 overflow_sub-sh c =
-    le_of_lt (load_lt c.args.sh _ (inside c.args.sh _ c.args.to _ c.loop-i-test.true c.requires.from_le_to.1 c.lesser-end.ensures))
+    le_of_lt (load_lt c.args.sh _ (inside c.args.sh _ c.args.to _ c.loop-i-test.true c.requires.from_le_to.1 c.min-end.ensures))
 
 pub nonzero_rem-rank : goal.nonzero_rem-rank
 nonzero_rem-rank c =
-    across-pos c.args.sh _ (inside c.args.sh _ c.args.to _ c.loop-i-test.true c.requires.from_le_to.1 c.lesser-end.ensures)
+    across-pos c.args.sh _ (inside c.args.sh _ c.args.to _ c.loop-i-test.true c.requires.from_le_to.1 c.min-end.ensures)
 
 pub stretch-requires : goal.stretch-requires
 stretch-requires c =
     let l = c.loop-i in
-    let z = c.lesser-end.ensures in
+    let z = c.min-end.ensures in
     let o = inside c.args.sh l.i c.args.to _ c.loop-i-test.true c.requires.from_le_to.1 z in
     let k = load_lt c.args.sh l.i o in
     let x = index-lt c.args.sh l.i o in
@@ -71,19 +71,19 @@ stretch-requires c =
 pub overflow_add-i : goal.overflow_add-i
 overflow_add-i c =
     let r = c.requires.ready.0.room in
-    omega (arith, c.requires.from_le_to.1, c.lesser-end.ensures, c.loop-i-test.true)
+    omega (arith, c.requires.from_le_to.1, c.min-end.ensures, c.loop-i-test.true)
 
 pub loop-i-smaller : goal.loop-i-smaller
 loop-i-smaller c =
     let l = c.loop-i in
-    let a = short c.args.sh l.i c.args.to _ c.loop-i-test.true c.requires.from_le_to.1 c.lesser-end.ensures in
-    omega (arith, c.lesser-end.ensures, c.loop-i-test.true, div-add-mod' l.i (c.args.sh.budget + 1))
+    let a = short c.args.sh l.i c.args.to _ c.loop-i-test.true c.requires.from_le_to.1 c.min-end.ensures in
+    omega (arith, c.min-end.ensures, c.loop-i-test.true, div-add-mod' l.i (c.args.sh.budget + 1))
 
 pub loop-i-preserved : goal.loop-i-preserved
 loop-i-preserved c =
     let l = c.loop-i in
     let sh = c.args.sh in
-    let z = c.lesser-end.ensures in
+    let z = c.min-end.ensures in
     let o = inside sh l.i c.args.to _ c.loop-i-test.true c.requires.from_le_to.1 z in
     let k = load_lt sh l.i o in
     let x = index-lt sh l.i o in

@@ -1,6 +1,6 @@
 -- `put_loads` meets its contract: before each turn the loads after load i are written. Assumes nothing.
 use Prim.Native.Nat.{ℕ, suc, ◌+◌, ◌-◌, ◌≤◌, ◌<◌}
-use mathlib.Core.Path.{◌≡◌, refl, sym, ap, subst, ◌∙◌}
+use mathlib.Core.Path.{◌≡◌, sym, ap, subst, ◌∙◌}
 use mathlib.Core.List.{List}
 use native.Mathlib.Numerals.{add-one}
 use native.Mathlib.Omega.{arith}
@@ -17,7 +17,6 @@ use Rattle.cells.specs.Outline.{outline_size, with_load, LoadsPut}
 use Rattle.cells.proofs.Tables.{load-at}
 use Rattle.cells.proofs.Strips.{zeros}
 use Rattle.cells.proofs.Outlining.{zeros-long, loads-none, loads-more}
-use Rattle.cells.proofs.outline.put_loads.Invariants.{problem}
 use Rattle.cells.proofs.outline.put_loads.Goals as goal
 
 -- the zeros at the start
@@ -44,14 +43,7 @@ turn p ok few {z} {o} j h n put i e a b =
     (e ∙ ap (λ x. items_for p x (get_or p.tables.loads.items j no_load)) (add-one j) ∙ ap (items_for p (suc j)) (sym f)) a b))
 
 pub loop-i-init : goal.loop-i-init
-loop-i-init c =
-    (omega arith, refl, λ b n. loads-none _ c.requires.lawful.loads c.requires.lawful.sane.loads _ (zero-at _ c.requires.o_value))
-
-pub offset_bounds-loads-i : goal.offset_bounds-loads-i
-offset_bounds-loads-i c = omega (arith, c.requires.lawful.sane.loads)
-
-pub bounds-loads-i : goal.bounds-loads-i
-bounds-loads-i c = omega (arith, c.requires.lawful.sane.loads)
+loop-i-init c = loads-none _ c.requires.lawful.loads c.requires.lawful.sane.loads _ (zero-at _ c.requires.o_value)
 
 pub item_of-item-requires : goal.item_of-item-requires
 item_of-item-requires c =
@@ -61,34 +53,24 @@ pub put_load-requires : goal.put_load-requires
 put_load-requires c =
     let l = c.loop-i in
     let e = c.item_of-item.ensures in (
-      l.invariant.1 ∙ zeros-long _ c.requires.o_value,
+      l.auto.o ∙ zeros-long _ c.requires.o_value,
       omega (arith, c.requires.lawful.sane.loads),
-      omega (arith, c.requires.lawful.sane.loads, under c.args.p.tables.loads c.requires.lawful.loads (l.i - 1) (omega arith)),
+      omega (arith, c.from.ensures, c.requires.lawful.sane.loads, under c.args.p.tables.loads c.requires.lawful.loads (l.i - 1) (omega arith)),
       e.1,
       e.2,
     )
 
 pub loop-i-preserved : goal.loop-i-preserved
 loop-i-preserved c =
+    let s = c.args in
     let l = c.loop-i in
     let i = c.item_of-item in
-    let ls = c.args.p.tables.loads in
-    let e : l.i ≡ suc (l.i - 1) = omega arith in (
-      omega arith,
-      omega arith,
-      λ b n.
-          let p = problem ls c.args.p.fixed c.args.p.set b n in
-          subst (λ x. LoadsPut p c.args.o.now (l.i - 1) x) (sym c.put_load.ensures)
-          (turn p c.requires.lawful.loads c.requires.lawful.sane.loads (l.i - 1) (omega arith) (l.invariant.1 ∙ zeros-long _ c.requires.o_value)
-          (subst (λ x. LoadsPut p c.args.o.now x l.o) e (l.invariant.2 b n)) i.result i.ensures.0 i.ensures.1 i.ensures.2),
-    )
-
-pub shape_of-o : goal.shape_of-o
-shape_of-o c = c.loop-i.invariant.1
+    let e : l.i ≡ suc (l.i - 1) = omega arith in
+    subst (λ x. LoadsPut s.p s.o.now (l.i - 1) x) (sym (c.put_load.ensures ∙ ap (λ q. with_load l.o (l.i - 1 + 1) q i.result) c.from.ensures))
+    (turn s.p c.requires.lawful.loads c.requires.lawful.sane.loads (l.i - 1) (omega arith) (l.auto.o ∙ zeros-long _ c.requires.o_value)
+    (subst (λ x. LoadsPut s.p s.o.now x l.o) e l.invariant) i.result i.ensures.0 i.ensures.1 i.ensures.2)
 
 pub returns : goal.returns
 returns c =
-    let s = c.args in
-    let l = c.loop-i in
-    let e : l.i ≡ 0 = omega arith in
-    subst (λ x. LoadsPut s.p s.o.now x l.o) e (l.invariant.2 s.p.tables.book s.p.tables.budget)
+    let e : c.loop-i.i ≡ 0 = omega arith in
+    subst (λ x. LoadsPut c.args.p c.args.o.now x c.loop-i.o) e c.loop-i.invariant

@@ -3,43 +3,37 @@ use Prim.Native.Nat.{ℕ, ◌+◌, ◌≤◌, ◌<◌}
 use mathlib.Core.Path.{◌≡◌, sym, ap, ◌∙◌, subst}
 use mathlib.Core.List.{List}
 use native.Mathlib.Omega.{arith}
-use lib.ListN.{get_or, length-replicate}
+use lib.ListN.{length, get_or, take, replicate, length-take, length-replicate}
 use Rattle.cells.specs.declared.problem.Shape.{Shape}
-use Rattle.cells.specs.declared.outline.Joint.{Joint}
-use Rattle.cells.specs.declared.outline.Rules.{Rules}
-use Rattle.cells.specs.Outline.{joint_in, rules_in, best_in}
+use Rattle.cells.specs.Outline.{joint_in}
 use Rattle.cells.specs.Work.{place_of}
-use Rattle.cells.specs.Strip.{Stored}
-use Rattle.cells.specs.Stretch.{reach_of, Sound, Worked}
-use Rattle.cells.proofs.InRange.{looked-up}
+use Rattle.cells.specs.Strip.{Raised, Stored}
+use Rattle.cells.specs.Stretch.{reached, Sound, Worked}
 use Rattle.cells.proofs.Places.{place-room}
 use Rattle.cells.proofs.Strips.{zeros-raised}
 use Rattle.cells.proofs.stretch.stretch.Goals as goal
 
 module _ (sh : Shape) (o w v s : List ℕ) (k x from to : ℕ) where
-  -- the strip holds what the rules r reach from the joint t
-  abbrev Holds : Joint → Rules → Type 0
-  Holds t r = Sound sh w t to → (a : ℕ) → from ≤ a → a < to → get_or s a 0 ≡ (best_in o r (reach_of sh w t a)).value
+  -- the strip holds what the rules reach at best
+  abbrev Holds : Type 0
+  Holds = Sound sh w (joint_in sh o k x) to → (a : ℕ) → from ≤ a → a < to → get_or s a 0 ≡ reached sh o w k x a
 
-  worked : (at : ℕ) (t : Joint) (r : Rules) → at ≡ place_of sh k x → t ≡ joint_in sh o k x → r ≡ rules_in sh o x → Holds t r → Stored w s v at from to
-      → Worked sh o w v k x from to
-  worked at t r ea et er h d = record {
+  worked : (at : ℕ) → at ≡ place_of sh k x → Holds → Stored w s v at from to → Worked sh o w v k x from to
+  worked at e h d = record {
     below = λ i l. d.below i (omega arith);
     above = λ i l. d.above i (omega arith);
-    inside = λ g a l m. ap (λ i. get_or v (i + a) 0) (sym ea) ∙ d.inside a l m ∙ subst (λ t. Holds t (rules_in sh o x)) et (subst (λ r. Holds t r) er h) g a l m;
+    inside = λ g a l m. ap (λ i. get_or v (i + a) 0) (sym e) ∙ d.inside a l m ∙ h g a l m;
   }
 
-pub joint_at-t-requires : goal.joint_at-t-requires
-joint_at-t-requires c = (c.requires.ready.1.long, omega (arith, c.requires.k_nonzero.1, c.requires.ready.0.sane.loads))
-
-pub rules_at-r-requires : goal.rules_at-r-requires
-rules_at-r-requires c = (c.requires.ready.1.long, omega (arith, c.requires.k_nonzero.2, c.requires.ready.0.sane.states, c.requires.ready.0.sane.stages))
-
-pub raise-requires : goal.raise-requires
-raise-requires c =
-    let z = length-replicate {A = ℕ} 512 0 in
-    let f = looked-up c.args.sh c.args.o.now c.requires.ready.1 c.args.k c.args.x c.requires.k_nonzero.0 c.requires.k_nonzero.1 _ _ c.joint_at-t.ensures c.rules_at-r.ensures in
-    record { ready = (c.requires.ready.0, f.0, f.1); to_bound = (c.requires.k_nonzero.4, omega (arith, c.requires.k_nonzero.4, c.requires.ready.0.sane.budget)) }
+  -- so does one that was raised from zeros
+  zeros-hold : to ≤ 512
+      → (Sound sh w (joint_in sh o k x) (length (take to (replicate {A = ℕ} 512 0)))
+      → Raised (take to (replicate {A = ℕ} 512 0)) s from (length (take to (replicate {A = ℕ} 512 0))) (reached sh o w k x))
+      → Holds
+  zeros-hold h u =
+      let e : length (take to (replicate {A = ℕ} 512 0)) ≡ to = omega (arith, length-take to (replicate {A = ℕ} 512 0), length-replicate {A = ℕ} 512 0) in
+      λ g. zeros-raised 512 to h
+      (subst (λ n. Sound sh w (joint_in sh o k x) n → Raised (take to (replicate {A = ℕ} 512 0)) s from n (reached sh o w k x)) e u g)
 
 pub place-at-requires : goal.place-at-requires
 place-at-requires c = record { sane = c.requires.ready.0.sane; k_le_loads = (c.requires.k_nonzero.1, c.requires.k_nonzero.2) }
@@ -48,9 +42,18 @@ pub store-requires : goal.store-requires
 store-requires c =
     let n = c.requires.k_nonzero in
     let r = place-room c.args.sh c.args.k c.args.x n.0 n.1 n.2 in
-    (n.3, omega (arith, n.4, c.requires.ready.0.sane.budget), omega (arith, c.place-at.ensures, c.requires.ready.0.room, n.4))
+    let e = length-take c.args.to (replicate {A = ℕ} 512 0) in
+    let z = length-replicate {A = ℕ} 512 0 in
+    (omega (arith, c.raise.auto.strip, n.3), omega (arith, c.raise.auto.strip, c.place-at.ensures, c.requires.ready.0.room, n.4))
 
 pub returns : goal.returns
 returns c =
-    worked c.args.sh c.args.o.now c.args.work.now _ _ c.args.k c.args.x c.args.from c.args.to _ _ _
-    c.place-at.ensures c.joint_at-t.ensures c.rules_at-r.ensures (λ g. zeros-raised 512 (c.raise.ensures g)) c.store.ensures
+    let s = c.args in
+    let n = c.requires.k_nonzero in
+    let small : s.to ≤ 512 = omega (arith, n.4, c.requires.ready.0.sane.budget) in
+    let e = length-take s.to (replicate {A = ℕ} 512 0) in
+    let z = length-replicate {A = ℕ} 512 0 in
+    let long : length c.raise.new.strip ≡ s.to = omega (arith, c.raise.auto.strip) in
+    worked s.sh s.o.now s.work.now _ c.raise.new.strip s.k s.x s.from s.to _ c.place-at.ensures
+    (zeros-hold s.sh s.o.now s.work.now c.store.new.work c.raise.new.strip s.k s.x s.from s.to small c.raise.ensures)
+    (subst (λ m. Stored s.work.now c.raise.new.strip c.store.new.work c.place-at.result s.from m) long c.store.ensures)

@@ -3,7 +3,7 @@ use native.Mathlib.Omega.{arith}
 use Rattle.cells.proofs.Strips.{raised-more}
 use Rattle.cells.proofs.strip.lift_step.Goals as goal
 
-pub returns : goal.returns
-returns c =
+pub returns-else-v-lt-EMPTY : goal.returns-else-v-lt-EMPTY
+returns-else-v-lt-EMPTY c =
     let s = c.args in
-    λ k. raised-more k s.c s.v s.from _ (omega arith) c.later-start.ensures c.rise.ensures
+    λ k. raised-more k s.c s.v s.from _ (omega arith) c.max.ensures c.rise.ensures

@@ -1,11 +1,12 @@
 -- `passed` meets its contract: what is passed over grows by a stride. Assumes nothing.
 use Prim.Native.Nat.{◌-◌}
-use Rattle.cells.specs.Work.{cells_from}
+use lib.ListN.{length}
+use Rattle.cells.specs.Work.{cells_in}
 use Rattle.cells.specs.Strip.{Passed}
 use Rattle.cells.proofs.strip.passed.Given as goal
 
 abbrev pub invariant-loop-c : goal.invariant-loop-c
-invariant-loop-c l = Passed (cells_from l.cells l.at) l.last l.from l.to l.c
+invariant-loop-c l = Passed (cells_in l.cells) l.last l.from (length l.cells) l.c
 
 abbrev pub decreases-loop-c : goal.decreases-loop-c
-decreases-loop-c l = l.to - l.c
+decreases-loop-c l = length l.cells - l.c

@@ -1,6 +1,7 @@
 -- `figures_of` meets its contract: what was added and what is still to come is the whole sum. Assumes nothing.
 use Prim.Native.Nat.{◌*◌, ◌≤◌}
-use Rattle.tables.specs.Stored.{loads_of}
+use lib.ListN.{length}
+use Rattle.tables.specs.Limits.{max_loads}
 use Rattle.marks.specs.Sets.{mark_in}
 use Rattle.engine.specs.Figures.{power_in, worth_in}
 use Rattle.engine.proofs.Sums.{Added}
@@ -8,5 +9,5 @@ use Rattle.engine.proofs.figures.figures_of.Given as goal
 
 abbrev pub invariant-loop-i : goal.invariant-loop-i
 invariant-loop-i l =
-    (l.i ≤ l.n) × (l.power ≤ 65535 * l.i) × (l.worth ≤ 65535 * l.i)
-    × Added (power_in (mark_in l.set)) (loads_of l.loads) l.power l.i × Added (worth_in (mark_in l.set)) (loads_of l.loads) l.worth l.i
+    (length l.used ≤ max_loads) × (l.power ≤ 65535 * l.i) × (l.worth ≤ 65535 * l.i)
+    × Added (power_in (mark_in l.set)) l.used l.power l.i × Added (worth_in (mark_in l.set)) l.used l.worth l.i

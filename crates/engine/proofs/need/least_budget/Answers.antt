@@ -15,7 +15,7 @@ use Rattle.cells.specs.Problem.{plan_problem, shape_of, Lawful}
 use Rattle.cells.specs.Work.{cells_needed}
 use Rattle.meaning.specs.Cells.{cells_of}
 use Rattle.engine.specs.Pass.{Complete}
-use Rattle.engine.proofs.Planning.{plan-is, plan-cells, all-cleared}
+use Rattle.engine.proofs.Planning.{filled-readable, readable-fits, readable-some, plan-is, plan-cells, all-cleared}
 use Rattle.engine.proofs.Budgets.{at_most, least-is, need-is}
 use Rattle.engine.proofs.need.least_budget.Goals as goal
 
@@ -34,15 +34,15 @@ few : (t : StoredTables) (p : Problem) (sh : Shape) (o w : List ℕ) → p ≡ p
 few t p sh o w e k =
     omega (arith, k.ready.sane.loads, ap (λ (y : Shape). y.loads) k.outlined.shape, ap (λ (p : Problem). p.tables.loads.count) e)
 
-pub first_above-least-requires : goal.first_above-least-requires
-first_above-least-requires c =
-    let k = c.fill_cells-sh.ensures.filled in
-    record { ready = k.ready; loads_nonzero = omega (arith, k.some, ap (λ (y : Shape). y.loads) k.outlined.shape) }
+pub invariant_of-filled : goal.invariant_of-filled
+invariant_of-filled c =
+    let k = filled-readable _ _ _ c.plan_problem-p.result c.fill_cells-sh.ensures.filled in
+    record { ready = k.ready; fits = readable-fits _ _ _ k; some = readable-some _ _ _ k }
 
 pub overflow_cast-least : goal.overflow_cast-least
 overflow_cast-least c =
     let k = c.fill_cells-sh.ensures.filled in
-    omega (arith, at_most _ _ _ c.first_above-least.ensures, k.ready.sane.budget)
+    omega (arith, at_most _ _ _ (c.unwrap_or-least.ensures ∙ c.first_above.ensures), k.ready.sane.budget)
 
 pub said-requires : goal.said-requires
 said-requires c = few c.args.t c.plan_problem-p.result _ _ _ c.plan_problem-p.ensures.0 c.fill_cells-sh.ensures.filled
@@ -55,7 +55,7 @@ returns c =
     let g = c.fill_cells-sh.ensures in
     let w = (tested s.t c.requires.t_value.0).within in
     let found = c.trace-found.ensures p g.filled ∙ plan-is s.t p q.1 q.0 in
-    let least = least-is p _ _ _ g.filled s.t q.0 w s.worth _ _ c.floor_of-floor.ensures c.first_above-least.ensures in record {
+    let least = least-is p _ _ _ g.filled s.t q.0 w s.worth _ _ c.floor_of-floor.ensures (c.unwrap_or-least.ensures ∙ c.first_above.ensures) in record {
       value = c.said.ensures ∙ need-is s.t w (omega (arith, few c.args.t c.plan_problem-p.result _ _ _ c.plan_problem-p.ensures.0 c.fill_cells-sh.ensures.filled, (kept s.t c.requires.t_value.0).counted)) s.worth _ found _ least;
       work_after =
           all-cleared s.work.now _ _ _ _ c.clear.ensures (c.cells_needed-n.ensures ∙ ap cells_needed g.shape) g.rest

@@ -4,6 +4,7 @@ use mathlib.Core.Path.{ap, sym, subst}
 use native.Mathlib.Omega.{arith}
 use Rattle.cells.specs.Problem.{Sane}
 use Rattle.cells.specs.Work.{cells_needed}
+use Rattle.engine.proofs.Planning.{filled-readable, readable-fits, readable-some}
 use Rattle.engine.proofs.plan.+search_alone.Goals as goal
 
 -- its cells are counted
@@ -18,10 +19,10 @@ pub returns-then-cells_needed-gt-CHECK_CELLS : goal.returns-then-cells_needed-gt
 returns-then-cells_needed-gt-CHECK_CELLS t c = absurd (omega (arith, ap cells_needed c.shape_of.ensures))
 
 -- the run is read
-pub trace-requires : goal.trace-requires
-trace-requires t c =
-    let k = c.fill_cells-sh.ensures.filled in
-    record { problem = c.args.p; outlined = k.outlined; ready = k.ready; some = k.some }
+pub invariant_of-filled : goal.invariant_of-filled
+invariant_of-filled t c =
+    let k = filled-readable _ _ _ c.args.p c.fill_cells-sh.ensures.filled in
+    record { ready = k.ready; fits = readable-fits _ _ _ k; some = readable-some _ _ _ k }
 
 pub returns : goal.returns
 returns t c = c.trace.ensures c.args.p c.fill_cells-sh.ensures.filled

@@ -2,8 +2,8 @@
 use borrow.Author.Tests.{lt-ltb, le-ltb}
 use Rattle.engine.proofs.best.Best.improved.Goals as goal
 
-pub returns-then-self-x : goal.returns-then-self-x
-returns-then-self-x c = rw (lt-ltb _ _ c.if-self-x.true)
+pub returns-then-self-value : goal.returns-then-self-value
+returns-then-self-value c = rw (lt-ltb _ _ c.if-self-value.true)
 
 pub returns : goal.returns
-returns c = rw (le-ltb _ _ c.if-self-x.false)
+returns c = rw (le-ltb _ _ c.if-self-value.false)

@@ -1,8 +1,13 @@
--- `Pass::with` meets its contract. Assumes nothing.
-use mathlib.Core.Path.{ap₂}
+-- `with` meets its contract: the run and the rows are those after the load. Assumes nothing.
+use mathlib.Core.Path.{ap, ap₂}
+use mathlib.Core.List.{List}
+use Rattle.runs.specs.declared.run.Run.{Run}
+use Rattle.engine.specs.declared.pass.Entrance.{Entrance}
+use Rattle.engine.specs.declared.pass.Pass.{Pass}
 use Rattle.engine.specs.Pass.{passed_load}
 use Rattle.engine.proofs.pass.Pass.with.Goals as goal
 
 pub returns : goal.returns
 unfolding passed_load
-returns c = ap₂ (λ r s. record { run = r; rows = s }) c.with-run.ensures c.with-rows.ensures
+returns c =
+    ap₂ (λ (u : Run) (rs : List Entrance). record { run = u; rows = rs }) c.with-next.ensures (ap (λ (s : Pass). s.rows) c.entering-next.ensures)

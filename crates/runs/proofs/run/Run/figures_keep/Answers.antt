@@ -1,23 +1,26 @@
--- `Run::figures_keep` meets its contract. The loop's invariant: the figures of the first i loads were tested. Assumes nothing.
-use mathlib.Core.Path.{◌≡◌, sym, ap, ◌∙◌}
+-- `Run::figures_keep` meets its contract. Assumes nothing.
+use mathlib.Core.Path.{◌∙◌, sym}
 use native.Mathlib.Omega.{arith}
-use borrow.Author.Rules.{rules}
-use Rattle.lists.proofs.Tests.{below-zero, below_step}
+use Rattle.std.proofs.Common.{rules, tests, ℕ, Bool}
+use Rattle.std.proofs.lemmas.Iterator.{YieldsList-from_range}
+use Rattle.std.proofs.lemmas.Iterator.Search.{all_from_yields_List}
+use Rattle.lists.proofs.Iterating.{below-list_all}
+use borrow.Author.Tests.{lt-leb}
+use Rattle.tables.specs.Limits.{max_loads}
 use Rattle.runs.specs.Runs.{entry_at}
 use Rattle.runs.specs.Outcome.{figures_in}
 use Rattle.runs.specs.Places.{figures_keep}
+use Rattle.runs.proofs.Places.{past-places}
 use Rattle.runs.proofs.run.Run.figures_keep.Goals as goal
 
-pub loop-i-init : goal.loop-i-init
-loop-i-init c = (search rules, sym (below-zero _))
-
-pub loop-i-preserved : goal.loop-i-preserved
-loop-i-preserved c =
-    let a = c.args in
-    (search rules, below_step (λ j. figures_in a.range (entry_at a.self j)) _ c.loop-i.invariant.1 (c.holds-kept.ensures ∙ ap (figures_in a.range) c.entry.ensures))
-
-pub returns : goal.returns
+pub returns-then-n-le-MAX_LOADS : goal.returns-then-n-le-MAX_LOADS
 unfolding figures_keep
-returns c =
-    let e : c.loop-i.i ≡ c.args.n = omega (arith, c.loop-i-test.false, c.loop-i.invariant.0) in
-    rw (c.loop-i.invariant.1, e)
+returns-then-n-le-MAX_LOADS c =
+    let a = c.args in
+    let kept : ℕ → Bool = λ i. figures_in a.range (entry_at a.self i) in
+    all_from_yields_List kept _ _ _ c.all.ensures.ran (YieldsList-from_range 0 a.n a.n (cc) (omega arith)) (λ x b q k. search (rules, tests)) ∙ below-list_all kept a.n
+
+pub returns-else-n-le-MAX_LOADS : goal.returns-else-n-le-MAX_LOADS
+returns-else-n-le-MAX_LOADS c =
+    let a = c.args in
+    lt-leb a.n max_loads c.if-n-le-MAX_LOADS.false ∙ sym (past-places a.range a.self a.n (search rules) c.if-n-le-MAX_LOADS.false)
