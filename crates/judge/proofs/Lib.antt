@@ -2,7 +2,6 @@ pub mod Answers
 pub mod Examples
 pub mod Left
 pub mod Named
-pub mod Places
 pub mod Root
 pub mod Rules
 pub mod Steps

@@ -1,10 +1,10 @@
 -- The root: a tree is run exactly if load 1 is in a start state, has no row rule, and its branch is run. Assumes nothing.
-use Prim.Native.Nat.{ℕ, zero, suc, ◌<◌}
+use Prim.Native.Nat.{ℕ, zero, suc, ◌≤◌, ◌<◌}
 use mathlib.Core.Path.{◌≡◌, refl, sym, ◌∙◌}
 use mathlib.Core.Bool.{true, false, ◌&&◌}
 use mathlib.Core.List.{List, [], ◌∷◌}
 use native.Mathlib.Omega.{arith}
-use borrow.Author.Tests.{eq-eqb, ne_eqb}
+use borrow.Author.Tests.{eq-eqb, ne_eqb, le-leb, lt-leb}
 use lib.Dec.{eqb, leb}
 use lib.ListN.{length, get_or}
 use Rattle.lists.proofs.Bools.{and-false}
@@ -24,6 +24,13 @@ pub start_test : (b : Book) (q : ℕ) → leb q b.states && is_start b q ≡ sta
 unfolding has_mark
 start_test b zero = and-false (leb 0 b.states)
 start_test b (suc s) = refl
+
+-- the two ways that the test goes
+pub start-in : (b : Book) (q : ℕ) → q ≤ b.states → is_start b q ≡ starts b q
+start-in b q h = rw (le-leb q b.states h) at (start_test b q)
+
+pub start-out : (b : Book) (q : ℕ) → b.states < q → false ≡ starts b q
+start-out b q h = rw (lt-leb q b.states h) at (start_test b q)
 
 root-branch : (b : Book) (ρ : ℕ → Assigned) (ls : List Load) → 0 < length ls → judge_tree b ρ (tree planned ls)
     ≡ starts b (ρ 1).state

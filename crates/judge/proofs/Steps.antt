@@ -1,25 +1,24 @@
 -- The walk from load to load: what a branch comes to by its load's step, and a row by its first load's step. Assumes nothing.
-use Prim.Native.Nat.{ℕ, zero, suc, ◌+◌, ◌-◌, ◌*◌, ◌≤◌, ◌<◌}
+use Prim.Native.Nat.{ℕ, zero, suc, ◌-◌, ◌≤◌, ◌<◌}
 use mathlib.Core.Path.{◌≡◌, refl, sym, ap, ◌∙◌}
 use mathlib.Core.Bool.{Bool, true, false, ◌&&◌}
 use mathlib.Core.List.{List}
 use native.Mathlib.Omega.{arith}
 use lib.Dec.{eqb}
-use lib.ListN.{get_or}
+use lib.ListN.{length, get_or}
 use Rattle.marks.specs.Bits.{has_mark}
 use Rattle.marks.specs.declared.Marks.{Marks}
 use Rattle.tables.specs.declared.rule.Sort.TheVariants as sort
 use Rattle.tables.specs.Tables.{Tables, no_load}
-use Rattle.tables.specs.Limits.{max_loads}
 use Rattle.tables.specs.Lawful.{Lawful}
 use Rattle.meaning.specs.Forest.{planned}
 use Rattle.meaning.specs.Cells.{load_at, first_child, next_sibling}
 use Rattle.meaning.specs.Runs.{Assigned, rule}
 use Rattle.meaning.specs.Judge.{begins, judge}
 use Rattle.meaning.proofs.Tree.{row-after}
-use Rattle.judge.specs.Figures.{step_of, step_at, LookedUp}
+use Rattle.judge.specs.declared.figures.Step.{Step}
+use Rattle.judge.specs.Figures.{step_of, step_at, step_in, ParentsOf, LookedUp}
 use Rattle.judge.specs.Walk.{branch_runs, row_runs}
-use Rattle.judge.proofs.Places.{at_load}
 use Rattle.judge.proofs.Rules.{load-none, load-some, row-none, row-some}
 
 module _ (t : Tables) (ρ : ℕ → Assigned) where
@@ -64,41 +63,48 @@ module _ (t : Tables) (ρ : ℕ → Assigned) where
         (branch_runs t ρ (suc j) && row_runs t ρ (next_sibling t.loads (suc j)) (rule t.book.row_rules (ρ (suc j)).row_rule).to) g e pos in
         (sym (row_step j g ∙ p.0), p.1)
 
--- ---- by the figures that were looked up
-module _ {t : Tables} {ρ : ℕ → Assigned} {n : ℕ} {ends : Marks} {figures : List ℕ} (l : LookedUp t ρ n ends figures) where
+-- ---- by the steps that were looked up
+module _ {t : Tables} {ρ : ℕ → Assigned} {ends : Marks} {steps : List Step} (l : LookedUp t ρ ends steps) where
   pub end-of-row : (g : ℕ) → has_mark ends.0 g ≡ row_runs t ρ 0 g
   end-of-row g = rw (← l.end_stages) (row-end t ρ g)
 
-  module _ (k : ℕ) (pos : 0 < k) (few : k ≤ n) where
-    begin-at : get_or figures (0 + (k - 1)) 0 ≡ (step_at t ρ k).begin
-    begin-at = at_load (λ k. (step_at t ρ k).begin) figures 0 n l.begin k pos few
+  pub parents : ParentsOf t.loads steps
+  unfolding step_of
+  parents = record { count = l.count; parent = λ j b. ap (λ s. s.parent) (l.each j b) }
 
-    stage_at : get_or figures (max_loads + (k - 1)) 0 ≡ (step_at t ρ k).stage
-    stage_at = at_load (λ k. (step_at t ρ k).stage) figures max_loads n l.stage k pos few
+  module _ (k : ℕ) (pos : 0 < k) (few : k ≤ length steps) where
+    step-here : step_in steps k ≡ step_at t ρ k
+    step-here = go k pos few
+      where
+        go : (k : ℕ) → 0 < k → k ≤ length steps → step_in steps k ≡ step_at t ρ k
+        go zero pos few = absurd (omega arith)
+        go (suc j) pos few = let e : suc j - 1 ≡ j = omega arith in rw e (l.each j (omega arith))
 
-    next-at : get_or figures (2 * max_loads + (k - 1)) 0 ≡ (step_at t ρ k).next
-    next-at = at_load (λ k. (step_at t ρ k).next) figures (2 * max_loads) n l.next k pos few
+    begin-at : (step_in steps k).begin ≡ (step_at t ρ k).begin
+    begin-at = ap (λ s. s.begin) step-here
 
-    module _ {g : ℕ} (here : g ≡ get_or figures (0 + (k - 1)) 0) where
-      pub branch-fails : g ≡ 0 → false ≡ branch_runs t ρ k
-      branch-fails none = branch-none t ρ l.lawful k (sym begin-at ∙ sym here ∙ none)
+    stage_at : (step_in steps k).stage ≡ (step_at t ρ k).stage
+    stage_at = ap (λ s. s.stage) step-here
 
-      pub branch-passes : (g ≡ 0 → ⊥) → {c : ℕ} → c ≡ first_child t.loads k → row_runs t ρ c g ≡ branch_runs t ρ k
-      branch-passes some child = rw (child, here, begin-at) (branch-some t ρ l.lawful k (omega (arith, here, begin-at)))
+    pub branch-fails : (step_in steps k).begin ≡ 0 → false ≡ branch_runs t ρ k
+    branch-fails none = branch-none t ρ l.lawful k (sym begin-at ∙ none)
 
-    module _ {s g : ℕ} (here : s ≡ get_or figures (max_loads + (k - 1)) 0) where
-      pub row-fails : (s ≡ g → ⊥) → false ≡ row_runs t ρ k g
-      row-fails other = row-stops t ρ l.lawful k g pos (λ e. other (here ∙ stage_at ∙ e))
+    pub branch-passes : ((step_in steps k).begin ≡ 0 → ⊥) → {c : ℕ} → c ≡ first_child t.loads k → row_runs t ρ c (step_in steps k).begin ≡ branch_runs t ρ k
+    branch-passes some child = rw (child, begin-at) (branch-some t ρ l.lawful k (omega (arith, begin-at)))
 
-      module _ (same : s ≡ g) (some : 0 < g) {b : Bool} (branch : b ≡ branch_runs t ρ k) where
+    module _ {g : ℕ} where
+      pub row-fails : ((step_in steps k).stage ≡ g → ⊥) → false ≡ row_runs t ρ k g
+      row-fails other = row-stops t ρ l.lawful k g pos (λ e. other (stage_at ∙ e))
+
+      module _ (same : (step_in steps k).stage ≡ g) (some : 0 < g) {b : Bool} (branch : b ≡ branch_runs t ρ k) where
         row_here : (branch_runs t ρ k && row_runs t ρ (next_sibling t.loads k) (step_at t ρ k).next ≡ row_runs t ρ k g) × (0 < (step_at t ρ k).next)
-        row_here = row_goes t ρ l.lawful k g pos (sym stage_at ∙ sym here ∙ same) some
+        row_here = row_goes t ρ l.lawful k g pos (sym stage_at ∙ same) some
 
         pub row-branch-fails : b ≡ false → false ≡ row_runs t ρ k g
         row-branch-fails off = rw (← branch, off) at row_here.0
 
-        pub row-passes : b ≡ true → {c h : ℕ} → c ≡ next_sibling t.loads k → h ≡ get_or figures (2 * max_loads + (k - 1)) 0
-            → (row_runs t ρ c h ≡ row_runs t ρ k g) × (0 < h)
-        row-passes on later next =
-            let e = next ∙ next-at in
+        pub row-passes : b ≡ true → {c : ℕ} → c ≡ next_sibling t.loads k
+            → (row_runs t ρ c (step_in steps k).next ≡ row_runs t ρ k g) × (0 < (step_in steps k).next)
+        row-passes on later =
+            let e = ap (λ s. s.next) step-here in
             (rw (later, e) (rw (← branch, on) at row_here.0), omega (arith, e, row_here.1))

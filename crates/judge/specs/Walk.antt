@@ -7,6 +7,7 @@ use Rattle.meaning.specs.Forest.{planned, row_at}
 use Rattle.meaning.specs.Cells.{load_at, first_child}
 use Rattle.meaning.specs.Runs.{Assigned}
 use Rattle.meaning.specs.Judge.{judge, judge_branch}
+use Rattle.judge.specs.declared.figures.Step.{Step}
 use Rattle.judge.specs.Figures.{LookedUp}
 
 -- "the number of loads not yet reached": those from load k onward
@@ -22,10 +23,10 @@ module _ (t : Tables) (ρ : ℕ → Assigned) where
   branch_runs k =
       judge_branch t.book ρ k (planned k (load_at t.loads k)) (row_runs (first_child t.loads k)) (ρ k).state
 
--- the code is lent the figures alone: its answer is right for all tables and numbers whose figures they are. A row has a stage, 1 or more
-module _ (n : ℕ) (ends : Marks) (figures : List ℕ) where
+-- the code is lent the steps alone: its answer is right for all tables and numbers whose steps they are. A row has a stage, 1 or more
+module _ (ends : Marks) (steps : List Step) where
   abbrev pub JudgesBranch : ℕ → Bool → Type 0
-  JudgesBranch k r = (t : Tables) (ρ : ℕ → Assigned) → LookedUp t ρ n ends figures → r ≡ branch_runs t ρ k
+  JudgesBranch k r = (t : Tables) (ρ : ℕ → Assigned) → LookedUp t ρ ends steps → r ≡ branch_runs t ρ k
 
   abbrev pub JudgesRow : ℕ → ℕ → Bool → Type 0
-  JudgesRow k g r = (t : Tables) (ρ : ℕ → Assigned) → LookedUp t ρ n ends figures → 0 < g → r ≡ row_runs t ρ k g
+  JudgesRow k g r = (t : Tables) (ρ : ℕ → Assigned) → LookedUp t ρ ends steps → 0 < g → r ≡ row_runs t ρ k g

@@ -1,7 +1,7 @@
-// What the walk needs of each load, looked up once: the loads' parents, and the numbers of a run turned into stages.
-// The walk is lent these numbers in one list, so that no call in it copies the book or the loads, or hands on more than one reference: it may
+// What the walk needs of each load, looked up once: its parent, and the numbers of a run turned into stages.
+// The walk is lent these steps in one list, so that no call in it copies the book or the loads, or hands on more than one reference: it may
 // be two calls deep for each load, and book and loads are more than 1,000 bytes.
-ghost use Rattle.std.specs.Prelude.{◌*◌, ◌≤◌, ◌≡◌, true, length};
+ghost use Rattle.std.specs.Prelude.{◌*◌, ◌≤◌, ◌≡◌, true, length, take};
 ghost use Rattle.lists.specs.Argmax.{guard};
 ghost use Rattle.tables.specs.Limits.{max_rules};
 ghost use Rattle.tables.specs.Stored.{rules_of, tables_of, keeps_limits};
@@ -9,41 +9,37 @@ ghost use Rattle.meaning.specs.Runs.{rule};
 ghost use Rattle.judge.specs.Verdict.{proposed};
 ghost use Rattle.judge.specs.Figures.{step_of, LookedUp};
 
-use tables::load::MAX_LOADS;
+use tables::load::{Load, MAX_LOADS};
 use tables::rule::{Transition, TransitionList};
-use tables::tables::StoredTables;
+use tables::tables::{StoredBook, StoredTables};
 
-// Of one load: the stage at which the row of its children begins, the stage at which its row rule begins, and the stage at which its row
-// goes on. A stage is 0 where the rule names nothing or does not fit the load's state, or its kind.
+// Of one load: the stage at which the row of its children begins, the stage at which its row rule begins, the stage at which its row goes on,
+// and its parent. A stage is 0 where the rule names nothing or does not fit the load's state, or its kind.
 #[derive(Clone, Copy)]
 pub struct Step {
     pub begin: u8,
     pub stage: u8,
     pub next: u8,
+    pub parent: u8,
 }
 
-// Where the three numbers of the loads' steps stand in the list, and where the loads' parents. Load k's is k - 1 places on.
-pub const BEGINS: usize = 0;
-
-pub const STAGES: usize = MAX_LOADS;
-
-pub const NEXTS: usize = 2 * MAX_LOADS;
-
-pub const PARENTS: usize = 3 * MAX_LOADS;
-
-// The numbers of the list.
-pub const FIGURES: usize = 4 * MAX_LOADS;
+impl Step {
+    // What an unused place holds.
+    const NONE: Step = Step {
+        begin: 0,
+        stage: 0,
+        next: 0,
+        parent: 0,
+    };
+}
 
 // The rule with number n, counted from 1. A number that names nothing gives the rule of zeros.
-fn rule_at(rules: TransitionList, n: u32) -> Transition
-    requires { rules.count ≤ max_rules }
-    ensures { result ≡ rule (rules_of rules) n }
+fn rule_at(rules: &TransitionList, n: u32) -> Transition
+    requires { rules.now.count ≤ max_rules }
+    ensures { result ≡ rule (rules_of rules.now) n }
 {
     let number = n as usize;
-    if number == 0 {
-        return Transition::NONE;
-    }
-    if rules.count < number {
+    if !(1..=rules.count).contains(&number) {
         return Transition::NONE;
     }
     rules.items[number - 1]
@@ -56,51 +52,32 @@ fn only(test: bool, x: u8) -> u8
     if test { x } else { 0 }
 }
 
-// The step of a load of this kind with these three numbers.
-fn step_of(
-    load_rules: TransitionList,
-    row_rules: TransitionList,
-    kind: u8,
-    state: u32,
-    load_rule: u32,
-    row_rule: u32,
-) -> Step
-    requires { (load_rules.count ≤ max_rules) × (row_rules.count ≤ max_rules) }
-    ensures { result ≡ step_of (rules_of load_rules) (rules_of row_rules) kind (record { state = state; load_rule = load_rule; row_rule = row_rule }) }
+// The step of a load with these three numbers.
+#[tactic(auto, unfolding(crate::specs::Figures::step_of))]
+fn step_of(book: &StoredBook, load: Load, state: u32, load_rule: u32, row_rule: u32) -> Step
+    requires { (book.now.load_rules.count ≤ max_rules) × (book.now.row_rules.count ≤ max_rules) }
+    ensures { result ≡ step_of (rules_of book.now.load_rules) (rules_of book.now.row_rules) load (record { state = state; load_rule = load_rule; row_rule = row_rule }) }
 {
-    let l = rule_at(load_rules, load_rule);
-    let r = rule_at(row_rules, row_rule);
+    let l = rule_at(&book.load_rules, load_rule);
+    let r = rule_at(&book.row_rules, row_rule);
     Step {
-        begin: only((l.from as u32 == state) & (l.kind == kind), l.to),
-        stage: only(r.label as u32 == state, r.from),
+        begin: only(u32::from(l.from) == state && l.kind == load.kind, l.to),
+        stage: only(u32::from(r.label) == state, r.from),
         next: r.to,
+        parent: load.parent,
     }
 }
 
-// The figures of every load, by the numbers that the run gives it.
-pub(crate) fn look_up(t: StoredTables, run: &[u32]) -> [u8; FIGURES]
+// The steps of the loads, by the numbers that the run gives them. The first places are in use, one for each load.
+pub(crate) fn look_up(t: StoredTables, run: &[u32]) -> [Step; MAX_LOADS]
     requires { (keeps_limits t ≡ true) × (length run.now ≡ 3 * t.loads.count) }
-    ensures { LookedUp (tables_of t) (proposed run.now) t.loads.count t.book.ends result }
+    ensures { LookedUp (tables_of t) (proposed run.now) t.book.ends (take t.loads.count result) }
 {
-    let loads = t.loads;
-    let load_rules = t.book.load_rules;
-    let row_rules = t.book.row_rules;
-    let mut figures = [0u8; FIGURES];
-    for i in 0..loads.count {
+    let mut steps = [Step::NONE; MAX_LOADS];
+    // The index is a place in three lists, of which one has three numbers for each load.
+    for i in 0..t.loads.count {
         let at = 3 * i;
-        let l = loads.items[i];
-        let s = step_of(
-            load_rules,
-            row_rules,
-            l.kind,
-            run[at],
-            run[at + 1],
-            run[at + 2],
-        );
-        figures[BEGINS + i] = s.begin;
-        figures[STAGES + i] = s.stage;
-        figures[NEXTS + i] = s.next;
-        figures[PARENTS + i] = l.parent;
+        steps[i] = step_of(&t.book, t.loads.items[i], run[at], run[at + 1], run[at + 2]);
     }
-    figures
+    steps
 }

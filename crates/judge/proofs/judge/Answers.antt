@@ -1,18 +1,13 @@
 -- `judge` meets its contract: each way out is an answer's own case. Assumes nothing.
-use Prim.Native.Nat.{ℕ, ◌*◌}
-use mathlib.Core.List.{List}
 use mathlib.Core.Path.{◌≡◌, sym, ◌∙◌}
 use mathlib.Core.Bool.{Bool, true}
 use native.Mathlib.Omega.{arith}
 use borrow.Author.Rules.{rules}
 use lib.ListN.{length}
-use Rattle.lists.specs.Tests.{pick}
 use Rattle.lists.proofs.Arrays.{of_map}
 use Rattle.tables.specs.Limits.{max_loads}
 use Rattle.tables.specs.declared.tables.StoredTables.{StoredTables}
 use Rattle.tables.specs.Stored.{tables_of, keeps_limits}
-use Rattle.judge.specs.declared.Verdict.TheVariants.{Yes, No}
-use Rattle.judge.specs.Verdict.{is_run, judged}
 use Rattle.tables.proofs.Kept.{kept, few-loads}
 use Rattle.judge.proofs.Answers.{limit-broken, no-loads, not_three, says}
 use Rattle.judge.proofs.judge.Goals as goal
@@ -52,19 +47,8 @@ tree_runs-requires c =
     (keeps c.args.t _ c.keeps_limits.ensures.equation c.if-not-keeps_limits.false, omega (arith, c.if-n-eq0.false), c.if-run-n.false)
 
 -- past the third: what the judge says
-answer : (t : StoredTables) (run : List ℕ) (r : Bool) → keeps_limits t ≡ true → (t.loads.count ≡ 0 → ⊥) → length run ≡ 3 * t.loads.count
-    → r ≡ is_run (tables_of t) run → pick r Yes No ≡ judged t run
-answer t run r k some three e =
-    says t run k (omega (arith, counted t k, some)) (omega (arith, counted t k, three)) e
-
-pub returns-then-tree_runs : goal.returns-then-tree_runs
-returns-then-tree_runs c =
-    let a = c.args in
-    let k = keeps a.t _ c.keeps_limits.ensures.equation c.if-not-keeps_limits.false in
-    rw c.if-tree_runs.true at (answer a.t a.run.now _ k c.if-n-eq0.false c.if-run-n.false c.tree_runs.ensures)
-
-pub returns-else-tree_runs : goal.returns-else-tree_runs
-returns-else-tree_runs c =
-    let a = c.args in
-    let k = keeps a.t _ c.keeps_limits.ensures.equation c.if-not-keeps_limits.false in
-    rw c.if-tree_runs.false at (answer a.t a.run.now _ k c.if-n-eq0.false c.if-run-n.false c.tree_runs.ensures)
+pub returns : goal.returns
+returns c =
+    let t = c.args.t in
+    let k = keeps t _ c.keeps_limits.ensures.equation c.if-not-keeps_limits.false in
+    says t c.args.run.now k (omega (arith, counted t k, c.if-n-eq0.false)) (omega (arith, counted t k, c.if-run-n.false)) c.tree_runs.ensures

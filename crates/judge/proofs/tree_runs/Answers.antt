@@ -34,13 +34,24 @@ returns-then-run-ne0 c =
     root-row-rule (tables_of c.args.t) c.args.run.now (some-load c.args.t c.requires.0 c.requires.1)
     (start-at c.args.t _ _ c.is_start.ensures ∙ c.if-not-is_start.false) c.if-run-ne0.true
 
+pub slice_bounds-steps-end : goal.slice_bounds-steps-end
+slice_bounds-steps-end c = omega (arith, few-loads max_loads c.args.t (search (rules, of_map)) (kept c.args.t c.requires.0))
+
+pub slice_bounds-branch_runs-end : goal.slice_bounds-branch_runs-end
+slice_bounds-branch_runs-end c =
+    let e = c.look_up-steps.ensures.count in
+    let k = (kept c.args.t c.requires.0).counted in
+    omega (arith, e, k, few-loads max_loads c.args.t (search (rules, of_map)) (kept c.args.t c.requires.0))
+
 pub branch_runs-requires : goal.branch_runs-requires
 branch_runs-requires c =
-    (omega arith, c.requires.1, few-loads max_loads c.args.t (search (rules, of_map)) (kept c.args.t c.requires.0))
+    let e = c.look_up-steps.ensures.count in
+    let k = (kept c.args.t c.requires.0).counted in
+    (omega arith, omega (arith, e, k, c.requires.1), omega (arith, e, k, few-loads max_loads c.args.t (search (rules, of_map)) (kept c.args.t c.requires.0)))
 
 pub returns : goal.returns
 returns c =
     let t = tables_of c.args.t in
-    c.branch_runs.ensures t (proposed c.args.run.now) c.look_up-figures.ensures
+    c.branch_runs.ensures t (proposed c.args.run.now) c.look_up-steps.ensures
     ∙ root-runs t c.args.run.now (some-load c.args.t c.requires.0 c.requires.1)
     (start-at c.args.t _ _ c.is_start.ensures ∙ c.if-not-is_start.false) c.if-run-ne0.false

@@ -10,7 +10,7 @@ use Rattle.judge.proofs.walk.child_after.Given as goal
 
 abbrev pub invariant-loop-i : goal.invariant-loop-i
 invariant-loop-i l =
-    (l.k ≤ l.i) × (l.i ≤ l.n) × ((ls : List Load) → length ls ≡ l.n → ParentsOf ls l.figures → after ls l.k l.p ≡ after ls l.i l.p)
+    (l.k ≤ l.i) × (l.i ≤ length l.steps) × ((ls : List Load) → ParentsOf ls l.steps → after ls l.k l.p ≡ after ls l.i l.p)
 
 abbrev pub decreases-loop-i : goal.decreases-loop-i
-decreases-loop-i l = l.n - l.i
+decreases-loop-i l = length l.steps - l.i
