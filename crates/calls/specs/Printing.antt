@@ -1,16 +1,15 @@
 -- What is printed, and what is left in the work.
 -- It stands for "A refusal prints `no,N`" and for "After a plan or refusal 9 those cells are 0" of paper 01, and for what request Nine of paper 02 says
 -- of the cells. Assumes nothing.
-use Rattle.std.specs.Prelude.{ℕ, zero, suc, Bool, ◌||◌, List, [], ◌++◌, eqb, replicate, drop}
+use Rattle.std.specs.Prelude.{ℕ, zero, suc, Bool, ◌||◌, List, [], ◌++◌, eqb, replicate, drop, Err}
 use Rattle.lists.specs.Tests.{pick}
-use Rattle.lines.specs.declared.answer.Answer.TheVariants.{Refused}
 use Rattle.tables.specs.Refusals as no
 use Rattle.calls.specs.Rows.{Shown, alone, shown_text, Row, shown_of, cells_for}
 
 -- what a row with this number, 0 if accepted, is answered
 abbrev pub shown_by : (number : ℕ) → Row → Shown
 shown_by zero r = shown_of r
-shown_by (suc n) r = alone (Refused (suc n))
+shown_by (suc n) r = alone (Err (suc n))
 
 -- its text; refusal 1 returns "number, 0 bytes"
 unfoldable pub text : (number : ℕ) → Row → List ℕ

@@ -3,7 +3,7 @@
 -- It stands for the table of "Lines" and rows 2 to 10 of "Causes and numbers" of paper 01, and for the commands `save`, `drop`, `last` and `save1` of
 -- requests Two, Three, Five and Eight of paper 02, and `need` of its request Nine.
 -- Assumes nothing.
-use Rattle.std.specs.Prelude.{ℕ, suc, Bool, true, false, ◌&&◌, not, List, [], ◌∷◌, ◌++◌, eqb, leb, ltb, length}
+use Rattle.std.specs.Prelude.{ℕ, suc, Bool, true, false, ◌&&◌, not, List, [], ◌∷◌, ◌++◌, eqb, leb, ltb, length, Result, Ok}
 use Rattle.lists.specs.Tests.{some}
 use Rattle.marks.specs.Sets.{mark_in}
 use Rattle.lines.specs.declared.SaveForm.{SaveForm}
@@ -49,9 +49,9 @@ pub record Changing : Type 0 where
   pub causes : List Cause
   pub after : Tables
 
--- an answer, the entries whose load lines it shows, and the changes whose lines it writes
+-- an answer or a refusal, the entries whose load lines it shows, and the changes whose lines it writes
 pub record Shown : Type 0 where
-  pub answer : Answer
+  pub answer : Result Answer ℕ
   pub entries : List Entry
   pub changes : List Change
 
@@ -63,20 +63,20 @@ pub data Row : Type 0 where
   works : (stores : Bool) (bytes cells : ℕ) (before after : List Cause) (shown : Shown) → Row
 
 -- ---- what is shown
-abbrev pub alone : Answer → Shown
+abbrev pub alone : Result Answer ℕ → Shown
 alone a = record { answer = a; entries = []; changes = [] }
 
 -- "A plan prints `plan,worth,power,n`, n being the number of loads on": the figures of the set shown
 abbrev pub showing_plan : Tables → List Entry → Shown
-showing_plan t es = record { answer = Planned (worth t (shown_set es)) (power t (shown_set es)) (number_on t (shown_set es)); entries = es; changes = [] }
+showing_plan t es = record { answer = Ok (Planned (worth t (shown_set es)) (power t (shown_set es)) (number_on t (shown_set es))); entries = es; changes = [] }
 
 -- "An allowed check prints `yes` and the same load lines."
 abbrev pub showing_check : List Entry → Shown
-showing_check es = record { answer = Allowed; entries = es; changes = [] }
+showing_check es = record { answer = Ok Allowed; entries = es; changes = [] }
 
 -- "The command `save` writes lines that rebuild the state" of request Two, in a form
 abbrev pub showing_save : SaveForm → Tables → Shown
-showing_save f t = record { answer = Saved f; entries = []; changes = saved t }
+showing_save f t = record { answer = Ok (Saved f); entries = []; changes = saved t }
 
 abbrev pub shown_text : Shown → List ℕ
 shown_text x = text_of x.answer x.entries x.changes
@@ -145,7 +145,7 @@ changing t (to.Drop k) = unless ((no.out_of_range if not (is_load t k)) ∷ (no.
 
 -- a line that has this number whatever the state
 abbrev pub refuses : ℕ → Row
-refuses n = shows free_bytes ((n if true) ∷ []) (alone Accepted)
+refuses n = shows free_bytes ((n if true) ∷ []) (alone (Ok Accepted))
 
 unfoldable pub row : State → Command → Row
 row s (line.Change c) = changes (changing s.tables c)
@@ -174,7 +174,7 @@ row s (line.Need v) =
     works false free_bytes (cells_of t)
     ((no.no_loads if eqb (length t.loads) 0) ∷ (no.out_of_range if not (need_in t.places v)) ∷ [])
     ((no.none_fits if none_fits t) ∷ (no.too_poor if poorer t v) ∷ [])
-    (alone (Needed (least_budget t v)))
+    (alone (Ok (Needed (least_budget t v))))
 -- "no command of the table, wrong field count or form"
 row s line.Broken = refuses no.broken
 -- "line over 80 bytes", 144 with request Ten
@@ -219,7 +219,7 @@ is_show (works k b m before after x) = not k
 
 -- "An accepted change prints `ok`."
 abbrev pub shown_of : Row → Shown
-shown_of (changes x) = alone Accepted
+shown_of (changes x) = alone (Ok Accepted)
 shown_of (shows b cs x) = x
 shown_of (works k b m before after x) = x
 

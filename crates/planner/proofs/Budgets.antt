@@ -1,22 +1,22 @@
 -- The ways out of `need`: a refusal, or the least budget. Assumes nothing.
+use Rattle.std.specs.Prelude.{None, Result, Ok, Err}
 use Prim.Native.Nat.{ℕ, ◌≤◌, ◌<◌}
 use mathlib.Core.Path.{◌≡◌, refl, sym, ap, ◌∙◌}
 use mathlib.Core.Bool.{Bool, true, false}
-use mathlib.Core.List.{List, []}
+use mathlib.Core.List.{List}
 use borrow.Author.Tests.{eq-eqb, ne_eqb, lt-ltb}
 use lib.ListN.{length}
 use Rattle.lists.specs.Tests.{pick}
 use Rattle.lines.specs.declared.Command.TheVariants as line
-use Rattle.lines.specs.declared.answer.Answer.TheVariants.{Needed, Refused}
-use Rattle.lines.specs.Answers.{number_of}
+use Rattle.lines.specs.declared.answer.Answer.TheVariants.{Needed}
+use Rattle.lines.specs.Answers.{number_of, numbered}
+use Rattle.tables.specs.declared.refusal.Refusal.{Refusal}
+use Rattle.tables.specs.declared.refusal.Refusal.TheVariants.{NoneFits, TooPoor}
 use Rattle.tables.specs.Refusals as no
 use Rattle.tables.specs.Tables.{Tables}
-use Rattle.tables.specs.Limits.{need_in, max_loads}
+use Rattle.tables.specs.Limits.{need_in}
 use Rattle.meaning.specs.Cells.{cells_of}
 use Rattle.meaning.specs.Need.{none_fits, poorer, least_budget}
-use Rattle.runs.specs.Runs.{run_of}
-use Rattle.engine.specs.declared.need.Need.{Need}
-use Rattle.engine.specs.declared.need.Need.TheVariants.{NoneFits, Poorer, Least}
 use Rattle.engine.specs.Need.{need_of}
 use Rattle.calls.specs.State.{State}
 use Rattle.calls.specs.Rows.{Row, row, causes_of, cells_for}
@@ -25,9 +25,8 @@ use Rattle.calls.specs.Printing.{zeroed, searched}
 use Rattle.calls.proofs.Work.{row-zeroed}
 use Rattle.calls.proofs.Need.{number_by, searched-by, need-lowest}
 use Rattle.planner.specs.declared.Planner.{Planner}
-use Rattle.planner.specs.declared.search.Decided.{Decided}
 use Rattle.planner.specs.Planner.{state_in, Lawful}
-use Rattle.planner.specs.Decided.{need_answer, unshown, decided_by, Decides}
+use Rattle.planner.specs.Decided.{need_answer, unshown, Decision, decision, decided_by, Decides}
 use Rattle.planner.proofs.Searching.{is_held}
 
 -- ---- its numbers before it looks
@@ -53,31 +52,30 @@ module _ (p : Planner) (h : Lawful p) (v : ℕ) where
   abbrev need_row : Row
   need_row = row (state_in p) (line.Need v)
 
-  abbrev said : (none poor : Bool) → Need
-  said a b = pick a NoneFits (pick b Poorer (Least (least_budget t v)))
+  abbrev said : (none poor : Bool) → Result ℕ Refusal
+  said a b = pick a (Err NoneFits) (pick b (Err TooPoor) (Ok (least_budget t v)))
 
-  answers : (a b : Bool) → unshown (need_answer (said a b)) p ≡ decided_by (state_in p) (number_by a b) need_row
-  unfolding decided_by row need_answer
-  answers true b = λ i. record { answer = Refused no.none_fits; run = run_of max_loads []; planner = is_held p h i }
-  answers false true = λ i. record { answer = Refused no.too_poor; run = run_of max_loads []; planner = is_held p h i }
-  answers false false = λ i. record { answer = Needed (least_budget t v); run = run_of max_loads []; planner = is_held p h i }
+  answers : (a b : Bool) → decision (unshown (need_answer (said a b)) p) ≡ decided_by (state_in p) (number_by a b) need_row
+  unfolding decided_by row
+  answers true b = λ i. record { answer = Err no.none_fits; run = None; planner = is_held p h i }
+  answers false true = λ i. record { answer = Err no.too_poor; run = None; planner = is_held p h i }
+  answers false false = λ i. record { answer = Ok (Needed (least_budget t v)); run = None; planner = is_held p h i }
 
-  numbered : (a b : Bool) → number_of (need_answer (said a b)) ≡ number_by a b
-  unfolding need_answer
-  numbered true b = refl
-  numbered false true = refl
-  numbered false false = refl
+  number : (a b : Bool) → number_of (numbered (need_answer (said a b))) ≡ number_by a b
+  number true b = refl
+  number false true = refl
+  number false false = refl
 
   -- it is answered so, and its cells are 0
   pub needs-done : (w u : List ℕ) → (length t.loads ≡ 0 → ⊥) → need_in t.places v ≡ true → cells_of t ≤ length w → u ≡ zeroed (cells_for need_row) w
-      → {d : Decided} (n : Need) → n ≡ need_of t v → d ≡ unshown (need_answer n) p → Decides (state_in p) need_row w u d
+      → (n : Result ℕ Refusal) → n ≡ need_of t v → Decides (state_in p) need_row w u (unshown (need_answer n) p)
   unfolding need_of
-  needs-done w u some value room cleared {d} n en ed =
+  needs-done w u some value room cleared n en =
       let a = none_fits t in
       let b = poorer t v in
-      let e : d ≡ unshown (need_answer (said a b)) p = ed ∙ ap (λ (x : Need). unshown (need_answer x) p) en in
-      let number = ap (λ (x : Decided). number_of x.answer) e ∙ numbered a b in
+      let e : decision (unshown (need_answer n) p) ≡ decision (unshown (need_answer (said a b)) p) = ap (λ (x : Result ℕ Refusal). decision (unshown (need_answer x) p)) en in
+      let given = ap (λ (x : Decision). number_of x.answer) e ∙ number a b in
       record {
         answer = e ∙ answers a b ∙ ap (λ m. decided_by (state_in p) m need_row) (sym (need-lowest (state_in p) v (length w) some value room));
-        work = cleared ∙ sym (row-zeroed (number_of d.answer) need_row w (ap searched number ∙ searched-by a b));
+        work = cleared ∙ sym (row-zeroed (number_of (numbered (need_answer n))) need_row w (ap searched given ∙ searched-by a b));
       }

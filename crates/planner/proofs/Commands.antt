@@ -3,17 +3,21 @@ use Prim.Native.Nat.{ℕ, zero, suc, ◌≤◌}
 use mathlib.Core.Path.{◌≡◌, refl, sym, ap, ◌∙◌}
 use mathlib.Core.Bool.{Bool, true, false, ◌&&◌, not}
 use mathlib.Core.List.{List, [], ◌∷◌}
-use borrow.Author.Tests.{not-true, not-false}
+use Rattle.std.specs.Prelude.{Result, Ok, Err}
+use Rattle.std.proofs.lemmas.Result.{MatchResult-at_ok, MatchResult-at_err}
 use lib.Dec.{leb}
 use lib.ListN.{length}
-use Rattle.lists.specs.Tests.{some}
+use Rattle.lists.specs.Tests.{pick, some}
 use Rattle.lists.proofs.Bools.{and_left}
 use Rattle.lines.specs.declared.Change.{Change}
 use Rattle.lines.specs.declared.Change.TheVariants as to
+use Rattle.lines.specs.declared.answer.Answer.{Answer}
+use Rattle.lines.specs.declared.answer.Answer.TheVariants.{Accepted}
 use Rattle.lines.specs.Answers.{answer_of}
 use Rattle.tables.specs.declared.tables.StoredTables.{StoredTables}
-use Rattle.tables.specs.declared.tables.Added.{Added}
-use Rattle.tables.specs.declared.rule.RuleRange.{RuleRange}
+use Rattle.tables.specs.declared.refusal.Refusal.{Refusal}
+use Rattle.tables.specs.declared.refusal.Refusal.TheVariants.{OutOfRange}
+use Rattle.tables.specs.Refusals.{number_of, numbered, told}
 use Rattle.tables.specs.declared.rule.Sort.{Sort}
 use Rattle.tables.specs.declared.rule.Sort.TheVariants as sort
 use Rattle.tables.specs.declared.rule.Transition.{Transition}
@@ -21,26 +25,24 @@ use Rattle.tables.specs.declared.load.Figure.{Figure}
 use Rattle.tables.specs.declared.load.Load.{Load}
 use Rattle.tables.specs.Refusals as no
 use Rattle.tables.specs.Tables.{Tables, size_for, rules_for}
-use Rattle.tables.specs.Limits.{between, rule_in, range_for, same_rule, max_rules, load_in, figure_in, max_loads}
+use Rattle.tables.specs.Limits.{between, rule_in, range_for, same_rule, max_rules, figure_in, max_loads}
 use Rattle.tables.specs.Stored.{held_size, stored, loads_of, book_of, tables_of, Holds}
 use Rattle.tables.specs.Changes.{has_children}
-use Rattle.tables.specs.Operations.{accepted, adding_number, rule_number, load_number, rule_added, figure_changed, load_dropped}
+use Rattle.tables.specs.Operations.{adding_number, rule_number, load_number, rule_added, figure_changed, load_dropped}
 use Rattle.tables.proofs.Lawful.{inside}
 use Rattle.tables.proofs.Stored.{held-loads}
 use Rattle.tables.proofs.Changes.{rule-added, figure-changed}
 use Rattle.tables.proofs.Removed.{load-dropped}
 use Rattle.runs.specs.Outcome.{nothing, stored_outcome}
-use Rattle.calls.specs.Rows.{Cause, ◌if◌, is_load, Row, changes, effect_of, unless, adding, setting, changing}
+use Rattle.calls.specs.Rows.{Cause, ◌if◌, is_load, changes, effect_of, unless, adding, setting, changing}
 use Rattle.calls.specs.Causes.{lowest}
-use Rattle.calls.specs.Effects.{acted}
-use Rattle.calls.specs.State.{StoredState}
+use Rattle.calls.specs.Effects.{state_by}
+use Rattle.calls.specs.State.{State, StoredState, stored_state}
 use Rattle.calls.proofs.State.{is-stored, places, kept-within, kept-stored}
 use Rattle.calls.proofs.Rows.{change-places}
 use Rattle.planner.specs.declared.Planner.{Planner}
-use Rattle.planner.specs.declared.changes.NamedRule.{NamedRule}
-use Rattle.planner.specs.declared.changes.NamedLoad.{NamedLoad}
-use Rattle.planner.specs.Planner.{held, state_in, Lawful}
-use Rattle.planner.specs.Changes.{named_rule, named_load, told, told_by, told_for, settled, made_by, changed_by}
+use Rattle.planner.specs.Planner.{held, planner_of, state_in, Lawful}
+use Rattle.planner.specs.Changes.{named_rule, told_by, told_for}
 
 -- ---- numbers: "value out of its range" comes first, then what the list of rules or loads says
 out : (b : Bool) (cs : List Cause) → b ≡ false → lowest ((no.out_of_range if not b) ∷ cs) ≡ no.out_of_range
@@ -88,65 +90,67 @@ size-held u sort.Row = refl
 pub outcome-held : (p : Planner) → Lawful p → p.outcome ≡ stored_outcome max_loads (state_in p).outcome
 outcome-held p h = ap (λ (k : StoredState). k.outcome) (kept-stored (held p) h) ∙ ap (λ (n : ℕ). stored_outcome n (state_in p).outcome) (places p.tables h.tables)
 
--- the outcome after a change: wiped where it is accepted
-outcome-after : (p : Planner) → Lawful p → (n : ℕ) → accepted n (stored_outcome max_loads nothing) p.outcome ≡ stored_outcome max_loads (accepted n nothing (state_in p).outcome)
-outcome-after p h zero = refl
-outcome-after p h (suc n) = outcome-held p h
+-- the answer of a change that tells this, and the planner after it: "an accepted change wipes" the outcome, and starts the filling over
+abbrev pub answered : Result StoredTables ℕ → Result Answer ℕ
+answered (Ok u) = Ok Accepted
+answered (Err n) = Err n
 
-acted-accepted : (t : Tables) (n : ℕ) (r : Row) → acted t n r ≡ accepted n (effect_of t r) t
-acted-accepted t zero r = refl
-acted-accepted t (suc n) r = refl
+abbrev pub settled : Planner → Result StoredTables ℕ → Planner
+settled p (Ok u) = record { tables = u; outcome = stored_outcome max_loads nothing; filled = 0 }
+settled p (Err n) = p
 
-acted-places : (t : Tables) (n : ℕ) (c : Change) → (acted t n (changes (changing t c))).places ≡ t.places
-acted-places t zero c = change-places t c
-acted-places t (suc n) c = refl
+module _ (p : Planner) (h : Lawful p) (c : Change) {r : Result StoredTables ℕ} (is : r ≡ told_for (state_in p) c) where
+  pub answered_is : answered r ≡ answer_of (lowest (changing (state_in p).tables c).causes)
+  unfolding told_by
+  answered_is = ap answered is ∙ go (lowest (changing (state_in p).tables c).causes)
+    where
+      go : (n : ℕ) → answered (told n (stored (changing (state_in p).tables c).after)) ≡ answer_of n
+      go zero = refl
+      go (suc n) = refl
 
--- what a change tells, with the planner made of it
-pub settled_is : (p : Planner) → Lawful p → (c : Change) (d : Added) → d ≡ told_for (state_in p) c → settled p d.number d.tables ≡ changed_by (state_in p) c
-unfolding told_by made_by
-settled_is p h c d is =
-    let t = (state_in p).tables in
-    let x = changing t c in
-    let n = lowest x.causes in
-    let left = sym (acted-accepted t n (changes x)) in
-    let as_many : max_loads ≡ (acted t n (changes x)).places = sym (acted-places t n c ∙ places p.tables h.tables) in
-    let outcome = outcome-after p h n ∙ ap (λ (k : ℕ). stored_outcome k (accepted n nothing (state_in p).outcome)) as_many in
-    ap (λ (d : Added). settled p d.number d.tables) is
-    ∙ (λ i. record { answer = answer_of n; planner = record { tables = stored (left i); outcome = outcome i; filled = accepted n 0 p.filled } })
+  pub settled_is : settled p r ≡ planner_of (stored_state (state_by (state_in p) (lowest (changing (state_in p).tables c).causes) (changes (changing (state_in p).tables c))))
+  unfolding told_by
+  settled_is = ap (settled p) is ∙ go (lowest (changing t c).causes)
+    where
+      t : Tables
+      t = (state_in p).tables
+
+      as_many : max_loads ≡ (effect_of t (changes (changing t c))).places
+      as_many = sym (change-places t c ∙ places p.tables h.tables)
+
+      go : (n : ℕ) → settled p (told n (stored (changing t c).after)) ≡ planner_of (stored_state (state_by (state_in p) n (changes (changing t c))))
+      go zero = λ i. record { tables = stored (changing t c).after; outcome = stored_outcome (as_many i) nothing; filled = 0 }
+      go (suc n) = ap planner_of (kept-stored (held p) h)
 
 -- ---- the ways out of a change whose first cause is "value out of its range"
-module _ (p : Planner) (h : Lawful p) {r : Added} (b : Bool) (cs : List Cause) (after : Tables) where
-  -- out of range: its number, and the tables as they were
-  pub out_of_range : b ≡ false → r ≡ told no.out_of_range p.tables → r ≡ told_by (state_in p) (unless ((no.out_of_range if not b) ∷ cs) after)
+module _ (s : State) (b : Bool) (cs : List Cause) (after : Tables) where
+  pub out_of_range : b ≡ false → Err no.out_of_range ≡ told_by s (unless ((no.out_of_range if not b) ∷ cs) after)
   unfolding told_by
-  out_of_range e is = is ∙ rw (out b cs e) (ap (told no.out_of_range) (is-stored p.tables h.tables))
+  out_of_range e = rw (out b cs e)
 
-  -- in range: the number and the tables that the operation gives
-  pub operated : b ≡ true → (d : Added) → d ≡ told (lowest cs) (stored (accepted (lowest cs) after (tables_of p.tables)))
-      → r ≡ d → r ≡ told_by (state_in p) (unless ((no.out_of_range if not b) ∷ cs) after)
+  -- in range: what the operation gives
+  pub operated : b ≡ true → {r : Result StoredTables ℕ} → r ≡ told (lowest cs) (stored after) → r ≡ told_by s (unless ((no.out_of_range if not b) ∷ cs) after)
   unfolding told_by
-  operated e d given is = is ∙ given ∙ rw (not-out b cs e)
+  operated e given = rw (not-out b cs e) given
 
 -- in range, where that is the only cause: accepted
-pub accepts : (p : Planner) (h : Lawful p) {r : Added} (b : Bool) (after : Tables) → b ≡ true → (u : StoredTables) → u ≡ stored after → r ≡ told 0 u
-    → r ≡ told_by (state_in p) (unless ((no.out_of_range if not b) ∷ []) after)
+pub accepts : (s : State) (b : Bool) (after : Tables) → b ≡ true → {u : StoredTables} → u ≡ stored after → Ok u ≡ told_by s (unless ((no.out_of_range if not b) ∷ []) after)
 unfolding lowest
-accepts p h b after e u given is = operated p h b [] after e (told 0 u) (ap (told 0) given) is
+accepts s b after e given = operated s b [] after e (ap Ok given)
 
 -- another figure of load k: set where there is such a load and the figure fits
 module _ (p : Planner) (h : Lawful p) (f : Figure) (k x : ℕ) {there fits : Bool} (looked : there ≡ between 1 p.tables.loads.count k) (compared : fits ≡ figure_in f x) where
   tested : there && fits ≡ is_load (state_in p).tables k && figure_in f x
   tested = rw (looked, compared) (ap (λ (n : ℕ). between 1 n k && figure_in f x) (load-count p h))
 
-  pub figure-refused : {d : Added} → there && fits ≡ false → d ≡ told no.out_of_range p.tables → d ≡ told_by (state_in p) (setting (state_in p).tables f k x)
-  figure-refused e = out_of_range p h (is_load (state_in p).tables k && figure_in f x) [] _ (sym tested ∙ e)
+  pub figure-refused : there && fits ≡ false → Err no.out_of_range ≡ told_by (state_in p) (setting (state_in p).tables f k x)
+  figure-refused e = out_of_range (state_in p) (is_load (state_in p).tables k && figure_in f x) [] _ (sym tested ∙ e)
 
-  pub figure-set : {d : Added} → there && fits ≡ true → (u : StoredTables) → u ≡ figure_changed p.tables f k x → d ≡ told 0 u
-      → d ≡ told_by (state_in p) (setting (state_in p).tables f k x)
-  figure-set e u given =
+  pub figure-set : there && fits ≡ true → {u : StoredTables} → u ≡ figure_changed p.tables f k x → Ok u ≡ told_by (state_in p) (setting (state_in p).tables f k x)
+  figure-set e given =
       let passed = sym tested ∙ e in
       let is-there = inside 1 (length (state_in p).tables.loads) k (and_left (is_load (state_in p).tables k) (figure_in f x) passed) in
-      accepts p h (is_load (state_in p).tables k && figure_in f x) _ passed u
+      accepts (state_in p) (is_load (state_in p).tables k && figure_in f x) _ passed
       (given ∙ ap (λ (y : StoredTables). figure_changed y f k x) (is-stored p.tables h.tables) ∙ figure-changed (state_in p).tables (kept-within (held p) h).tables f k x is-there.0 is-there.1)
 
 -- load k leaves, where there is such a load and it has no children
@@ -154,9 +158,9 @@ module _ (p : Planner) (h : Lawful p) (k : ℕ) {there : Bool} (looked : there �
   number-tested : there ≡ is_load (state_in p).tables k
   number-tested = looked ∙ ap (λ (n : ℕ). between 1 n k) (load-count p h)
 
-  pub no-load : {d : Added} → there ≡ false → d ≡ told no.out_of_range p.tables → d ≡ told_for (state_in p) (to.Drop k)
+  pub no-load : there ≡ false → Err no.out_of_range ≡ told_for (state_in p) (to.Drop k)
   unfolding changing
-  no-load e = out_of_range p h (is_load (state_in p).tables k) _ _ (sym number-tested ∙ e)
+  no-load e = out_of_range (state_in p) (is_load (state_in p).tables k) _ _ (sym number-tested ∙ e)
 
   module _ (e : there ≡ true) where
     passed : is_load (state_in p).tables k ≡ true
@@ -166,45 +170,38 @@ module _ (p : Planner) (h : Lawful p) (k : ℕ) {there : Bool} (looked : there �
     is-there = inside 1 (length (state_in p).tables.loads) k passed
 
     module _ {parent : Bool} (asked : parent ≡ has_children k (loads_of p.tables.loads)) where
-      pub load-stays : {d : Added} → parent ≡ true → d ≡ told no.has_children p.tables → d ≡ told_for (state_in p) (to.Drop k)
+      pub load-stays : parent ≡ true → Err no.has_children ≡ told_for (state_in p) (to.Drop k)
       unfolding changing tables_of lowest
-      load-stays some =
-          operated p h (is_load (state_in p).tables k) _ _ passed (record { number = no.has_children; tables = p.tables })
-          (rw (← asked, some) (λ i. record { number = no.has_children; tables = is-stored p.tables h.tables i }))
+      load-stays some = operated (state_in p) (is_load (state_in p).tables k) _ _ passed (rw (← asked, some) refl)
 
-      pub load-leaves : {d : Added} → parent ≡ false → (u : StoredTables) → u ≡ load_dropped p.tables k → d ≡ told 0 u → d ≡ told_for (state_in p) (to.Drop k)
+      pub load-leaves : parent ≡ false → {u : StoredTables} → u ≡ load_dropped p.tables k → Ok u ≡ told_for (state_in p) (to.Drop k)
       unfolding changing tables_of lowest
-      load-leaves none u given =
+      load-leaves none given =
           let left = given ∙ ap (λ (y : StoredTables). load_dropped y k) (is-stored p.tables h.tables) ∙ load-dropped (state_in p).tables (kept-within (held p) h).tables k is-there.0 is-there.1 in
-          operated p h (is_load (state_in p).tables k) _ _ passed (record { number = 0; tables = u })
-          (rw (← asked, none) (λ i. record { number = 0; tables = left i }))
+          operated (state_in p) (is_load (state_in p).tables k) _ _ passed (rw (← asked, none) (ap Ok left))
 
 -- ---- the rule or the load that a line names
-named-fits : (m : RuleRange) (r : Transition) {x : NamedRule} → x ≡ named_rule m r → x.fits ≡ rule_in m r
-unfolding named_rule
-named-fits m r is = ap (λ (x : NamedRule). x.fits) is
+pub named-err : {A : Type 0} (b : Bool) (x : A) {e : Refusal} → pick b (Ok x) (Err OutOfRange) ≡ Err e → (b ≡ false) × (OutOfRange ≡ e)
+named-err true x {e} h = absurd (MatchResult-at_err (λ y. x ≡ x) (λ e. ⊥) e h refl)
+named-err false x {e} h = (refl, MatchResult-at_err (λ y. x ≡ x) (λ z. OutOfRange ≡ z) e h refl)
 
-named-is : (m : RuleRange) (r : Transition) {x : NamedRule} → x ≡ named_rule m r → rule_in m r ≡ true → x.rule ≡ r
-unfolding named_rule
-named-is m r is e = ap (λ (x : NamedRule). x.rule) is ∙ rw e
-
-pub load_fits : (k : ℕ) (l : Load) {x : NamedLoad} → x ≡ named_load k l → x.fits ≡ load_in k l
-unfolding named_load
-load_fits k l is = ap (λ (x : NamedLoad). x.fits) is
-
-pub load_is : (k : ℕ) (l : Load) {x : NamedLoad} → x ≡ named_load k l → load_in k l ≡ true → x.load ≡ l
-unfolding named_load
-load_is k l is e = ap (λ (x : NamedLoad). x.load) is ∙ rw e
+pub named-ok : {A : Type 0} (b : Bool) (x : A) {y : A} → pick b (Ok x) (Err OutOfRange) ≡ Ok y → (b ≡ true) × (y ≡ x)
+named-ok true x {y} h = (refl, MatchResult-at_ok (λ z. z ≡ x) (λ e. x ≡ x) y h refl)
+named-ok false x {y} h = absurd (MatchResult-at_ok (λ y. ⊥) (λ e. x ≡ x) y h refl)
 
 -- a rule of either sort
-module _ (p : Planner) (h : Lawful p) (k : Sort) (r : Transition) {x : NamedRule} (is : x ≡ named_rule (range_for (state_in p).tables.book k) r) {d : Added} where
-  pub rule-refused : not x.fits ≡ true → d ≡ told no.out_of_range p.tables → d ≡ told_by (state_in p) (adding (state_in p).tables k r)
-  rule-refused e = out_of_range p h (rule_in (range_for (state_in p).tables.book k) r) _ _ (sym (named-fits _ r is) ∙ not-true _ e)
+module _ (p : Planner) (h : Lawful p) (k : Sort) (r : Transition) where
+  pub rule-refused : {e : Refusal} → named_rule (range_for (state_in p).tables.book k) r ≡ Err e → Err (number_of e) ≡ told_by (state_in p) (adding (state_in p).tables k r)
+  unfolding named_rule
+  rule-refused given =
+      let n = named-err (rule_in (range_for (state_in p).tables.book k) r) r given in
+      ap (λ (z : Refusal). Err (number_of z)) (sym n.1) ∙ out_of_range (state_in p) (rule_in (range_for (state_in p).tables.book k) r) _ _ n.0
 
-  pub rule-stored : not x.fits ≡ false → (o : Added) → o ≡ rule_added p.tables k x.rule → d ≡ o
-      → d ≡ told_by (state_in p) (adding (state_in p).tables k r)
-  rule-stored e o given =
-      let fits = sym (named-fits _ r is) ∙ not-false _ e in
-      operated p h (rule_in (range_for (state_in p).tables.book k) r) _ _ fits o
-      (given ∙ ap (rule_added p.tables k) (named-is _ r is fits) ∙ ap (λ (y : StoredTables). rule_added y k r) (is-stored p.tables h.tables)
+  pub rule-stored : {x : Transition} → named_rule (range_for (state_in p).tables.book k) r ≡ Ok x → {d : Result StoredTables Refusal} → d ≡ rule_added p.tables k x
+      → numbered d ≡ told_by (state_in p) (adding (state_in p).tables k r)
+  unfolding named_rule
+  rule-stored is given =
+      let n = named-ok (rule_in (range_for (state_in p).tables.book k) r) r is in
+      operated (state_in p) (rule_in (range_for (state_in p).tables.book k) r) _ _ n.0
+      (ap numbered (given ∙ ap (rule_added p.tables k) n.1 ∙ ap (λ (y : StoredTables). rule_added y k r) (is-stored p.tables h.tables))
       ∙ rw (rule-lowest (rules_for (state_in p).tables.book k) r) (rule-added (state_in p).tables (kept-within (held p) h).tables k r))

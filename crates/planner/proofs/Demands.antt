@@ -2,13 +2,15 @@
 -- Assumes nothing.
 use Prim.Native.Nat.{ℕ, ◌≤◌, ◌<◌}
 use mathlib.Core.Path.{◌≡◌, sym, ap, subst, ◌∙◌}
-use mathlib.Core.Bool.{false}
+use mathlib.Core.Bool.{Bool, false}
 use mathlib.Core.List.{List}
 use lib.Dec.{lit≤}
 use Rattle.marks.specs.declared.LoadSet.{LoadSet}
 use Rattle.lines.specs.declared.SaveForm.{SaveForm}
 use Rattle.lines.specs.Saved.{loses_kinds}
 use Rattle.lines.specs.Input.{lines}
+use Rattle.std.specs.Prelude.{Result}
+use Rattle.tables.specs.declared.refusal.Refusal.{Refusal}
 use Rattle.tables.specs.Limits.{max_loads}
 use Rattle.tables.specs.Kinds.{has_kinds}
 use Rattle.meaning.specs.Kindless.{AsBefore}
@@ -38,7 +40,6 @@ use Rattle.calls.proofs.Drops.{drops}
 use Rattle.calls.proofs.Last.{last_stored}
 use Rattle.calls.proofs.Need.{need-called}
 use Rattle.planner.specs.declared.Planner.{Planner}
-use Rattle.judge.specs.declared.Verdict.{Verdict}
 use Rattle.planner.specs.Planner.{held, state_in, fresh, Lawful}
 use Rattle.planner.specs.Verdict.{judged_by, CaseBy}
 use Rattle.planner.proofs.Judging.{judges-exactly}
@@ -73,7 +74,7 @@ pub demand3 : (xs : List Event) → History (held fresh) xs → Demand3 max_load
 demand3 = paper3.demand3 max_loads (lit≤ tt)
 
 -- the judge: on every planner each answer is given exactly in its case, 1 where it breaks a limit, its outcome's too
-pub judge : (p : Planner) (ns : List ℕ) (v : Verdict) → v ≡ judged_by (held p) ns → CaseBy (held p) ns v
+pub judge : (p : Planner) (ns : List ℕ) (v : Result Bool Refusal) → v ≡ judged_by (held p) ns → CaseBy (held p) ns v
 judge p ns v is = (judges-exactly (held p) ns v).0 (sym is)
 
 -- requests One and Eight: on every planner, whatever it holds, lists of calls whose lines differ only in leading zeros, or in a kind 0 that is written

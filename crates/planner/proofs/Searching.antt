@@ -1,4 +1,5 @@
 -- The ways out of `plan`, `check` and `last`: a refusal, or what was found. Assumes nothing.
+use Rattle.std.specs.Prelude.{None, Some, Result, Ok, Err}
 use Prim.Native.Nat.{ℕ, zero, suc, ◌+◌, ◌*◌, ◌≤◌, ◌<◌}
 use mathlib.Core.Path.{◌≡◌, refl, sym, ap, ap₂, subst, ◌∙◌}
 use mathlib.Core.Bool.{true, false}
@@ -6,15 +7,17 @@ use mathlib.Core.List.{List, [], ◌∷◌, ◌++◌}
 use native.Mathlib.Nat.{mul-le-mul}
 use native.Mathlib.Omega.{arith}
 use borrow.Author.Tests.{eq-eqb, ne_eqb, lt-ltb, le-ltb}
-use lib.Dec.{eqb, lit≤}
+use lib.Dec.{eqb, lit≤, lit<}
 use lib.ListN.{length}
 use Rattle.lists.proofs.Bools.{or_left}
 use Rattle.marks.specs.declared.LoadSet.{LoadSet}
 use Rattle.marks.specs.Sets.{size_of, mark_in}
 use Rattle.lines.specs.declared.Command.TheVariants.{Plan, Check, Last}
-use Rattle.lines.specs.declared.answer.Answer.TheVariants.{Planned, Allowed, Refused}
-use Rattle.lines.specs.Answers.{plan_line, entry_lines, number_of}
+use Rattle.lines.specs.declared.answer.Answer.TheVariants.{Planned, Allowed}
+use Rattle.lines.specs.Answers.{plan_line, entry_lines, number_of, numbered}
 use Rattle.tables.specs.declared.tables.StoredTables.{StoredTables}
+use Rattle.tables.specs.declared.refusal.Refusal.{Refusal}
+use Rattle.tables.specs.declared.refusal.Refusal.TheVariants.{NoPlan, NoneFits}
 use Rattle.tables.specs.Refusals as no
 use Rattle.tables.specs.Tables.{Tables}
 use Rattle.tables.specs.Limits.{max_loads, max_states, max_budget, Limits}
@@ -32,7 +35,7 @@ use Rattle.meaning.specs.Need.{none_fits}
 use Rattle.runs.specs.declared.run.Run.{Run}
 use Rattle.runs.specs.declared.outcome.StoredOutcome.{StoredOutcome}
 use Rattle.runs.specs.Runs.{run_of, entries_to}
-use Rattle.runs.specs.Outcome.{Outcome, planned, is_nothing, is_no_set, entries_of, found, stored_outcome, of_status, outcome_of, range_of}
+use Rattle.runs.specs.Outcome.{Outcome, planned, is_nothing, is_no_set, entries_of, found, stored_outcome, stored_found, latest_by, of_status, outcome_of, range_of}
 use Rattle.runs.proofs.Stored.{lines-in, outcome-stored, found_in}
 use Rattle.calls.specs.State.{State, stored_state}
 use Rattle.calls.specs.Rows.{◌if◌, Row, showing_plan, plan_text, not_allowed, row, causes_of, cells_for}
@@ -41,22 +44,22 @@ use Rattle.calls.specs.Effects.{state_by}
 use Rattle.calls.specs.Printing.{zeroed, has_outcome, searched}
 use Rattle.calls.proofs.State.{lawful, places, few-loads, kept-within, kept-stored}
 use Rattle.calls.proofs.Work.{unsearched, row-zeroed}
-use Rattle.calls.proofs.Refusals.{refused-state}
+use Rattle.calls.proofs.Refusals.{refused-state, still-state}
 use Rattle.engine.proofs.Answers.{lines-set, lines-size}
 use Rattle.planner.specs.declared.Planner.{Planner}
 use Rattle.planner.specs.declared.search.Decided.{Decided}
 use Rattle.planner.specs.Planner.{held, planner_of, state_in, Lawful}
-use Rattle.planner.specs.Decided.{unshown, decided_by, decided, Decides}
+use Rattle.planner.specs.Decided.{plan_answer, unshown, allowed, Decision, decision, decided_by, decided, Decides}
 use Rattle.planner.proofs.Commands.{tables-count, load-count, outcome-held}
 
 -- ---- what a search found
-pub status-none : (v : ℕ) (es : List Entry) {o : StoredOutcome} → o ≡ stored_outcome max_loads (found v es) → o.status ≡ 1 → v ≡ 0
-status-none zero es is e = refl
-status-none (suc v) es is e = absurd (omega (arith, ap (λ (o : StoredOutcome). o.status) is))
+pub none-found : (v : ℕ) (es : List Entry) → stored_found None ≡ stored_outcome max_loads (found v es) → v ≡ 0
+none-found zero es is = refl
+none-found (suc v) es is = absurd (omega (arith, ap (λ (o : StoredOutcome). o.status) is))
 
-pub status-some : (v : ℕ) (es : List Entry) {o : StoredOutcome} → o ≡ stored_outcome max_loads (found v es) → (o.status ≡ 1 → ⊥) → (v ≡ 0 → ⊥) × (o.run ≡ run_of max_loads es)
-status-some zero es is d = absurd (d (ap (λ (o : StoredOutcome). o.status) is))
-status-some (suc v) es is d = (λ z. omega arith, ap (λ (o : StoredOutcome). o.run) is)
+pub some-found : (v : ℕ) (es : List Entry) {x : Run} → stored_found (Some x) ≡ stored_outcome max_loads (found v es) → (v ≡ 0 → ⊥) × (x ≡ run_of max_loads es)
+some-found zero es is = absurd (omega (arith, ap (λ (o : StoredOutcome). o.status) is))
+some-found (suc v) es is = (λ z. omega arith, ap (λ (o : StoredOutcome). o.run) is)
 
 -- ---- the numbers of `plan`
 module _ (s : State) (cells : ℕ) where
@@ -122,22 +125,28 @@ module _ (p : Planner) (h : Lawful p) where
   is_held = ap planner_of (kept-stored (held p) h)
 
   -- refused, where the state is as it was, and so with a number that is no outcome's
-  pub refuses-so : (r : Row) (n k : ℕ) {d : Decided} → 0 < k → state_by (state_in p) k r ≡ state_in p → d ≡ unshown (Refused k) p → n ≡ k → d ≡ decided_by (state_in p) n r
+  pub refuses-so : (r : Row) (n : ℕ) (e : Refusal) {d : Decided} → 0 < no.number_of e → state_by (state_in p) (no.number_of e) r ≡ state_in p → d ≡ unshown (Err e) p
+      → n ≡ no.number_of e → decision d ≡ decided_by (state_in p) n r
   unfolding decided_by
-  refuses-so r n zero l same is e = absurd (omega arith)
-  refuses-so r n (suc m) l same is e =
-      let left = is_held ∙ ap (λ (x : State). planner_of (stored_state x)) (sym same) in
-      is ∙ rw e (λ i. record { answer = Refused (suc m); run = run_of max_loads []; planner = left i })
+  refuses-so r n e l same is q = ap decision is ∙ go n q
+    where
+      go : (m : ℕ) → m ≡ no.number_of e → ◌≡◌ {A = Decision} (decision (unshown (Err e) p)) (decided_by (state_in p) m r)
+      go zero k = absurd (omega (arith, k, l))
+      go (suc m) k =
+          let left = is_held ∙ ap (λ (x : State). planner_of (stored_state x)) (sym same) ∙ ap (λ (i : ℕ). planner_of (stored_state (state_by (state_in p) i r))) (sym k) in
+          let number = sym k in
+          λ i. record { answer = Err (number i); run = None; planner = left i }
 
-  pub refuses : (r : Row) (n k : ℕ) {d : Decided} → 0 < k → has_outcome k ≡ false → d ≡ unshown (Refused k) p → n ≡ k → d ≡ decided_by (state_in p) n r
-  refuses r n k l e = refuses-so r n k l (refused-state (state_in p) k r l e)
+  pub refuses : (r : Row) (n : ℕ) (e : Refusal) {d : Decided} → 0 < no.number_of e → has_outcome (no.number_of e) ≡ false → d ≡ unshown (Err e) p
+      → n ≡ no.number_of e → decision d ≡ decided_by (state_in p) n r
+  refuses r n e l a = refuses-so r n e l (refused-state (state_in p) (no.number_of e) r l a)
 
   -- and where nothing was searched the work is as it was too
-  pub turns_down : (r : Row) (k : ℕ) (w : List ℕ) {d : Decided} → 0 < k → searched k ≡ false → d ≡ unshown (Refused k) p
-      → lowest (causes_of (length w) r) ≡ k → Decides (state_in p) r w w d
-  turns_down r k w l e is n = record {
-    answer = refuses r (lowest (causes_of (length w) r)) k l (or_left (has_outcome k) (eqb k no.too_poor) e) is n;
-    work = sym (unsearched _ r w (ap (λ (d : Decided). searched (number_of d.answer)) is ∙ e));
+  pub turns_down : (r : Row) (e : Refusal) (w : List ℕ) {d : Decided} → 0 < no.number_of e → searched (no.number_of e) ≡ false → d ≡ unshown (Err e) p
+      → lowest (causes_of (length w) r) ≡ no.number_of e → Decides (state_in p) r w w d
+  turns_down r e w l a is n = record {
+    answer = refuses r (lowest (causes_of (length w) r)) e l (or_left (has_outcome (no.number_of e)) (eqb (no.number_of e) no.too_poor) a) is n;
+    work = sym (unsearched _ r w (ap (λ (d : Decided). searched (number_of (numbered d.answer))) is ∙ a));
   }
 
   -- the latest outcome: none, that none fits, or a plan
@@ -148,6 +157,11 @@ module _ (p : Planner) (h : Lawful p) where
   pub last-none-fits : p.outcome.status ≡ 1 → lowest (causes_of 0 (row (state_in p) Last)) ≡ no.none_fits
   unfolding row lowest
   last-none-fits e = rw e
+
+  last-refused : p.outcome.status ≡ 1 → decision (unshown (Err NoneFits) p) ≡ decided (state_in p) 0 (row (state_in p) Last)
+  unfolding row
+  last-refused e =
+      refuses-so (row (state_in p) Last) _ NoneFits (lit< tt) (still-state (state_in p) no.none_fits (row (state_in p) Last) refl) refl (last-none-fits e)
 
   -- the load lines of a plan that is stored
   pub shown-lines : List Entry
@@ -196,25 +210,34 @@ module _ (p : Planner) (h : Lawful p) where
         ∙ ap₂ (λ (k n : ℕ). plan_line (worth t (shown_set shown-lines)) (power t (shown_set shown-lines)) k ++ entry_lines (entries_to r n)) on-is (load-count p h)
 
     -- a plan is shown, with the figures of its set
-    pub shows-last : (r : Run) → r ≡ p.outcome.run → (v w k : ℕ)
-        → v ≡ worth (state_in p).tables (mark_in r.set) → w ≡ power (state_in p).tables (mark_in r.set) → k ≡ size_of r.set
-        → record { answer = Planned v w k; run = r; planner = p } ≡ decided (state_in p) 0 (row (state_in p) Last)
-    unfolding decided_by row
-    shows-last r is v w k a b d =
+    pub shows-last : decision (record { answer = plan_answer p.tables.loads (Some p.outcome.run); run = Some p.outcome.run; planner = p }) ≡ decided (state_in p) 0 (row (state_in p) Last)
+    unfolding decided_by row plan_answer tables_of
+    shows-last =
         let t = (state_in p).tables in
-        let run : r ≡ run_of max_loads shown-lines = is ∙ run_is in
-        let set : mark_in r.set ≡ _ = ap (λ (x : Run). mark_in x.set) is ∙ set_is in
-        let worths = a ∙ ap (worth t) set in
-        let powers = b ∙ ap (power t) set in
-        let on = d ∙ ap (λ (x : Run). size_of x.set) is ∙ on-is in
-        let shown : ◌≡◌ {A = Decided} (record { answer = Planned v w k; run = r; planner = p }) (record { answer = (showing_plan t shown-lines).answer; run = run_of max_loads shown-lines; planner = planner_of (stored_state (state_in p)) }) = λ i. record { answer = Planned (worths i) (powers i) (on i); run = run i; planner = is_held i } in
+        let x = p.outcome.run in
+        let worths = ap (worth t) set_is in
+        let powers = ap (power t) set_is in
+        let shown : ◌≡◌ {A = Decision} (record { answer = Ok (Planned (worth t (mark_in x.set)) (power t (mark_in x.set)) (size_of x.set)); run = Some x; planner = p }) (record { answer = (showing_plan t shown-lines).answer; run = Some (run_of max_loads shown-lines); planner = planner_of (stored_state (state_in p)) }) = λ i. record { answer = Ok (Planned (worths i) (powers i) (on-is i)); run = Some (run_is i); planner = is_held i } in
         shown ∙ rw (last-accepted, planned-is)
 
+  -- what is answered, by the latest plan
+  abbrev pub showing_latest : Result Run Refusal → Decided
+  showing_latest (Ok x) = record { answer = plan_answer p.tables.loads (Some x); run = Some x; planner = p }
+  showing_latest (Err e) = unshown (Err e) p
+
+  pub latest-shown : decision (showing_latest (latest_by p.outcome.status p.outcome.run)) ≡ decided (state_in p) 0 (row (state_in p) Last)
+  latest-shown = go p.outcome.status refl
+    where
+      go : (k : ℕ) → p.outcome.status ≡ k → decision (showing_latest (latest_by k p.outcome.run)) ≡ decided (state_in p) 0 (row (state_in p) Last)
+      go zero e = refuses (row (state_in p) Last) _ NoPlan (lit< tt) refl refl (last_none e)
+      go (suc zero) e = last-refused e
+      go (suc (suc k)) e = shows-last (λ z. absurd (omega (arith, e, z))) (λ z. absurd (omega (arith, e, z)))
+
   -- a run of a checked set was found
-  pub allows : (σ : LoadSet) (m n : ℕ) → n ≡ 0 → (r : Run) → r ≡ run_of max_loads (check_entries (state_in p).tables (mark_in σ))
-      → record { answer = Allowed; run = r; planner = p } ≡ decided_by (state_in p) n (row (state_in p) (Check σ m))
+  pub allows : (σ : LoadSet) (m n : ℕ) → n ≡ 0 → {x : Run} → x ≡ run_of max_loads (check_entries (state_in p).tables (mark_in σ))
+      → decision (allowed p (Ok x)) ≡ decided_by (state_in p) n (row (state_in p) (Check σ m))
   unfolding decided_by row
-  allows σ m n z r is = rw z (λ i. record { answer = Allowed; run = is i; planner = is_held i })
+  allows σ m n z {x} is = rw z (λ i. record { answer = Ok Allowed; run = Some (is i); planner = is_held i })
 
 -- ---- a plan stores what it found, and shows it as `last` does
 plan-numbered : (s : State) (n : ℕ) → number_of (decided_by s n (row s Plan)).answer ≡ n
@@ -264,8 +287,8 @@ module _ (p : Planner) (h : Lawful p) (o : StoredOutcome) (is : o ≡ stored_out
         go zero e = rw (plan-none-fits (state_in p) (length w) some enough e)
         go (suc x) e = rw (plan-accepted (state_in p) (length w) some enough (λ z. absurd (omega (arith, e, z))))
 
-    pub plans : {d : Decided} → d ≡ decided (state_in storing) 0 (row (state_in storing) Last) → Decides (state_in p) (row (state_in p) Plan) w v d
+    pub plans : {d : Decided} → decision d ≡ decided (state_in storing) 0 (row (state_in storing) Last) → Decides (state_in p) (row (state_in p) Plan) w v d
     plans {d} shown =
         let answer = shown ∙ ap (λ (s : State). decided s 0 (row s Last)) storing-state ∙ as-last in
-        let number : number_of d.answer ≡ lowest (causes_of (length w) (row (state_in p) Plan)) = ap (λ (d : Decided). number_of d.answer) answer ∙ plan-numbered (state_in p) _ in
-        record { answer = answer; work = cleared ∙ sym (row-zeroed (number_of d.answer) (row (state_in p) Plan) w (ap searched number ∙ searches)) }
+        let number : number_of (numbered d.answer) ≡ lowest (causes_of (length w) (row (state_in p) Plan)) = ap (λ (d : Decision). number_of d.answer) answer ∙ plan-numbered (state_in p) _ in
+        record { answer = answer; work = cleared ∙ sym (row-zeroed (number_of (numbered d.answer)) (row (state_in p) Plan) w (ap searched number ∙ searches)) }

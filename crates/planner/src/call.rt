@@ -15,7 +15,7 @@ use crate::search::{Decided, unshown};
 use lines::answer::Answer;
 use lines::reading::read;
 use lines::{Command, SaveForm};
-use tables::refusal::{BROKEN, KINDS_IN_USE, TOO_LONG, UNUSABLE};
+use tables::refusal::Refusal;
 
 // "1,024 bytes must be free from there."
 pub const FREE_BYTES: usize = 1024;
@@ -25,11 +25,11 @@ pub const RUN_BYTES: usize = 2048;
 
 pub const SAVE_BYTES: usize = 4096;
 
-// What a call returns: the next planner, the number, 0 if accepted, and the count of bytes written.
+// What a call returns: the next planner, whether the line was accepted, and the count of bytes written.
 #[derive(Clone, Copy)]
 pub struct Called {
     pub planner: Planner,
-    pub number: u8,
+    pub told: Result<(), Refusal>,
     pub count: usize,
 }
 
@@ -38,14 +38,9 @@ fn bytes_for(c: Command) -> usize
     ensures { result ≡ bytes_for c }
 {
     match c {
-        Command::Change(_) => FREE_BYTES,
-        Command::Plan => RUN_BYTES,
-        Command::Check { set: _, count: _ } => RUN_BYTES,
+        Command::Plan | Command::Check { .. } | Command::Last => RUN_BYTES,
         Command::Save(_) => SAVE_BYTES,
-        Command::Last => RUN_BYTES,
-        Command::Need(_) => FREE_BYTES,
-        Command::Broken => FREE_BYTES,
-        Command::TooLong => FREE_BYTES,
+        Command::Change(_) | Command::Need(_) | Command::Broken | Command::TooLong => FREE_BYTES,
     }
 }
 
@@ -60,24 +55,20 @@ fn loses(form: SaveForm, in_use: bool) -> bool
 }
 
 // What a save in this form is answered, where kinds are in use or not. It changes nothing.
-fn save_answer(form: SaveForm, in_use: bool) -> Answer
+fn save_answer(form: SaveForm, in_use: bool) -> Result<Answer, Refusal>
     ensures { result ≡ save_answer form in_use }
 {
     if loses(form, in_use) {
-        return Answer::Refused {
-            number: KINDS_IN_USE,
-        };
+        return Err(Refusal::KindsInUse);
     }
-    Answer::Saved { form }
+    Ok(Answer::Saved { form })
 }
 
 // A change shows no run.
 fn changed(c: Changed) -> Decided
     ensures { result ≡ unshown c.answer c.planner }
 {
-    let answer = c.answer;
-    let planner = c.planner;
-    unshown(answer, planner)
+    unshown(c.answer, c.planner)
 }
 
 impl Planner {
@@ -93,8 +84,8 @@ impl Planner {
             Command::Save(form) => unshown(save_answer(form, self.tables.has_kinds()), self),
             Command::Last => self.last(),
             Command::Need(worth) => self.need(worth, work),
-            Command::Broken => self.refused(BROKEN),
-            Command::TooLong => self.refused(TOO_LONG),
+            Command::Broken => self.refused(Refusal::Broken),
+            Command::TooLong => self.refused(Refusal::TooLong),
         }
     }
 
@@ -104,7 +95,7 @@ impl Planner {
     {
         Called {
             planner: self,
-            number: UNUSABLE,
+            told: Err(Refusal::Unusable),
             count: 0,
         }
     }
@@ -125,13 +116,10 @@ impl Planner {
             return self.turned_away();
         }
         let d = self.decide(command, work);
-        let answer = d.answer;
-        let run = d.run;
-        let planner = d.planner;
-        let count = write_answer(&mut out[place..], answer, run, self.tables);
+        let count = write_answer(&mut out[place..], d.answer, d.run, self.tables);
         Called {
-            planner,
-            number: answer.number(),
+            planner: d.planner,
+            told: d.answer.map(|_| ()),
             count,
         }
     }

@@ -4,7 +4,8 @@ ghost use Rattle.lines.specs.declared.Change.TheVariants as to;
 ghost use Rattle.tables.specs.Limits.{between, max_loads};
 ghost use Rattle.calls.specs.Rows.{rule, load, marking, adding, setting};
 ghost use Rattle.planner.specs.Planner.{state_in, Lawful};
-ghost use Rattle.planner.specs.Changes.{named_rule, named_load, told, told_by, told_for, settled, changed_by};
+ghost use Rattle.tables.specs.Refusals.{numbered};
+ghost use Rattle.planner.specs.Changes.{named_rule, named_load, told_by, told_for, ChangedBy};
 
 use crate::Planner;
 use lines::Change;
@@ -12,14 +13,14 @@ use lines::answer::Answer;
 use runs::outcome::StoredOutcome;
 use tables::limits::{MAX_BUDGET, MAX_STATES};
 use tables::load::{Figure, Load, MAX_KIND, MAX_POWER, MAX_WORTH};
-use tables::refusal::{HAS_CHILDREN, OUT_OF_RANGE};
+use tables::refusal::Refusal;
 use tables::rule::{RuleRange, Sort, Transition};
-use tables::tables::{Added, StoredTables};
+use tables::tables::StoredTables;
 
 // The answer to a change, and the next planner.
 #[derive(Clone, Copy)]
 pub struct Changed {
-    pub answer: Answer,
+    pub answer: Result<Answer, Refusal>,
     pub planner: Planner,
 }
 
@@ -27,181 +28,167 @@ pub struct Changed {
 pub(crate) fn between(low: usize, high: usize, x: usize) -> bool
     ensures { result ≡ between low high x }
 {
-    (low <= x) & (x <= high)
+    (low..=high).contains(&x)
 }
 
-// The rule that a line names, where its numbers are in their ranges; else the rule of zeros.
-#[derive(Clone, Copy)]
-struct NamedRule {
-    fits: bool,
-    rule: Transition,
-}
-
-fn named_rule(range: RuleRange, from: u32, label: u32, to: u32, kind: u32) -> NamedRule
+// The rule that a line names, if its numbers are in their ranges.
+#[tactic(auto, unfolding(crate::specs::Changes::named_rule, tables::specs::Limits::rule_in))]
+fn named_rule(
+    range: RuleRange,
+    from: u32,
+    label: u32,
+    to: u32,
+    kind: u32,
+) -> Result<Transition, Refusal>
     ensures { result ≡ named_rule range (rule from label to kind) }
 {
-    let fits = between(1, range.from as usize, from as usize)
-        & between(range.low as usize, range.high as usize, label as usize)
-        & between(1, range.to as usize, to as usize)
-        & (kind <= (range.kind as u32));
+    let fits = between(1, usize::from(range.from), from as usize)
+        && between(
+            usize::from(range.low),
+            usize::from(range.high),
+            label as usize,
+        )
+        && between(1, usize::from(range.to), to as usize)
+        && kind <= u32::from(range.kind);
     if !fits {
-        return NamedRule {
-            fits,
-            rule: Transition::NONE,
-        };
+        return Err(Refusal::OutOfRange);
     }
-    NamedRule {
-        fits,
-        rule: Transition {
-            from: from as u8,
-            label: label as u8,
-            to: to as u8,
-            kind: kind as u8,
-        },
-    }
+    Ok(Transition {
+        from: from as u8,
+        label: label as u8,
+        to: to as u8,
+        kind: kind as u8,
+    })
 }
 
-// The load that a line names, where its figures are in their ranges for the load of this number; else the load of zeros.
-#[derive(Clone, Copy)]
-struct NamedLoad {
-    fits: bool,
-    load: Load,
-}
-
-fn named_load(number: usize, parent: u32, power: u32, worth: u32, kind: u32) -> NamedLoad
+// The load that a line names, if its figures are in their ranges for the load of this number.
+#[tactic(auto, using(tables::proofs::Places::parent_test), unfolding(crate::specs::Changes::named_load, tables::specs::Limits::load_in))]
+fn named_load(
+    number: usize,
+    parent: u32,
+    power: u32,
+    worth: u32,
+    kind: u32,
+) -> Result<Load, Refusal>
     requires { number ≤ max_loads + 1 }
     ensures { result ≡ named_load number (load parent power worth kind) }
 {
-    let p = parent as usize;
-    let root = (number == 1) & (p == 0);
-    let child = (1 <= p) & (p < number);
-    let fits = (root | child)
-        & (power <= (MAX_POWER as u32))
-        & (worth <= (MAX_WORTH as u32))
-        & (kind <= (MAX_KIND as u32));
+    let root = number == 1 && parent == 0;
+    let child = (1..number).contains(&(parent as usize));
+    let fits = (root || child)
+        && power <= u32::from(MAX_POWER)
+        && worth <= u32::from(MAX_WORTH)
+        && kind <= u32::from(MAX_KIND);
     if !fits {
-        return NamedLoad {
-            fits,
-            load: Load::NONE,
-        };
+        return Err(Refusal::OutOfRange);
     }
-    NamedLoad {
-        fits,
-        load: Load {
-            parent: parent as u8,
-            kind: kind as u8,
-            power: power as u16,
-            worth: worth as u16,
-        },
-    }
+    Ok(Load {
+        parent: parent as u8,
+        kind: kind as u8,
+        power: power as u16,
+        worth: worth as u16,
+    })
 }
 
-// The number of a change, 0 if accepted, and the tables after it.
-fn told(number: u8, tables: StoredTables) -> Added
-    ensures { result ≡ told number tables }
-{
-    Added { number, tables }
-}
-
-// Each command takes the planner, and tells its number and the next tables. (A whole planner for each would cost stack: `change` makes it once.)
+// Each command takes the planner, and gives the next tables. (A whole planner for each would cost stack: `change` makes it once.)
 impl Planner {
-    fn clear(self) -> Added
+    fn clear(self) -> Result<StoredTables, Refusal>
         requires { Lawful self }
-        ensures { result ≡ told_for (state_in self) to.Clear }
+        ensures { numbered result ≡ told_for (state_in self) to.Clear }
     {
-        told(0, StoredTables::fresh())
+        Ok(StoredTables::fresh())
     }
 
-    fn book(self, states: u32, stages: u32) -> Added
+    fn book(self, states: u32, stages: u32) -> Result<StoredTables, Refusal>
         requires { Lawful self }
-        ensures { result ≡ told_for (state_in self) (to.Book states stages) }
+        ensures { numbered result ≡ told_for (state_in self) (to.Book states stages) }
     {
-        let most = MAX_STATES as usize;
-        if !(between(1, most, states as usize) & between(1, most, stages as usize)) {
-            return told(OUT_OF_RANGE, self.tables);
+        let most = usize::from(MAX_STATES);
+        if !(between(1, most, states as usize) && between(1, most, stages as usize)) {
+            return Err(Refusal::OutOfRange);
         }
-        told(0, self.tables.new_book(states as u8, stages as u8))
+        Ok(self.tables.new_book(states as u8, stages as u8))
     }
 
     // A state is marked as a start state, or a stage as an end stage.
-    fn mark(self, sort: Sort, number: u32) -> Added
+    fn mark(self, sort: Sort, number: u32) -> Result<StoredTables, Refusal>
         requires { Lawful self }
-        ensures { result ≡ told_by (state_in self) (marking (state_in self).tables sort number) }
+        ensures { numbered result ≡ told_by (state_in self) (marking (state_in self).tables sort number) }
     {
         let size = self.tables.book.size(sort);
-        if !between(1, size as usize, number as usize) {
-            return told(OUT_OF_RANGE, self.tables);
+        if !between(1, usize::from(size), number as usize) {
+            return Err(Refusal::OutOfRange);
         }
-        told(0, self.tables.mark(sort, number as usize))
+        Ok(self.tables.mark(sort, number as usize))
     }
 
-    fn add_rule(self, sort: Sort, from: u32, label: u32, to: u32, kind: u32) -> Added
+    fn add_rule(
+        self,
+        sort: Sort,
+        from: u32,
+        label: u32,
+        to: u32,
+        kind: u32,
+    ) -> Result<StoredTables, Refusal>
         requires { Lawful self }
-        ensures { result ≡ told_by (state_in self) (adding (state_in self).tables sort (rule from label to kind)) }
+        ensures { numbered result ≡ told_by (state_in self) (adding (state_in self).tables sort (rule from label to kind)) }
     {
         let range = RuleRange::of(sort, self.tables.book.states, self.tables.book.stages);
-        let named = named_rule(range, from, label, to, kind);
-        if !named.fits {
-            return told(OUT_OF_RANGE, self.tables);
-        }
-        self.tables.add_rule(sort, named.rule)
+        let rule = named_rule(range, from, label, to, kind)?;
+        self.tables.add_rule(sort, rule)
     }
 
-    fn load(self, parent: u32, power: u32, worth: u32, kind: u32) -> Added
+    fn load(self, parent: u32, power: u32, worth: u32, kind: u32) -> Result<StoredTables, Refusal>
         requires { Lawful self }
-        ensures { result ≡ told_for (state_in self) (to.Load parent power worth kind) }
+        ensures { numbered result ≡ told_for (state_in self) (to.Load parent power worth kind) }
     {
-        let named = named_load(self.tables.loads.count + 1, parent, power, worth, kind);
-        if !named.fits {
-            return told(OUT_OF_RANGE, self.tables);
-        }
-        self.tables.add_load(named.load)
+        let load = named_load(self.tables.loads.count + 1, parent, power, worth, kind)?;
+        self.tables.add_load(load)
     }
 
-    fn set_figure(self, figure: Figure, number: u32, value: u32) -> Added
+    fn set_figure(self, figure: Figure, number: u32, value: u32) -> Result<StoredTables, Refusal>
         requires { Lawful self }
-        ensures { result ≡ told_by (state_in self) (setting (state_in self).tables figure number value) }
+        ensures { numbered result ≡ told_by (state_in self) (setting (state_in self).tables figure number value) }
     {
         let there = between(1, self.tables.loads.count, number as usize);
-        if !(there & (value <= (figure.most() as u32))) {
-            return told(OUT_OF_RANGE, self.tables);
+        if !(there && value <= u32::from(figure.most())) {
+            return Err(Refusal::OutOfRange);
         }
-        told(
-            0,
+        Ok(
             self.tables
                 .set_figure(figure, number as usize, value as u16),
         )
     }
 
-    fn budget(self, watts: u32) -> Added
+    fn budget(self, watts: u32) -> Result<StoredTables, Refusal>
         requires { Lawful self }
-        ensures { result ≡ told_for (state_in self) (to.Budget watts) }
+        ensures { numbered result ≡ told_for (state_in self) (to.Budget watts) }
     {
-        if (MAX_BUDGET as u32) < watts {
-            return told(OUT_OF_RANGE, self.tables);
+        if u32::from(MAX_BUDGET) < watts {
+            return Err(Refusal::OutOfRange);
         }
-        told(0, self.tables.set_budget(watts as u16))
+        Ok(self.tables.set_budget(watts as u16))
     }
 
     // A load without children leaves.
-    fn drop_load(self, number: u32) -> Added
+    fn drop_load(self, number: u32) -> Result<StoredTables, Refusal>
         requires { Lawful self }
-        ensures { result ≡ told_for (state_in self) (to.Drop number) }
+        ensures { numbered result ≡ told_for (state_in self) (to.Drop number) }
     {
         let k = number as usize;
         if !between(1, self.tables.loads.count, k) {
-            return told(OUT_OF_RANGE, self.tables);
+            return Err(Refusal::OutOfRange);
         }
         if self.tables.loads.has_children(k) {
-            return told(HAS_CHILDREN, self.tables);
+            return Err(Refusal::HasChildren);
         }
-        told(0, self.tables.drop_load(k))
+        Ok(self.tables.drop_load(k))
     }
 
     // What a change tells.
-    fn made(self, c: Change) -> Added
+    fn made(self, c: Change) -> Result<StoredTables, Refusal>
         requires { Lawful self }
-        ensures { result ≡ told_for (state_in self) c }
+        ensures { numbered result ≡ told_for (state_in self) c }
     {
         match c {
             Change::Clear => self.clear(),
@@ -220,33 +207,24 @@ impl Planner {
         }
     }
 
-    // The answer of a change with this number, and the planner with the tables after it. An accepted one wipes the outcome, and starts the filling over.
-    fn settled(self, number: u8, tables: StoredTables) -> Changed
-        ensures { result ≡ settled self number tables }
-    {
-        let mut outcome = self.outcome;
-        let mut filled = self.filled;
-        if number == 0 {
-            outcome = StoredOutcome::NONE;
-            filled = 0;
-        }
-        Changed {
-            answer: Answer::of_change(number),
-            planner: Planner {
-                tables,
-                outcome,
-                filled,
-            },
-        }
-    }
-
-    // What a change answers, and the next planner.
+    // What a change answers, and the next planner. An accepted one wipes the outcome, and starts the filling over.
     pub(crate) fn change(self, c: Change) -> Changed
         requires { Lawful self }
-        ensures { result ≡ changed_by (state_in self) c }
+        ensures { ChangedBy (state_in self) c result }
     {
-        let made = self.made(c);
-        let tables = made.tables;
-        self.settled(made.number, tables)
+        match self.made(c) {
+            Ok(tables) => Changed {
+                answer: Ok(Answer::Accepted),
+                planner: Planner {
+                    tables,
+                    outcome: StoredOutcome::NONE,
+                    filled: 0,
+                },
+            },
+            Err(refusal) => Changed {
+                answer: Err(refusal),
+                planner: self,
+            },
+        }
     }
 }

@@ -7,8 +7,8 @@ ghost use Rattle.planner.specs.Planner.{held, fresh, Lawful};
 ghost use Rattle.planner.specs.Verdict.{judged_by};
 
 use crate::search::cells_of;
-use judge::Verdict;
 use runs::outcome::{RunRange, StoredOutcome};
+use tables::refusal::Refusal;
 use tables::tables::StoredTables;
 
 mod answers;
@@ -27,6 +27,8 @@ pub struct Planner {
     pub filled: u32,
 }
 
+// The commands ask by a `requires` for what `keeps_limits` tests: a type with that invariant would be a second planner beside C's, made of it and turned
+// back into it at every call.
 impl Planner {
     // A fresh planner: 0 states and stages, no rules, no loads and budget 0, no current plan, and no cell filled.
     pub fn fresh() -> Planner
@@ -45,19 +47,17 @@ impl Planner {
         ensures test { result ≡ keeps (held self) }
         ensures kept { result ≡ true → Lawful self }
     {
-        if !self.tables.keeps_limits() {
-            return false;
-        }
-        self.outcome.keeps_limits(RunRange::of(self.tables))
-            & (self.filled as usize <= cells_of(self.tables))
+        self.tables.keeps_limits()
+            && self.outcome.keeps_limits(RunRange::of(self.tables))
+            && self.filled as usize <= cells_of(self.tables)
     }
 
     // Are these numbers, three for each load, a run?
-    pub fn judge(self, run: &[u32]) -> Verdict
+    pub fn judge(self, run: &[u32]) -> Result<bool, Refusal>
         ensures { result ≡ judged_by (held self) run.now }
     {
         if !self.keeps_limits() {
-            return Verdict::LimitBroken;
+            return Err(Refusal::Unusable);
         }
         judge::judge(self.tables, run)
     }

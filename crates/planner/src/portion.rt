@@ -1,6 +1,7 @@
 // A plan by portions: a call fills some of its cells, and the call after the last of them gives the answer.
 ghost use Rattle.std.specs.Prelude.{◌≡◌, ◌+◌, ◌≤◌, ◌<◌, length};
 ghost use Rattle.lines.specs.Answers.{run_bytes};
+ghost use Rattle.tables.specs.Refusals.{number_in};
 ghost use Rattle.tables.specs.Stored.{tables_of};
 ghost use Rattle.meaning.specs.Cells.{cells_of};
 ghost use Rattle.calls.specs.Causes.{lowest};
@@ -9,21 +10,20 @@ ghost use Rattle.planner.specs.Planner.{held, state_in, Lawful};
 ghost use Rattle.planner.specs.Portions.{portion_of, portion_done, with_filled, refused_by, Answered};
 
 use crate::Planner;
-use crate::answers::write_outcome;
+use crate::answers::write_answer;
 use crate::call::RUN_BYTES;
 use crate::changes::between;
-use crate::search::cells_of;
-use cells::fill::lesser;
-use tables::refusal::{NO_LOADS, OUT_OF_RANGE, TOO_FEW_CELLS, UNUSABLE};
+use crate::search::{cells_of, plan_answer};
+use tables::refusal::Refusal;
 
 // "n from 1 to 16,384".
 pub const MOST_PORTION: usize = 16384;
 
-// What a portion returns: the next planner, the number, 0 if accepted, and the counts of cells filled and of bytes written.
+// What a portion returns: the next planner, whether it was accepted, and the counts of cells filled and of bytes written.
 #[derive(Clone, Copy)]
 pub struct Portion {
     pub planner: Planner,
-    pub number: u8,
+    pub told: Result<(), Refusal>,
     pub filled: u32,
     pub count: usize,
 }
@@ -34,44 +34,51 @@ impl Planner {
         requires { n < 4294967296 }
         ensures { result ≡ with_filled self n }
     {
-        let mut next = self;
-        next.filled = n as u32;
-        next
+        Planner {
+            filled: n as u32,
+            ..self
+        }
     }
 
     // Nothing is written or filled, and everything is left as it was.
-    fn portion_refused(self, number: u8) -> Portion
-        ensures { result ≡ refused_by self number }
+    fn portion_refused(self, refusal: Refusal) -> Portion
+        ensures { result ≡ refused_by self refusal }
     {
         Portion {
             planner: self,
-            number,
+            told: Err(refusal),
             filled: 0,
             count: 0,
         }
     }
 
-    // What refuses a portion of at most n cells, with so many bytes of output from the place on, and so many cells of work; 0 where nothing does.
-    fn portion_refusal(self, n: usize, room: usize, place: usize, cells: usize) -> u8
+    // What refuses a portion of at most n cells, with so many bytes of output from the place on, and so many cells of work.
+    fn portion_refusal(
+        self,
+        n: usize,
+        room: usize,
+        place: usize,
+        cells: usize,
+    ) -> Result<(), Refusal>
         requires { Lawful self }
-        ensures { result ≡ lowest (portion_causes (state_in self) n room place cells) }
+        ensures { number_in result ≡ lowest (portion_causes (state_in self) n room place cells) }
     {
         if room < place {
-            return UNUSABLE;
+            return Err(Refusal::Unusable);
         }
         if room - place < RUN_BYTES {
-            return UNUSABLE;
+            return Err(Refusal::Unusable);
         }
         if self.tables.loads.count == 0 {
-            return NO_LOADS;
+            return Err(Refusal::NoLoads);
         }
         if !between(1, MOST_PORTION, n) {
-            return OUT_OF_RANGE;
+            return Err(Refusal::OutOfRange);
         }
         if cells < cells_of(self.tables) {
-            return TOO_FEW_CELLS;
+            return Err(Refusal::TooFewCells);
         }
-        0
+        Ok(())
     }
 
     // The answer, when every cell is filled: that of the plan. It is not stored.
@@ -81,14 +88,14 @@ impl Planner {
         ensures { Answered self (plan_call (portion_of 0 out.old place work.old)) result out.new work.new }
     {
         let tables = self.tables;
-        let outcome = engine::portion::read_all(tables, work);
-        let loads = tables.loads;
-        let written = write_outcome(&mut out[place..], outcome, loads);
+        let found = engine::portion::read_all(tables, work);
+        let answer = plan_answer(tables.loads, found);
+        let count = write_answer(&mut out[place..], answer, found, tables);
         Portion {
             planner: self.with_filled(0),
-            number: written.number,
+            told: answer.map(|_| ()),
             filled: 0,
-            count: written.count,
+            count,
         }
     }
 
@@ -98,22 +105,21 @@ impl Planner {
         ensures { Portions (held self) (portion_of n out.old place work.old) (portion_done result out.new work.new) }
     {
         if !self.keeps_limits() {
-            return self.portion_refused(UNUSABLE);
+            return self.portion_refused(Refusal::Unusable);
         }
-        let number = self.portion_refusal(n, out.len(), place, work.len());
-        if number != 0 {
-            return self.portion_refused(number);
+        if let Err(refusal) = self.portion_refusal(n, out.len(), place, work.len()) {
+            return self.portion_refused(refusal);
         }
         let from = self.filled as usize;
         let cells = cells_of(self.tables);
         if cells <= from {
             return self.portion_answer(out, place, work);
         }
-        let count = lesser(n, cells - from);
+        let count = n.min(cells - from);
         engine::portion::fill_part(self.tables, work, from, from + count);
         Portion {
             planner: self.with_filled(from + count),
-            number: 0,
+            told: Ok(()),
             filled: count as u32,
             count: 0,
         }

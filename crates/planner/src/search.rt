@@ -1,54 +1,39 @@
 // The commands that show a run: `plan` and `check`, which search, and `last`.
-ghost use Rattle.std.specs.Prelude.{◌≡◌};
+ghost use Rattle.std.specs.Prelude.{◌≡◌, ◌≤◌, Err};
 ghost use Rattle.lines.specs.declared.Command.TheVariants as line;
 ghost use Rattle.tables.specs.Limits.{max_loads};
 ghost use Rattle.tables.specs.Stored.{tables_of, Holds};
 ghost use Rattle.meaning.specs.Cells.{cells_of};
 ghost use Rattle.calls.specs.Rows.{row};
 ghost use Rattle.planner.specs.Planner.{state_in, Lawful};
-ghost use Rattle.planner.specs.Decided.{not_shown, beside, unshown, decided, Decides};
+ghost use Rattle.planner.specs.Decided.{plan_answer, unshown, allowed, decision, decided, Decides};
 
 use crate::Planner;
 use engine::figures::figures_of;
 use lines::answer::Answer;
 use marks::LoadSet;
-use runs::outcome::{NO_SET, NOTHING};
+use runs::outcome::StoredOutcome;
 use runs::run::Run;
-use tables::refusal::{NO_LOADS, NO_PLAN, NONE_FITS, NOT_ALLOWED, OUT_OF_RANGE, TOO_FEW_CELLS};
+use tables::load::LoadList;
+use tables::refusal::Refusal;
 use tables::tables::StoredTables;
 
-// The answer to a line, the run that it shows, and the next planner. Where no run is shown, it is empty.
+// The answer to a line, the run that it shows, and the next planner.
 #[derive(Clone, Copy)]
 pub struct Decided {
-    pub answer: Answer,
-    pub run: Run,
+    pub answer: Result<Answer, Refusal>,
+    pub run: Option<Run>,
     pub planner: Planner,
 }
 
 // An answer that shows no run.
-pub(crate) fn unshown(answer: Answer, planner: Planner) -> Decided
+pub(crate) fn unshown(answer: Result<Answer, Refusal>, planner: Planner) -> Decided
     ensures { result ≡ unshown answer planner }
 {
     Decided {
         answer,
-        run: Run::EMPTY,
+        run: None,
         planner,
-    }
-}
-
-// An answer, and the run that it shows. Where none is shown, it is empty.
-#[derive(Clone, Copy)]
-struct Shown {
-    answer: Answer,
-    run: Run,
-}
-
-fn not_shown(number: u8) -> Shown
-    ensures { result ≡ not_shown number }
-{
-    Shown {
-        answer: Answer::Refused { number },
-        run: Run::EMPTY,
     }
 }
 
@@ -57,40 +42,45 @@ pub(crate) fn cells_of(tables: StoredTables) -> usize
     requires { Holds max_loads tables }
     ensures { result ≡ cells_of (tables_of tables) }
 {
-    let across = tables.book.states as usize + tables.book.stages as usize;
-    tables.loads.count * across * (tables.budget as usize + 1)
+    let across = usize::from(tables.book.states) + usize::from(tables.book.stages);
+    tables.loads.count * across * (usize::from(tables.budget) + 1)
+}
+
+// What a plan is answered that found this run, or none: with the figures of its set.
+#[tactic(auto, unfolding(crate::specs::Decided::plan_answer))]
+pub(crate) fn plan_answer(loads: LoadList, found: Option<Run>) -> Result<Answer, Refusal>
+    requires { loads.count ≤ max_loads }
+    ensures { result ≡ plan_answer loads found }
+{
+    let run = found.ok_or(Refusal::NoneFits)?;
+    let set = run.set;
+    let figures = figures_of(loads, set);
+    Ok(Answer::Planned {
+        worth: figures.worth,
+        power: figures.power,
+        on: set.count(),
+    })
 }
 
 impl Planner {
-    pub(crate) fn refused(self, number: u8) -> Decided
-        ensures { result ≡ unshown (Answer.Refused number) self }
+    pub(crate) fn refused(self, refusal: Refusal) -> Decided
+        ensures { result ≡ unshown (Err refusal) self }
     {
-        unshown(Answer::Refused { number }, self)
+        unshown(Err(refusal), self)
     }
 
     // The latest outcome is shown, with the figures of its set.
     pub(crate) fn last(self) -> Decided
         requires { Lawful self }
-        ensures { result ≡ decided (state_in self) 0 (row (state_in self) line.Last) }
+        ensures { decision result ≡ decided (state_in self) 0 (row (state_in self) line.Last) }
     {
-        if self.outcome.status == NOTHING {
-            return self.refused(NO_PLAN);
-        }
-        if self.outcome.status == NO_SET {
-            return self.refused(NONE_FITS);
-        }
-        let run = self.outcome.run;
-        let set = run.set;
-        let figures = figures_of(self.tables.loads, set);
-        let answer = Answer::Planned {
-            worth: figures.worth,
-            power: figures.power,
-            on: set.count(),
-        };
-        Decided {
-            answer,
-            run,
-            planner: self,
+        match self.outcome.latest() {
+            Ok(run) => Decided {
+                answer: plan_answer(self.tables.loads, Some(run)),
+                run: Some(run),
+                planner: self,
+            },
+            Err(missing) => self.refused(missing),
         }
     }
 
@@ -101,54 +91,41 @@ impl Planner {
     {
         let tables = self.tables;
         if tables.loads.count == 0 {
-            return self.refused(NO_LOADS);
+            return self.refused(Refusal::NoLoads);
         }
         if work.len() < cells_of(tables) {
-            return self.refused(TOO_FEW_CELLS);
+            return self.refused(Refusal::TooFewCells);
         }
-        let outcome = engine::plan::plan(tables, work);
-        let planner = Planner {
-            tables,
-            outcome,
-            filled: self.filled,
-        };
-        planner.last()
+        let outcome = StoredOutcome::of(engine::plan::plan(tables, work));
+        Planner { outcome, ..self }.last()
     }
 
-    // What the check of a set is answered. The planner stays beside it: it comes back once, with whatever answer.
-    fn checked(self, set: LoadSet, count: usize) -> Shown
+    // The run of a set that is allowed.
+    fn checked(self, set: LoadSet, count: usize) -> Result<Run, Refusal>
         requires { Lawful self }
-        ensures { beside self result ≡ decided (state_in self) 0 (row (state_in self) (line.Check set count)) }
+        ensures { decision (allowed self result) ≡ decided (state_in self) 0 (row (state_in self) (line.Check set count)) }
     {
         let tables = self.tables;
         if tables.loads.count == 0 {
-            return not_shown(NO_LOADS);
+            return Err(Refusal::NoLoads);
         }
         if count != tables.loads.count {
-            return not_shown(OUT_OF_RANGE);
+            return Err(Refusal::OutOfRange);
         }
-        let found = engine::plan::check(tables, set);
-        if found.status == NO_SET {
-            return not_shown(NOT_ALLOWED);
-        }
-        let shown = found.run;
-        Shown {
-            answer: Answer::Allowed,
-            run: shown,
-        }
+        engine::plan::check(tables, set).ok_or(Refusal::NotAllowed)
     }
 
     pub(crate) fn check(self, set: LoadSet, count: usize) -> Decided
         requires { Lawful self }
-        ensures { result ≡ decided (state_in self) 0 (row (state_in self) (line.Check set count)) }
+        ensures { decision result ≡ decided (state_in self) 0 (row (state_in self) (line.Check set count)) }
     {
-        let found = self.checked(set, count);
-        let answer = found.answer;
-        let shown = found.run;
-        Decided {
-            answer,
-            run: shown,
-            planner: self,
+        match self.checked(set, count) {
+            Ok(run) => Decided {
+                answer: Ok(Answer::Allowed),
+                run: Some(run),
+                planner: self,
+            },
+            Err(refusal) => self.refused(refusal),
         }
     }
 }

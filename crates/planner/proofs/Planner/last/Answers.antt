@@ -1,35 +1,23 @@
 -- `Planner::last` meets its contract. Assumes nothing.
-use mathlib.Core.Path.{refl, ap}
-use lib.Dec.{lit<}
-use Rattle.lines.specs.declared.Command.TheVariants.{Last}
-use Rattle.tables.specs.Refusals as no
-use Rattle.tables.specs.Stored.{tables_of}
-use Rattle.calls.specs.Rows.{row}
-use Rattle.calls.proofs.Refusals.{still-state}
-use Rattle.engine.specs.declared.figures.Figures.{Figures}
-use Rattle.planner.specs.Planner.{state_in}
+use mathlib.Core.Path.{◌≡◌, sym, ap, ◌∙◌}
+use Rattle.std.specs.Prelude.{Ok, Err}
+use Rattle.runs.specs.Outcome.{latest_by}
+use Rattle.planner.specs.Decided.{decision}
 use Rattle.planner.proofs.Commands.{few}
-use Rattle.planner.proofs.Searching.{refuses, refuses-so, last_none, last-none-fits, shows-last}
+use Rattle.planner.proofs.Searching.{latest-shown}
 use Rattle.planner.proofs.Planner.last.Goals as goal
 
-pub returns-then-self-eq-NOTHING : goal.returns-then-self-eq-NOTHING
-returns-then-self-eq-NOTHING c =
-    let p = c.args.self in
-    refuses p c.requires (row (state_in p) Last) _ no.no_plan (lit< tt) refl c.refused.ensures (last_none p c.requires c.if-self-eq-NOTHING.true)
+pub plan_answer-requires : goal.plan_answer-requires
+plan_answer-requires c = few c.args.self c.requires
 
-pub returns-then-self-eq-NO_SET : goal.returns-then-self-eq-NO_SET
-unfolding row
-returns-then-self-eq-NO_SET c =
-    let p = c.args.self in
-    refuses-so p c.requires (row (state_in p) Last) _ no.none_fits (lit< tt) (still-state (state_in p) no.none_fits (row (state_in p) Last) refl) c.refused-then-self-eq-NO_SET.ensures
-    (last-none-fits p c.requires c.if-self-eq-NO_SET.true)
+pub returns-in-Ok : goal.returns-in-Ok
+returns-in-Ok c =
+    let o = c.args.self.outcome in
+    let found : latest_by o.status o.run ≡ Ok _ = sym c.latest.ensures ∙ c.in-Ok.is in
+    rw c.plan_answer.ensures (rw found at (latest-shown c.args.self c.requires))
 
-pub figures_of-figures-requires : goal.figures_of-figures-requires
-figures_of-figures-requires c = few c.args.self c.requires
-
-pub returns : goal.returns
-unfolding tables_of
-returns c =
-    let p = c.args.self in
-    shows-last p c.requires c.if-self-eq-NOTHING.false c.if-self-eq-NO_SET.false _ refl
-    _ _ _ (ap (λ (x : Figures). x.worth) c.figures_of-figures.ensures) (ap (λ (x : Figures). x.power) c.figures_of-figures.ensures) c.count.ensures
+pub returns-in-Err : goal.returns-in-Err
+returns-in-Err c =
+    let o = c.args.self.outcome in
+    let found : latest_by o.status o.run ≡ Err _ = sym c.latest.ensures ∙ c.in-Err.is in
+    ap decision c.refused.ensures ∙ (rw found at (latest-shown c.args.self c.requires))

@@ -11,6 +11,7 @@ use Rattle.tables.specs.Stored.{held_size, tables_of}
 use Rattle.tables.specs.Operations.{mark_set}
 use Rattle.tables.proofs.Changes.{mark-set}
 use Rattle.calls.proofs.State.{is-stored}
+use Rattle.planner.specs.Planner.{state_in}
 use Rattle.planner.proofs.Commands.{size-held, out_of_range, accepts}
 use Rattle.planner.proofs.Planner.mark.Goals as goal
 
@@ -20,12 +21,11 @@ tested u k n size b is e = e ∙ ap (λ (m : ℕ). between 1 m n) (is ∙ size-h
 pub returns-then-not-between : goal.returns-then-not-between
 returns-then-not-between c =
     let a = c.args in
-    out_of_range a.self c.requires _ [] _ (sym (tested a.self.tables a.sort a.number _ _ c.size-size.ensures c.between.ensures) ∙ c.if-not-between.true) c.told.ensures
+    out_of_range (state_in a.self) _ [] _ (sym (tested a.self.tables a.sort a.number _ _ (c.from.ensures ∙ c.size-size.ensures) c.between.ensures) ∙ c.if-not-between.true)
 
 pub returns : goal.returns
 returns c =
     let a = c.args in
     let s = a.self.tables in
-    accepts a.self c.requires _ _ (sym (tested s a.sort a.number _ _ c.size-size.ensures c.between.ensures) ∙ c.if-not-between.false) _
+    accepts (state_in a.self) _ _ (sym (tested s a.sort a.number _ _ (c.from.ensures ∙ c.size-size.ensures) c.between.ensures) ∙ c.if-not-between.false)
     (c.mark.ensures ∙ ap (λ (x : StoredTables). mark_set x a.sort a.number) (is-stored s c.requires.tables) ∙ mark-set (tables_of s) a.sort a.number)
-    c.told-2.ensures

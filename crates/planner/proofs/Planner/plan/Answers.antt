@@ -5,7 +5,7 @@ use mathlib.Core.Path.{◌≡◌, refl, sym, ◌∙◌}
 use native.Mathlib.Omega.{arith}
 use lib.ListN.{length, replicate, drop}
 use lib.Dec.{lit<}
-use Rattle.tables.specs.Refusals as no
+use Rattle.tables.specs.declared.refusal.Refusal.TheVariants.{NoLoads, TooFewCells}
 use Rattle.lines.specs.declared.Command.TheVariants.{Plan}
 use Rattle.tables.specs.Stored.{tables_of}
 use Rattle.meaning.specs.Cells.{cells_of}
@@ -33,17 +33,17 @@ some-loads p h d z = d (load-count p h ∙ z)
 pub returns-then-tables-eq0 : goal.returns-then-tables-eq0
 returns-then-tables-eq0 c =
     let p = c.args.self in
-    turns_down p c.requires (plan_row p) no.no_loads c.args.work.now (lit< tt) refl c.refused.ensures
+    turns_down p c.requires (plan_row p) NoLoads c.args.work.now (lit< tt) refl c.refused.ensures
     (plan-no-loads (state_in p) (length c.args.work.now) (sym (load-count p c.requires) ∙ c.if-tables-eq0.true))
 
 pub returns-then-work-cells_of : goal.returns-then-work-cells_of
 returns-then-work-cells_of c =
     let p = c.args.self in
-    turns_down p c.requires (plan_row p) no.too_few_cells c.args.work.now (lit< tt) refl c.refused-then-work-cells_of.ensures
+    turns_down p c.requires (plan_row p) TooFewCells c.args.work.now (lit< tt) refl c.refused-then-work-cells_of.ensures
     (plan-too-few (state_in p) (length c.args.work.now) (some-loads p c.requires c.if-tables-eq0.false) (omega (arith, c.if-work-cells_of.true, c.cells_of.ensures)))
 
-pub plan-outcome-requires : goal.plan-outcome-requires
-plan-outcome-requires c =
+pub plan-requires : goal.plan-requires
+plan-requires c =
     record {
       t_value = kept c.args.self.tables c.requires.tables;
       count_nonzero = (positive c.if-tables-eq0.false, omega (arith, c.if-work-cells_of.false, c.cells_of.ensures));
@@ -51,11 +51,11 @@ plan-outcome-requires c =
 
 pub last-requires : goal.last-requires
 last-requires c =
-    storing-lawful c.args.self c.requires c.plan-outcome.result c.plan-outcome.ensures.value
+    storing-lawful c.args.self c.requires c.of-outcome.result (c.of-outcome.ensures ∙ c.plan.ensures.value)
 
 pub returns : goal.returns
 returns c =
     let p = c.args.self in
     let enough : cells_of (tables_of p.tables) ≤ length c.args.work.now = omega (arith, c.if-work-cells_of.false, c.cells_of.ensures) in
-    plans p c.requires c.plan-outcome.result c.plan-outcome.ensures.value (some-loads p c.requires c.if-tables-eq0.false) c.args.work.now _ enough
-    (cleared p c.args.work.now _ c.plan-outcome.ensures.work_after) c.last.ensures
+    plans p c.requires c.of-outcome.result (c.of-outcome.ensures ∙ c.plan.ensures.value) (some-loads p c.requires c.if-tables-eq0.false) c.args.work.now _ enough
+    (cleared p c.args.work.now _ c.plan.ensures.work_after) c.last.ensures

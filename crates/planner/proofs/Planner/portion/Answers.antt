@@ -1,10 +1,11 @@
 -- `Planner::portion` meets its contract: refused, cells filled, or the answer. Assumes nothing.
+use Rattle.std.specs.Prelude.{Ok}
+use Rattle.tables.specs.Refusals.{number_of}
 use Prim.Native.Nat.{ℕ, min, ◌-◌, ◌<◌}
 use mathlib.Core.Path.{◌≡◌, sym, ap, subst, ◌∙◌}
 use native.Mathlib.Omega.{arith}
 use Rattle.meaning.specs.Cells.{cells_of}
 use Rattle.calls.specs.Portions.{PortionCall, portion_number, open_cells, Portioned}
-use Rattle.calls.proofs.Answers.{positive}
 use Rattle.calls.proofs.Portions.{passes, portions-kept, portions-broken, min-right}
 use Rattle.planner.specs.declared.Planner.{Planner}
 use Rattle.planner.specs.declared.portion.Portion.{Portion}
@@ -13,6 +14,7 @@ use Rattle.planner.specs.Portions.{portion_of, portion_done}
 use Rattle.planner.proofs.Commands.{load-count}
 use Rattle.planner.proofs.Searching.{kept, cells-few}
 use Rattle.planner.proofs.Portioning.{refuses, fills, answers}
+use Rattle.planner.proofs.Told.{unrefused}
 use Rattle.planner.proofs.Planner.portion.Goals as goal
 
 -- so many cells are open
@@ -27,17 +29,18 @@ returns-then-not-keeps_limits c =
     let asked = portion_of a.n a.out.now a.place a.work.now in
     portions-broken (held p) asked _ (sym c.keeps_limits.ensures.test ∙ c.if-not-keeps_limits.true) (ap (λ (r : Portion). portion_done r a.out.now a.work.now) c.portion_refused.ensures)
 
-pub returns-then-number-ne0 : goal.returns-then-number-ne0
+pub returns-in-Err : goal.returns-in-Err
 unfolding portion_number
-returns-then-number-ne0 c =
+returns-in-Err c =
     let a = c.args in
     let p = a.self in
     let asked = portion_of a.n a.out.now a.place a.work.now in
     let h = c.keeps_limits.ensures.kept c.if-not-keeps_limits.false in
     let test = sym c.keeps_limits.ensures.test ∙ c.if-not-keeps_limits.false in
+    let number : number_of c.in-Err.refusal ≡ portion_number (state_in p) asked = rw c.in-Err.is at c.portion_refusal.ensures in
     portions-kept (held p) asked _ test (
-    subst (λ (x : Portion). Portioned (state_in p) asked (portion_done x a.out.now a.work.now)) (sym c.portion_refused-then-number-ne0.ensures)
-    (refuses p h asked c.portion_refusal-number.result (positive c.if-number-ne0.true) c.portion_refusal-number.ensures))
+    subst (λ (x : Portion). Portioned (state_in p) asked (portion_done x a.out.now a.work.now)) (sym c.portion_refused-in-Err.ensures)
+    (refuses p h asked c.in-Err.refusal number))
 
 pub portion_answer-requires : goal.portion_answer-requires
 unfolding portion_number
@@ -46,7 +49,7 @@ portion_answer-requires c =
     let p = a.self in
     let asked = portion_of a.n a.out.now a.place a.work.now in
     let h = c.keeps_limits.ensures.kept c.if-not-keeps_limits.false in
-    let none : portion_number (state_in p) asked ≡ 0 = sym c.portion_refusal-number.ensures ∙ c.if-number-ne0.false in
+    let none : portion_number (state_in p) asked ≡ 0 = sym c.portion_refusal.ensures ∙ unrefused _ c.in_default.not-Err in
     let passed = passes (state_in p) asked none in
     record {
       lawful = (h, omega (arith, passed.loads, load-count p h));
@@ -61,7 +64,7 @@ returns-then-cells-from c =
     let asked = portion_of a.n a.out.now a.place a.work.now in
     let h = c.keeps_limits.ensures.kept c.if-not-keeps_limits.false in
     let test = sym c.keeps_limits.ensures.test ∙ c.if-not-keeps_limits.false in
-    let none : portion_number (state_in p) asked ≡ 0 = sym c.portion_refusal-number.ensures ∙ c.if-number-ne0.false in
+    let none : portion_number (state_in p) asked ≡ 0 = sym c.portion_refusal.ensures ∙ unrefused _ c.in_default.not-Err in
     portions-kept (held p) asked _ test (answers p h asked none _ _ _ (omega (arith, c.if-cells-from.true, c.cells_of-cells.ensures)) c.portion_answer.ensures)
 
 pub fill_part-requires : goal.fill_part-requires
@@ -71,9 +74,9 @@ fill_part-requires c =
     let p = a.self in
     let asked = portion_of a.n a.out.now a.place a.work.now in
     let h = c.keeps_limits.ensures.kept c.if-not-keeps_limits.false in
-    let none : portion_number (state_in p) asked ≡ 0 = sym c.portion_refusal-number.ensures ∙ c.if-number-ne0.false in
+    let none : portion_number (state_in p) asked ≡ 0 = sym c.portion_refusal.ensures ∙ unrefused _ c.in_default.not-Err in
     let passed = passes (state_in p) asked none in
-    let left = taken p asked c.cells_of-cells.result c.lesser-count.result c.cells_of-cells.ensures c.if-cells-from.false c.lesser-count.ensures in
+    let left = taken p asked c.cells_of-cells.result c.min-count.result c.cells_of-cells.ensures c.if-cells-from.false c.min-count.ensures in
     record {
       t_value = kept p.tables h.tables;
       count_nonzero = (omega (arith, passed.loads, load-count p h), passed.cells, omega arith, omega (arith, left.1, min-right a.n (open_cells (state_in p)), h.filled));
@@ -85,7 +88,7 @@ with_filled-requires c =
     let p = a.self in
     let asked = portion_of a.n a.out.now a.place a.work.now in
     let h = c.keeps_limits.ensures.kept c.if-not-keeps_limits.false in
-    let left = taken p asked c.cells_of-cells.result c.lesser-count.result c.cells_of-cells.ensures c.if-cells-from.false c.lesser-count.ensures in
+    let left = taken p asked c.cells_of-cells.result c.min-count.result c.cells_of-cells.ensures c.if-cells-from.false c.min-count.ensures in
     omega (arith, left.1, min-right a.n (open_cells (state_in p)), h.filled, cells-few p.tables h.tables)
 
 pub returns : goal.returns
@@ -96,8 +99,8 @@ returns c =
     let asked = portion_of a.n a.out.now a.place a.work.now in
     let h = c.keeps_limits.ensures.kept c.if-not-keeps_limits.false in
     let test = sym c.keeps_limits.ensures.test ∙ c.if-not-keeps_limits.false in
-    let none : portion_number (state_in p) asked ≡ 0 = sym c.portion_refusal-number.ensures ∙ c.if-number-ne0.false in
-    let left = taken p asked c.cells_of-cells.result c.lesser-count.result c.cells_of-cells.ensures c.if-cells-from.false c.lesser-count.ensures in
+    let none : portion_number (state_in p) asked ≡ 0 = sym c.portion_refusal.ensures ∙ unrefused _ c.in_default.not-Err in
+    let left = taken p asked c.cells_of-cells.result c.min-count.result c.cells_of-cells.ensures c.if-cells-from.false c.min-count.ensures in
     portions-kept (held p) asked _ test (
-    subst (λ (q : Planner). Portioned (state_in p) asked (portion_done (record { planner = q; number = 0; filled = c.lesser-count.result; count = 0 }) a.out.now c.fill_part.new.work)) (sym c.with_filled.ensures)
-    (fills p h asked none c.lesser-count.result _ left.0 left.1 c.fill_part.ensures))
+    subst (λ (q : Planner). Portioned (state_in p) asked (portion_done (record { planner = q; told = Ok tt; filled = c.min-count.result; count = 0 }) a.out.now c.fill_part.new.work)) (sym c.with_filled.ensures)
+    (fills p h asked none c.min-count.result _ left.0 left.1 c.fill_part.ensures))

@@ -1,10 +1,13 @@
 -- `Planner::portion_answer` meets its contract: the outcome is read from the cells, and written. Assumes nothing.
 use Prim.Native.Nat.{◌+◌, ◌≤◌, ◌<◌}
-use mathlib.Core.Path.{refl}
+use Rattle.std.specs.Prelude.{Result}
+use mathlib.Core.Path.{refl, ap, ◌∙◌}
 use native.Mathlib.Omega.{arith}
 use borrow.Author.Rules.{rules}
 use lib.ListN.{length}
-use Rattle.lines.specs.Answers.{run_bytes}
+use Rattle.lines.specs.declared.answer.Answer.{Answer}
+use Rattle.tables.specs.declared.refusal.Refusal.{Refusal}
+use Rattle.lines.specs.Answers.{number_of, numbered, run_bytes}
 use Rattle.lines.proofs.Wrote.{free-length}
 use Rattle.tables.specs.Stored.{tables_of}
 use Rattle.meaning.specs.Cells.{cells_of}
@@ -16,7 +19,8 @@ use Rattle.planner.specs.Planner.{state_in, Lawful}
 use Rattle.planner.specs.Portions.{portion_of}
 use Rattle.planner.proofs.Commands.{load-count, few}
 use Rattle.planner.proofs.Searching.{kept}
-use Rattle.planner.proofs.Portioning.{Read, text-few, answered}
+use Rattle.planner.proofs.Portioning.{Read, read_from, text-few, answered}
+use Rattle.planner.proofs.Told.{told-number}
 use Rattle.planner.proofs.Planner.portion_answer.Goals as goal
 
 -- the call on `plan` that it answers
@@ -27,32 +31,36 @@ plan-made p h some c free cells = record {
   loads = omega (arith, some, load-count p h);
 }
 
-pub read_all-outcome-requires : goal.read_all-outcome-requires
-read_all-outcome-requires c =
+pub read_all-found-requires : goal.read_all-found-requires
+read_all-found-requires c =
     record {
       t_value = kept c.args.self.tables c.requires.lawful.0.tables;
       count_nonzero = (c.requires.lawful.1, c.requires.run_bytes_in_bounds.1);
     }
 
-pub write_outcome-written-requires : goal.write_outcome-written-requires
-write_outcome-written-requires c =
+pub plan_answer-answer-requires : goal.plan_answer-answer-requires
+plan_answer-answer-requires c = few c.args.self c.requires.lawful.0
+
+pub write_answer-count-requires : goal.write_answer-count-requires
+write_answer-count-requires c =
     let p = c.args.self in
     let h = c.requires.lawful.0 in
-    let o = c.read_all-outcome.result in
-    let read : Read p o = record { states = search rules; rules = search rules; rows = search rules; kept = c.read_all-outcome.ensures.read.kept; some = c.read_all-outcome.ensures.read.some } in
-    (few p h, omega (arith, text-few p h o read, free-length c.args.place c.args.out.now, c.requires.run_bytes_in_bounds.0))
+    let found = c.read_all-found.result in
+    let read : Read p found = read_from p found (λ x e. (search rules, search rules, search rules)) c.read_all-found.ensures.read in
+    (h.tables, rw c.plan_answer-answer.ensures (omega (arith, text-few p h found read, free-length c.args.place c.args.out.now, c.requires.run_bytes_in_bounds.0)))
 
 pub returns : goal.returns
 returns c =
     let a = c.args in
     let p = a.self in
     let h = c.requires.lawful.0 in
-    let o = c.read_all-outcome.result in
-    let read : Read p o = record { states = search rules; rules = search rules; rows = search rules; kept = c.read_all-outcome.ensures.read.kept; some = c.read_all-outcome.ensures.read.some } in
+    let found = c.read_all-found.result in
+    let read : Read p found = read_from p found (λ x e. (search rules, search rules, search rules)) c.read_all-found.ensures.read in
     let made = portion_of 0 a.out.now a.place a.work.now in
+    let answer = ap (λ (a : Result Answer Refusal). number_of (numbered a)) c.plan_answer-answer.ensures in
     record {
       planner = c.with_filled.ensures;
       filled = refl;
-      answers = answered p h o read (plan_call made) (plan-made p h c.requires.lawful.1 made c.requires.run_bytes_in_bounds.0 c.requires.run_bytes_in_bounds.1)
-          c.read_all-outcome.ensures.read.right _ _ _ _ c.write_outcome-written.ensures.number c.write_outcome-written.ensures.text c.read_all-outcome.ensures.cleared;
+      answers = answered p h found read (plan_call made) (plan-made p h c.requires.lawful.1 made c.requires.run_bytes_in_bounds.0 c.requires.run_bytes_in_bounds.1)
+          c.read_all-found.ensures.read.right _ _ _ _ (told-number _ _ _ c.map.ensures.cases ∙ answer) (rw c.plan_answer-answer.ensures at c.write_answer-count.ensures) c.read_all-found.ensures.cleared;
     }

@@ -1,35 +1,19 @@
--- `write_run` meets its contract. Assumes nothing.
+-- `write_run` meets its contract: where no run is shown, nothing is written. Assumes nothing.
+use Rattle.std.specs.Prelude.{Option, None, Some}
 use Prim.Native.Nat.{ℕ}
-use mathlib.Core.List.{List}
-use native.Mathlib.Omega.{arith}
-use Rattle.lines.specs.Answers.{entry_line, entry_lines}
-use Rattle.lines.proofs.Wrote.{part_room, part-more, part-all}
+use mathlib.Core.Path.{◌≡◌, refl}
+use Rattle.lines.specs.declared.writing.Writer.{Writer}
+use Rattle.lines.specs.Answers.{entry_lines}
+use Rattle.lines.specs.Writing.{Writes}
+use Rattle.lines.proofs.Writes.{writes_none}
 use Rattle.runs.specs.declared.run.Run.{Run}
-use Rattle.runs.specs.Runs.{entry_at, entries_to}
-use Rattle.planner.proofs.RunLines.{lines_none, lines_more}
+use Rattle.planner.specs.Decided.{entries_shown}
 use Rattle.planner.proofs.answers.write_run.Goals as goal
 
--- the lines of the first i loads, and what the next adds to them
-abbrev text : Run → ℕ → List ℕ
-text r i = entry_lines (entries_to r i)
+none : (r : Option Run) → ((x : Run) → r ≡ Some x → ⊥) → (w : Writer) (n : ℕ) → Writes w w (entry_lines (entries_shown r n))
+unfolding entry_lines
+none None d w n = writes_none w
+none (Some x) d w n = absurd (d x refl)
 
-abbrev part : Run → ℕ → List ℕ
-part r i = entry_line (entry_at r i)
-
-pub loop-i-init : goal.loop-i-init
-loop-i-init c = lines_none _ _ _
-
-pub write_entry-next-requires : goal.write_entry-next-requires
-write_entry-next-requires c =
-    let r = c.args.run in
-    rw c.entry.ensures (part_room (text r) (part r) c.args.n (λ i h. lines_more r i) c.loop-i.i c.loop-i-test.true c.loop-i.invariant c.requires.1)
-
-pub loop-i-preserved : goal.loop-i-preserved
-loop-i-preserved c =
-    let a = c.args in
-    part-more (text a.run) (part a.run) a.n (λ i h. lines_more a.run i) c.loop-i.i c.loop-i-test.true c.loop-i.invariant (rw c.entry.ensures at c.write_entry-next.ensures)
-
-pub returns : goal.returns
-returns c =
-    let a = c.args in
-    part-all (text a.run) (part a.run) a.n (λ i h. lines_more a.run i) c.loop-i.i (omega arith) c.loop-i-test.false c.loop-i.invariant
+pub returns-in_default : goal.returns-in_default
+returns-in_default c = none c.args.run c.in_default.not-Some c.args.w.now c.args.n
