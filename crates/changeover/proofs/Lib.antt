@@ -1,7 +1,6 @@
 -- The laws of the definitions in specs/, and what is claimed of them.
 pub mod Lengths
 pub mod Orders
-pub mod Tested
 pub mod Handed
 pub mod Refused
 pub mod Listed

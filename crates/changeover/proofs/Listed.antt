@@ -1,6 +1,6 @@
 -- The list while steps are written to it: those written so far, and behind them what stood there. Assumes nothing.
 use Prim.Native.Nat.{ℕ, zero, suc, ◌+◌, ◌≤◌, ◌<◌}
-use mathlib.Core.Path.{◌≡◌, refl, sym, ap, subst, ◌∙◌}
+use mathlib.Core.Path.{◌≡◌, refl, sym, ap, ap₂, subst, ◌∙◌}
 use mathlib.Core.Bool.{true, false, ◌&&◌}
 use mathlib.Core.List.{List, [], ◌∷◌}
 use native.Mathlib.Numerals.{add-one}
@@ -9,13 +9,16 @@ use borrow.Author.Tests.{ltb-false}
 use lib.Dec.{eqb, leb, ltb}
 use lib.ListN.{length, get_or, set, take, length-append}
 use lib.Seq.{sets, take_all}
+use Rattle.std.specs.Prelude.{Result, Ok, Err}
 use Rattle.lists.proofs.Arrays.{get_or-laid}
 use Rattle.lists.proofs.Bools.{and_left, and_right}
 use Rattle.tables.specs.Tables.{Tables}
 use Rattle.tables.specs.Limits.{max_loads, limits, Limits}
 use Rattle.tables.specs.Stored.{tables_of, keeps_limits, rules_free, loads_free}
 use Rattle.tables.specs.Operations.{accepted}
+use Rattle.tables.specs.declared.refusal.Refusal.{Refusal}
 use Rattle.tables.specs.Refusals as no
+use Rattle.tables.specs.Refusals.{number_of, told}
 use Rattle.tables.proofs.Lawful.{lawful}
 use Rattle.meaning.specs.Cells.{cells_of}
 use Rattle.runs.specs.Outcome.{held_range, keeps_outcome}
@@ -91,16 +94,34 @@ pub record Writes (p : StoredState) (old new : List ℕ) (list : List Step) (o :
   pub most : o.count ≤ max_loads
   pub room : (i : ℕ) → i < o.count → i < length list
   pub next : (i : ℕ) → i < o.count → set (row p old new list i) i (get_or o.items i no_step) ≡ row p old new list (i + 1)
-  pub all : changed_to o.number o.count (row p old new list o.count) ≡ changeover p old new list
+  pub all : changed_to 0 o.count (row p old new list o.count) ≡ changeover p old new list
 
-pub writes : (p : StoredState) (old new : List ℕ) (list : List Step) (o : Order) → o ≡ order_of p old new (length list) → Writes p old new list o
-unfolding order_of laid_order changeover
-writes p old new list o e =
-    let ss : List Step = steps_given p old new (length list) in
-    let fit = given-most p old new (length list) in
-    subst (Writes p old new list) (sym e) record {
-      most = fit.1;
-      room = λ i l. omega (arith, l, fit.0);
-      next = λ i l. ap (set (sets list 0 (take i ss)) i) (get_or-laid no_step max_loads ss i l fit.1) ∙ sets-next no_step list 0 i i ss (omega arith) l ∙ ap (λ j. sets list 0 (take j ss)) (sym (add-one i));
-      all = ap (λ us. changed_to (refusal_of p old new (length list)) (length ss) (sets list 0 us)) (take_all (length ss) ss (omega arith));
-    }
+-- accepted, and refused
+accepted-order : {o u : Order} (m : ℕ) → ◌≡◌ {A = Result Order ℕ} (Ok o) (told m u) → (m ≡ 0) × (o ≡ u)
+accepted-order zero e = (refl, cc)
+accepted-order (suc m) e = absurd (let z : ◌≡◌ {A = ℕ} 0 1 = cc in omega arith)
+
+module _ (p : StoredState) (old new : List ℕ) (list : List Step) where
+  pub writes : (o : Order) → ◌≡◌ {A = Result Order ℕ} (Ok o) (order_of p old new (length list)) → Writes p old new list o
+  unfolding order_of laid_order changeover
+  writes o e =
+      let ss : List Step = steps_given p old new (length list) in
+      let fit = given-most p old new (length list) in
+      let is = accepted-order (refusal_of p old new (length list)) e in
+      subst (Writes p old new list) (sym is.1) record {
+        most = fit.1;
+        room = λ i l. omega (arith, l, fit.0);
+        next = λ i l. ap (set (sets list 0 (take i ss)) i) (get_or-laid no_step max_loads ss i l fit.1) ∙ sets-next no_step list 0 i i ss (omega arith) l ∙ ap (λ j. sets list 0 (take j ss)) (sym (add-one i));
+        all = ap₂ (λ m us. changed_to m (length ss) (sets list 0 us)) (sym is.0) (take_all (length ss) ss (omega arith));
+      }
+
+  pub refused-list : (r : Refusal) → ◌≡◌ {A = Result Order ℕ} (Err (number_of r)) (order_of p old new (length list)) → changed_to (number_of r) 0 list ≡ changeover p old new list
+  unfolding order_of changeover steps_given
+  refused-list r e = go (refusal_of p old new (length list)) _ _ e
+    where
+      go : (m : ℕ) (u : Order) (ss : List Step) → ◌≡◌ {A = Result Order ℕ} (Err (number_of r)) (told m u) → changed_to (number_of r) 0 list ≡ changed_to m (length (accepted m ss [])) (sets list 0 (accepted m ss []))
+      go zero u ss e = absurd (let z : ◌≡◌ {A = ℕ} 0 1 = cc in omega arith)
+      go (suc m) u ss e = let h : number_of r ≡ suc m = cc in rw h refl
+
+-- the ends of a changeover
+pub ruleset lists = (refused-list)

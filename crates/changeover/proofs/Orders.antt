@@ -16,20 +16,20 @@ use Rattle.changeover.specs.Order.{laid_order, one_more}
 use Rattle.changeover.proofs.Lengths.{step-most, on-few}
 
 -- one step more, where it is wanted
-pub laid_more : (n : ℕ) (ss : List Step) (b : Bool) (k m : ℕ) → (b ≡ true → length ss < max_loads) → pick b (one_more (laid_order n ss) k m) (laid_order n ss) ≡ laid_order n (ss ++ step_if b (step_to k m))
+pub laid_more : (ss : List Step) (b : Bool) (k m : ℕ) → (b ≡ true → length ss < max_loads) → pick b (one_more (laid_order ss) k m) (laid_order ss) ≡ laid_order (ss ++ step_if b (step_to k m))
 unfolding laid_order one_more
-laid_more n ss false k m room = rw (append-nil ss) refl
-laid_more n ss true k m room =
-    ap₂ (λ c xs. record { number = n; count = c; items = xs }) (sym (length-append ss (step_to k m ∷ []))) (laid-snoc no_step max_loads ss (step_to k m) (room refl))
+laid_more ss false k m room = rw (append-nil ss) refl
+laid_more ss true k m room =
+    ap₂ (λ c xs. record { count = c; items = xs }) (sym (length-append ss (step_to k m ∷ []))) (laid-snoc no_step max_loads ss (step_to k m) (room refl))
 
-pub laid-count : (n : ℕ) (ss : List Step) (o : Order) → o ≡ laid_order n ss → o.count ≡ length ss
+pub laid-count : (ss : List Step) (o : Order) → o ≡ laid_order ss → o.count ≡ length ss
 unfolding laid_order
-laid-count n ss o e = ap (λ (y : Order). y.count) e
+laid-count ss o e = ap (λ (y : Order). y.count) e
 
 -- the steps of the loads that go off, down to load k: those that were put, and those that are to come
 pub record OffSoFar (old new : ℕ → Bool) (n k : ℕ) (o : Order) : Type 0 where
   pub done : List Step
-  pub held : o ≡ laid_order 0 done
+  pub held : o ≡ laid_order done
   pub few : length done + k ≤ n
   pub whole : done ++ off_steps old new k ≡ off_steps old new n
 
@@ -40,7 +40,7 @@ module _ (old new : ℕ → Bool) (n : ℕ) where
       let one = step_if (goes_off old new (suc k)) (step_to (suc k) 0) in
       record {
         done = x.done ++ one;
-        held = rw (is, x.held) (laid_more 0 x.done (goes_off old new (suc k)) (suc k) 0 (λ _. omega (arith, x.few, most)));
+        held = rw (is, x.held) (laid_more x.done (goes_off old new (suc k)) (suc k) 0 (λ _. omega (arith, x.few, most)));
         few = omega (arith, x.few, length-append x.done one, step-most (goes_off old new (suc k)) (step_to (suc k) 0));
         whole = append_assoc x.done one (off_steps old new k) ∙ x.whole;
       }
@@ -52,18 +52,18 @@ module _ (old new : ℕ → Bool) (n : ℕ) where
 
   -- there is a place for it
   pub off-room : (k : ℕ) (o : Order) → 0 < k → n ≤ max_loads → OffSoFar old new n k o → o.count < max_loads
-  off-room k o l most x = omega (arith, x.few, l, most, laid-count 0 x.done o x.held)
+  off-room k o l most x = omega (arith, x.few, l, most, laid-count x.done o x.held)
 
-  pub off-all : (o : Order) → OffSoFar old new n 0 o → o ≡ laid_order 0 (off_steps old new n)
+  pub off-all : (o : Order) → OffSoFar old new n 0 o → o ≡ laid_order (off_steps old new n)
   unfolding off_steps
-  off-all o x = x.held ∙ ap (laid_order 0) (sym (append-nil x.done) ∙ x.whole)
+  off-all o x = x.held ∙ ap laid_order (sym (append-nil x.done) ∙ x.whole)
 
   -- no load goes on yet
-  pub on_none : (o : Order) → o ≡ laid_order 0 (off_steps old new n) → o ≡ laid_order 0 (off_steps old new n ++ on_steps old new 0)
+  pub on_none : (o : Order) → o ≡ laid_order (off_steps old new n) → o ≡ laid_order (off_steps old new n ++ on_steps old new 0)
   unfolding on_steps
-  on_none o e = e ∙ ap (laid_order 0) (sym (append-nil (off_steps old new n)))
+  on_none o e = e ∙ ap laid_order (sym (append-nil (off_steps old new n)))
 
-  module _ (k : ℕ) (o : Order) (b : Bool) (is : b ≡ goes_on old new (k + 1)) (l : k < n) (most : n ≤ max_loads) (e : o ≡ laid_order 0 (off_steps old new n ++ on_steps old new k)) where
+  module _ (k : ℕ) (o : Order) (b : Bool) (is : b ≡ goes_on old new (k + 1)) (l : k < n) (most : n ≤ max_loads) (e : o ≡ laid_order (off_steps old new n ++ on_steps old new k)) where
     goes : b ≡ goes_on old new (suc k)
     goes = rw add-one at is
 
@@ -72,12 +72,12 @@ module _ (old new : ℕ → Bool) (n : ℕ) where
 
     -- there is a place for load k + 1
     pub on_room : b ≡ true → o.count < max_loads
-    on_room t = omega (arith, few t, laid-count 0 (off_steps old new n ++ on_steps old new k) o e)
+    on_room t = omega (arith, few t, laid-count (off_steps old new n ++ on_steps old new k) o e)
 
-    pub on-turn : pick b (one_more o (k + 1) 1) o ≡ laid_order 0 (off_steps old new n ++ on_steps old new (k + 1))
+    pub on-turn : pick b (one_more o (k + 1) 1) o ≡ laid_order (off_steps old new n ++ on_steps old new (k + 1))
     unfolding on_steps
     on-turn =
         let offs = off_steps old new n in
         let ons = on_steps old new k in
         rw (add-one k, e, goes)
-        (laid_more 0 (offs ++ ons) (goes_on old new (suc k)) (suc k) 1 (λ t. few (goes ∙ t)) ∙ ap (laid_order 0) (append_assoc offs ons (step_if (goes_on old new (suc k)) (step_to (suc k) 1))))
+        (laid_more (offs ++ ons) (goes_on old new (suc k)) (suc k) 1 (λ t. few (goes ∙ t)) ∙ ap laid_order (append_assoc offs ons (step_if (goes_on old new (suc k)) (step_to (suc k) 1))))

@@ -1,9 +1,10 @@
 -- A changeover: what refuses it, and what it gives.
 -- It stands for "the number of steps is returned, and list places beyond the steps keep their values", "16 ..; 17, a list too short; both after 4 and
 -- 5, 16 first. Each refusal here returns its number and 0 steps, with nothing written." of request Twelve of paper 02. Assumes nothing.
-use Rattle.std.specs.Prelude.{ℕ, ◌&&◌, not, List, [], ◌∷◌, eqb, ltb, length}
+use Rattle.std.specs.Prelude.{ℕ, ◌&&◌, not, Result, List, [], ◌∷◌, eqb, ltb, length}
 use Rattle.std.proofs.lemmas.List.Edits.{sets}
 use Rattle.tables.specs.Refusals as no
+use Rattle.tables.specs.Refusals.{told}
 use Rattle.tables.specs.Tables.{Tables}
 use Rattle.tables.specs.Operations.{accepted}
 use Rattle.calls.specs.State.{StoredState, state_of, keeps}
@@ -40,9 +41,9 @@ refusal_of p old new n = lowest (causes_for p old new n)
 unfoldable pub steps_given : StoredState → (old new : List ℕ) (places : ℕ) → List Step
 steps_given p old new n = accepted (refusal_of p old new n) (steps_of (state_of p).tables old new) []
 
--- its number and its steps by value, for a list of so many places
-unfoldable pub order_of : StoredState → (old new : List ℕ) (places : ℕ) → Order
-order_of p old new n = laid_order (refusal_of p old new n) (steps_given p old new n)
+-- its steps by value, for a list of so many places, or its number
+unfoldable pub order_of : StoredState → (old new : List ℕ) (places : ℕ) → Result Order ℕ
+order_of p old new n = told (refusal_of p old new n) (laid_order (steps_given p old new n))
 
 -- what it gives: its number, the count of steps, and the list as it leaves it
 pub record Changed : Type 0 where

@@ -1,15 +1,15 @@
 -- A set of loads as it is handed in, and whether the supply carries it.
 -- It stands for "Given an old and a new set, each written as for `check` (else 5)" and "16, a set that is over budget or has a load on below one
 -- that is off" of request Twelve of paper 02. Assumes nothing.
-use Rattle.std.specs.Prelude.{ℕ, Bool, ◌&&◌, ◌||◌, not, List, eqb, leb, length}
-use Rattle.lists.specs.Tests.{pick, every_from}
+use Rattle.std.specs.Prelude.{ℕ, ◌≡◌, Bool, true, false, ◌&&◌, ◌||◌, not, Option, MatchOption, List, eqb, leb, length}
+use Rattle.lists.specs.Tests.{every_from}
 use Rattle.lists.specs.Argmax.{guard}
-use Rattle.marks.specs.Sets.{no_loads, has_load}
+use Rattle.marks.specs.declared.LoadSet.{LoadSet}
+use Rattle.marks.specs.Sets.{has_load}
 use Rattle.lines.specs.Grammar.{is_bits, loads_of}
 use Rattle.tables.specs.declared.load.Load.{Load}
 use Rattle.tables.specs.Tables.{Tables}
 use Rattle.meaning.specs.Sets.{power}
-use Rattle.changeover.specs.declared.sets.Written.{Written}
 
 -- "each written as for `check`": "one 0 or 1 for each load"
 abbrev pub is_set : (loads : ℕ) → List ℕ → Bool
@@ -34,6 +34,6 @@ all_fed on ls = every_from (is_fed on) 1 ls
 unfoldable pub carries : Tables → (on : ℕ → Bool) → Bool
 carries t on = leb (power t (mark_by on)) t.budget && all_fed on t.loads
 
--- ---- inside: a set as it is read
-unfoldable pub read_as : (loads : ℕ) (bits : List ℕ) → Written
-read_as n bits = record { right = is_set n bits; set = pick (is_bits bits) (loads_of bits) no_loads }
+-- ---- inside: a set as it is read, where it is written so
+abbrev pub ReadAs : (loads : ℕ) (bits : List ℕ) → Option LoadSet → Type 0
+ReadAs n bits found = MatchOption found (is_set n bits ≡ false) (λ s. (is_set n bits ≡ true) × (s ≡ loads_of bits))

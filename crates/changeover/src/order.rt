@@ -1,18 +1,19 @@
 // The steps from one set of loads to another, by value, in their order.
 ghost use Rattle.std.specs.Prelude.{◌≡◌, ◌≤◌, ◌<◌, true, [], get_or};
+ghost use Rattle.tables.specs.Refusals.{numbered};
 ghost use Rattle.lists.specs.Tests.{pick};
 ghost use Rattle.marks.specs.Sets.{has_load};
 ghost use Rattle.tables.specs.Limits.{max_loads};
 ghost use Rattle.planner.specs.Planner.{held};
 ghost use Rattle.changeover.specs.Steps.{no_step, off_steps, steps};
-ghost use Rattle.changeover.specs.Order.{laid_order, one_more, switched};
+ghost use Rattle.changeover.specs.Order.{laid_order, one_more};
 ghost use Rattle.changeover.specs.Changeover.{order_of};
 
 use crate::sets::{carries, read_set};
 use marks::LoadSet;
 use planner::Planner;
 use tables::load::MAX_LOADS;
-use tables::refusal::{NO_LOADS, NOT_CARRIED, OUT_OF_RANGE, SHORT_LIST, UNUSABLE};
+use tables::refusal::Refusal;
 
 // A step: the number of a load, and its new mark, 0 off or 1 on. C gets it so.
 #[repr(C)]
@@ -30,10 +31,9 @@ pub struct Switched {
     pub count: usize,
 }
 
-// The steps of a changeover, with its number. The first `count` places are in use. A refused one has no steps.
+// The steps of a changeover. The first `count` places are in use. (There is no heap: a fixed list has its length beside it.)
 #[derive(Clone, Copy)]
 pub struct Order {
-    pub number: u32,
     pub count: usize,
     pub items: [Step; MAX_LOADS],
 }
@@ -44,16 +44,11 @@ impl Step {
 }
 
 impl Order {
-    // This number, and no steps.
-    fn stepless(number: u8) -> Order
-        ensures { result ≡ laid_order number [] }
-    {
-        Order {
-            number: number as u32,
-            count: 0,
-            items: [Step::NONE; MAX_LOADS],
-        }
-    }
+    // No steps.
+    pub const EMPTY: Order = Order {
+        count: 0,
+        items: [Step::NONE; MAX_LOADS],
+    };
 
     // With one step more for a load that changes, as it was for another.
     fn with(self, changes: bool, load: usize, mark: u8) -> Order
@@ -67,20 +62,10 @@ impl Order {
         let mut next = self;
         next.items[at] = Step {
             load: load as u8,
-            mark: mark,
+            mark,
         };
         next.count = at + 1;
         next
-    }
-
-    // What is told of it.
-    pub fn told(self) -> Switched
-        ensures { result ≡ switched self.number self.count }
-    {
-        Switched {
-            number: self.number,
-            count: self.count,
-        }
     }
 
     // The step at a place. Past the last place there is none.
@@ -97,13 +82,12 @@ impl Order {
 // The steps of the loads that go off, the highest number first.
 fn off_steps(old: LoadSet, new: LoadSet, loads: usize) -> Order
     requires { loads ≤ max_loads }
-    ensures { result ≡ laid_order 0 (off_steps (has_load old) (has_load new) loads) }
+    ensures { result ≡ laid_order (off_steps (has_load old) (has_load new) loads) }
 {
-    let mut order = Order::stepless(0);
-    let mut k = loads;
-    while 0 < k {
-        order = order.with(old.has(k) & !new.has(k), k, 0);
-        k -= 1;
+    let mut order = Order::EMPTY;
+    for i in (0..loads).rev() {
+        let load = i + 1;
+        order = order.with(old.has(load) & !new.has(load), load, 0);
     }
     order
 }
@@ -111,7 +95,7 @@ fn off_steps(old: LoadSet, new: LoadSet, loads: usize) -> Order
 // All steps: behind those, the steps of the loads that go on, the lowest number first.
 fn steps(old: LoadSet, new: LoadSet, loads: usize) -> Order
     requires { loads ≤ max_loads }
-    ensures { result ≡ laid_order 0 (steps (has_load old) (has_load new) loads) }
+    ensures { result ≡ laid_order (steps (has_load old) (has_load new) loads) }
 {
     let mut order = off_steps(old, new, loads);
     for i in 0..loads {
@@ -121,28 +105,26 @@ fn steps(old: LoadSet, new: LoadSet, loads: usize) -> Order
     order
 }
 
-// The number and the steps of a changeover to a list of so many places. It serves callers that cannot lend a list of structs.
-pub fn order_of(planner: Planner, old: &[u8], new: &[u8], places: usize) -> Order
-    ensures { result ≡ order_of (held planner) old.now new.now places }
+// The steps of a changeover to a list of so many places. It serves callers that cannot lend a list of structs.
+#[tactic(auto, using(crate::proofs::Refused::refusals))]
+pub fn order_of(planner: Planner, old: &[u8], new: &[u8], places: usize) -> Result<Order, Refusal>
+    ensures { numbered result ≡ order_of (held planner) old.now new.now places }
 {
     if !planner.keeps_limits() {
-        return Order::stepless(UNUSABLE);
+        return Err(Refusal::Unusable);
     }
     let loads = planner.tables.loads.count;
     if loads == 0 {
-        return Order::stepless(NO_LOADS);
+        return Err(Refusal::NoLoads);
     }
-    let from = read_set(old, loads);
-    let to = read_set(new, loads);
-    if !(from.right & to.right) {
-        return Order::stepless(OUT_OF_RANGE);
+    let from = read_set(old, loads).ok_or(Refusal::OutOfRange)?;
+    let to = read_set(new, loads).ok_or(Refusal::OutOfRange)?;
+    if !carries(planner.tables, from) || !carries(planner.tables, to) {
+        return Err(Refusal::NotCarried);
     }
-    if !(carries(planner.tables, from.set) & carries(planner.tables, to.set)) {
-        return Order::stepless(NOT_CARRIED);
-    }
-    let order = steps(from.set, to.set, loads);
+    let order = steps(from, to, loads);
     if places < order.count {
-        return Order::stepless(SHORT_LIST);
+        return Err(Refusal::ShortList);
     }
-    order
+    Ok(order)
 }

@@ -7,15 +7,25 @@ use crate::order::{Step, Switched, order_of};
 use planner::Planner;
 
 // Switches over from an old set to a new one, each written as for `check`: the steps go to the list, and the number, 0 if accepted, and their count come
-// back. A refusal has no steps and writes nothing.
+// back. A refusal has no steps and writes nothing. The place serves two lists, and the writer stays as thin as that.
+#[tactic(auto, using(crate::proofs::Listed::lists))]
 pub fn switch_over(planner: Planner, old: &[u8], new: &[u8], list: &mut [Step]) -> Switched
     ensures { changed_to result.number result.count list.new ≡ changeover (held planner) old.now new.now list.old }
 {
-    let order = order_of(planner, old, new, list.len());
-    let mut i: usize = 0;
-    while i < order.count {
+    let order = match order_of(planner, old, new, list.len()) {
+        Ok(order) => order,
+        Err(refusal) => {
+            return Switched {
+                number: u32::from(refusal),
+                count: 0,
+            };
+        }
+    };
+    for i in 0..order.count {
         list[i] = order.step(i);
-        i += 1;
     }
-    order.told()
+    Switched {
+        number: 0,
+        count: order.count,
+    }
 }

@@ -9,6 +9,7 @@ use borrow.Author.Tests.{eqb-true, leb-true}
 use lib.Dec.{leb}
 use lib.ListN.{length, get_or, take, drop}
 use Rattle.lists.proofs.Bools.{and_left}
+use Rattle.tables.specs.declared.refusal.Refusal.TheVariants.{NoPlan}
 use Rattle.tables.specs.Refusals as no
 use Rattle.tables.specs.Tables.{Tables, no_load}
 use Rattle.tables.specs.Limits.{max_loads}
@@ -129,12 +130,12 @@ module _ (n : ℕ) (xs : List Event) (d3 : Demand3 n xs) (k : ℕ) (page : List 
   outcome b e = d3.outcome ∙ ap (λ (b : Bool). kept_outcome b s.tables) e
 
   old : current false xs ≡ false → drawing (stored_state s) k page ≡ drawn_of no.no_plan page
-  old e = sym (refused-drawing (stored_state s) k page no.no_plan (no-plan (stored_state s) k (length page) size (keeps-stored s d3.limits) known (ap (λ (x : State). is_nothing x.outcome) state ∙ ap is_nothing (outcome false e))) (λ z. absurd (omega arith)))
+  old e = sym (refused-drawing (stored_state s) k page NoPlan (no-plan (stored_state s) k (length page) size (keeps-stored s d3.limits) known (ap (λ (x : State). is_nothing x.outcome) state ∙ ap is_nothing (outcome false e))))
 
   -- with an outcome
   new : is_nothing s.outcome ≡ false → drawing (stored_state s) k page ≡ drawn_of 0 (page_of s k)
   new e =
-      sym (done-drawing (stored_state s) k page 0 (unrefused (stored_state s) k (length page) size (keeps-stored s d3.limits) known (ap (λ (x : State). is_nothing x.outcome) state ∙ e)) refl
+      sym (done-drawing (stored_state s) k page (unrefused (stored_state s) k (length page) size (keeps-stored s d3.limits) known (ap (λ (x : State). is_nothing x.outcome) state ∙ e))
       (ap (λ (x : State). page_of x k) (sym state)))
 
   some-outcome : current false xs ≡ true → is_nothing s.outcome ≡ false

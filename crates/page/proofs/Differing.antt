@@ -2,49 +2,30 @@
 use Prim.Native.Nat.{ℕ, zero, suc, ◌+◌, ◌*◌, ◌-◌, ◌≤◌, ◌<◌, zero-le}
 use mathlib.Core.Path.{◌≡◌, refl, sym, ap, ◌∙◌}
 use mathlib.Core.Bool.{Bool, true, false, ◌&&◌, ◌||◌, not}
-use mathlib.Core.List.{List}
+use mathlib.Core.List.{List, [], ◌∷◌}
 use native.Mathlib.Omega.{arith}
-use borrow.Author.Tests.{eq-eqb, eqb-true, not-true, not-false}
+use borrow.Author.Tests.{eqb-true, not-true, not-false}
 use lib.Dec.{eqb}
-use lib.ListN.{length, get_or, take, drop, length-drop, take-append-drop, drop_of_length-le}
-use lib.Seq.{take-add, drop-drop, ext_get_or, get_or-take, get_or-drop, length-take-le}
-use Rattle.lists.specs.Tests.{pick, all_below}
-use Rattle.lists.proofs.Bools.{same_test, or_left, or_right}
-use Rattle.lists.proofs.Tests.{below_at, below_all}
+use lib.Pointwise.{pointwise}
+use lib.ListN.{length, take, drop, take-append-drop, drop_of_length-le}
+use lib.Seq.{take-add, drop-drop}
+use Rattle.lists.specs.Tests.{pick}
+use Rattle.lists.proofs.Bools.{or_left, or_right}
 use Rattle.lines.specs.Text.{same}
-use Rattle.lines.proofs.Codes.{same_refl, same-is}
+use Rattle.lines.proofs.Same.{same_refl, same-is}
 use Rattle.page.specs.declared.stretch.Rows.{Rows}
 use Rattle.page.specs.declared.stretch.Part.{Part}
 use Rattle.page.specs.Rows.{row_count, row_bytes, page_bytes}
 use Rattle.page.specs.Stretch.{row_at, differs, passing, no_rows, is_page, differing, place}
 use Rattle.page.proofs.Rowwise.{passing-fits}
 
--- ---- a row, byte for byte
-abbrev pub bytes_same : (glass drawn : List ℕ) → (row : ℕ) → (i : ℕ) → Bool
-bytes_same g d r i = eqb (get_or g (r * row_bytes + i) 0) (get_or d (r * row_bytes + i) 0)
-
-module _ (s : List ℕ) (r : ℕ) (h : r * row_bytes + row_bytes ≤ length s) where
-  at_length : length (row_at s r) ≡ row_bytes
-  unfolding row_at
-  at_length = length-take-le row_bytes (drop (r * row_bytes) s) (omega (arith, length-drop (r * row_bytes) s))
-
-  row-byte : (i : ℕ) → i < row_bytes → get_or (row_at s r) i 0 ≡ get_or s (r * row_bytes + i) 0
-  unfolding row_at
-  row-byte i l = get_or-take row_bytes (drop (r * row_bytes) s) i 0 l ∙ get_or-drop (r * row_bytes) s i 0
-
-module _ (g d : List ℕ) (r : ℕ) (a : r * row_bytes + row_bytes ≤ length g) (b : r * row_bytes + row_bytes ≤ length d) where
-  pub row_same : all_below (bytes_same g d r) row_bytes ≡ same (row_at g r) (row_at d r)
-  row_same = same_test _ _ to from
-    where
-      to : all_below (bytes_same g d r) row_bytes ≡ true → same (row_at g r) (row_at d r) ≡ true
-      to h =
-          let e : row_at g r ≡ row_at d r = ext_get_or 0 (row_at g r) (row_at d r) (at_length g r a ∙ sym (at_length d r b))
-          (λ i l. let m : i < row_bytes = omega (arith, l, at_length g r a) in
-          row-byte g r a i m ∙ eqb-true _ _ (below_at (bytes_same g d r) row_bytes i h m) ∙ sym (row-byte d r b i m)) in
-          rw e (same_refl (row_at d r))
-
-      from : same (row_at g r) (row_at d r) ≡ true → all_below (bytes_same g d r) row_bytes ≡ true
-      from h = below_all (bytes_same g d r) row_bytes (λ i m. eq-eqb _ _ (sym (row-byte g r a i m) ∙ ap (λ (x : List ℕ). get_or x i 0) (same-is (row_at g r) (row_at d r) h) ∙ row-byte d r b i m))
+-- ---- bytes, as the library compares them
+pub same-bytes : (a b : List ℕ) → pointwise eqb a b ≡ same a b
+unfolding same
+same-bytes [] [] = refl
+same-bytes [] (y ∷ b) = refl
+same-bytes (x ∷ a) [] = refl
+same-bytes (x ∷ a) (y ∷ b) = ap (λ t. eqb x y && t) (same-bytes a b)
 
 -- ---- the rows of two pages that are the same
 module _ (g d : List ℕ) where

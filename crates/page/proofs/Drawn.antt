@@ -1,6 +1,6 @@
 -- A drawing: what refuses it, test by test, its page, and what it leaves. Assumes nothing.
-use Prim.Native.Nat.{ℕ, zero, suc, ◌+◌, ◌*◌, ◌≤◌}
-use mathlib.Core.Path.{◌≡◌, refl, sym, ◌∙◌}
+use Prim.Native.Nat.{ℕ, zero, suc, ◌+◌, ◌*◌, ◌≤◌, ◌<◌}
+use mathlib.Core.Path.{◌≡◌, refl, sym, ap, ◌∙◌}
 use mathlib.Core.Bool.{Bool, true, false, ◌||◌}
 use mathlib.Core.List.{List, [], ◌++◌, append-nil}
 use native.Mathlib.Omega.{arith}
@@ -10,7 +10,11 @@ use lib.ListN.{length, drop, replicate, drop_of_length-le}
 use lib.Seq.{sets-eq}
 use Rattle.lists.proofs.Bools.{and-false, or_left, or_right}
 use Rattle.lines.specs.Answers.{Wrote}
+use Rattle.tables.specs.declared.refusal.Refusal.{Refusal}
+use Rattle.tables.specs.declared.refusal.Refusal.TheVariants.{Unusable}
 use Rattle.tables.specs.Refusals as no
+use Rattle.tables.specs.Refusals.{number_of}
+use Rattle.tables.specs.Operations.{accepted}
 use Rattle.tables.specs.Limits.{between}
 use Rattle.tables.specs.declared.entry.Entry.{Entry}
 use Rattle.meaning.specs.Sets.{worth, power}
@@ -20,6 +24,9 @@ use Rattle.calls.specs.State.{State, StoredState, state_of, keeps}
 use Rattle.calls.specs.Rows.{is_load}
 use Rattle.calls.specs.Causes.{lowest}
 use Rattle.calls.proofs.Work.{clash}
+use Rattle.planner.specs.declared.Planner.{Planner}
+use Rattle.planner.specs.Planner.{held, state_in, Lawful}
+use Rattle.planner.proofs.Commands.{tables-count}
 use Rattle.page.specs.Rows.{page_bytes, row_bytes, load_row_count, blank, plan_row, no_plan_row, load_rows}
 use Rattle.page.specs.Drawing.{page_of, refusal_of, drawn_of, drawing}
 use Rattle.page.proofs.RowText.{rows-blank}
@@ -59,20 +66,19 @@ status-something zero es d = absurd (d refl)
 status-something (suc zero) es d = refl
 status-something (suc (suc k)) es d = refl
 
+-- the loads of a planner that keeps the limits
+pub counted : (p : Planner) → Lawful p → p.tables.loads.count ≡ length (state_in p).tables.loads
+counted p h = tables-count p.tables h.tables
+
 -- the test of the load's number, as the code makes it
-pub load-out : (k n m : ℕ) → n ≡ m → ltb k 1 || ltb n k ≡ true → between 1 m k ≡ false
-load-out k n m is e = rw (← is) (go (ltb k 1) refl (ltb n k) refl e)
-  where
-    go : (a : Bool) → ltb k 1 ≡ a → (b : Bool) → ltb n k ≡ b → a || b ≡ true → between 1 n k ≡ false
-    go true p b q e = rw (lt-leb 1 k (ltb-true k 1 p))
-    go false p true q e = rw (lt-leb k n (ltb-true n k q)) (and-false (leb 1 k))
-    go false p false q e = absurd (clash (sym e))
+pub load-under : (k m : ℕ) → k < 1 → between 1 m k ≡ false
+load-under k m l = rw (lt-leb 1 k l)
 
-pub load-in : (k n : ℕ) → ltb k 1 || ltb n k ≡ false → (1 ≤ k) × (k ≤ n)
-load-in k n e = (ltb-false k 1 (or_left (ltb k 1) (ltb n k) e), ltb-false n k (or_right (ltb k 1) (ltb n k) e))
+pub load-over : (k n m : ℕ) → n ≡ m → n < k → between 1 m k ≡ false
+load-over k n m is l = rw (← is, lt-leb k n l) (and-false (leb 1 k))
 
-pub load-there : (k n m : ℕ) → n ≡ m → (1 ≤ k) × (k ≤ n) → between 1 m k ≡ true
-load-there k n m is h = rw (← is, le-leb 1 k h.0, le-leb k n h.1)
+pub load-there : (k n m : ℕ) → n ≡ m → 1 ≤ k → k ≤ n → between 1 m k ≡ true
+load-there k n m is l h = rw (← is, le-leb 1 k l, le-leb k n h)
 
 -- ---- the page
 -- after refusal 9
@@ -93,13 +99,21 @@ wrote-whole {l} {k} {j} {s} e w =
     w.list ∙ sets-eq s l 0 (omega (arith, e)) ∙ rw past (append-nil s)
 
 -- ---- the drawing
-module _ (p : StoredState) (k : ℕ) (page : List ℕ) where
-  pub refused-drawing : (n : ℕ) → n ≡ refusal_of p k (length page) → (n ≡ 0 → ⊥) → drawn_of n page ≡ drawing p k page
-  unfolding drawing
-  refused-drawing zero e d = absurd (d refl)
-  refused-drawing (suc n) e d = rw (← e)
+untouched : {A : Type 0} (new old : A) (r : Refusal) → accepted (number_of r) new old ≡ old
+untouched new old Unusable = refl
+untouched new old r = refl
 
-  pub done-drawing : (n : ℕ) {drawn : List ℕ} → n ≡ refusal_of p k (length page) → n ≡ 0 → drawn ≡ page_of (state_of p) k → drawn_of n drawn ≡ drawing p k page
+module _ (p : StoredState) (k : ℕ) (page : List ℕ) where
+  pub refused-drawing : (r : Refusal) → number_of r ≡ refusal_of p k (length page) → drawn_of (number_of r) page ≡ drawing p k page
   unfolding drawing
-  done-drawing zero e z is = rw (← e, is)
-  done-drawing (suc n) e z is = absurd (omega (arith, z))
+  refused-drawing r e = rw (← e) (ap (drawn_of (number_of r)) (sym (untouched _ page r)))
+
+  pub done-drawing : {drawn : List ℕ} → 0 ≡ refusal_of p k (length page) → drawn ≡ page_of (state_of p) k → drawn_of 0 drawn ≡ drawing p k page
+  unfolding drawing
+  done-drawing e is = rw (← e, is)
+
+-- the two ends of a drawing
+pub ruleset drawings = (refused-drawing, done-drawing)
+
+-- where a drawing is refused, by its tests, and where not
+pub ruleset refusals = (no-page, broken, no-load, no-plan, unrefused, status-nothing, status-something, load-under, load-over, load-there, counted)

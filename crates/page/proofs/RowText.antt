@@ -7,12 +7,16 @@ use native.Mathlib.Numerals.{add-one}
 use native.Mathlib.Omega.{arith}
 use borrow.Author.Tests.{le-leb, lt-leb}
 use lib.Dec.{leb}
-use lib.ListN.{length, get_or, replicate, length-append, length-replicate, replicate-append-replicate}
+use borrow.Rule.Slice.PartMut.{put_mid}
+use lib.ListN.{length, get_or, take, drop, replicate, length-take, length-drop, length-append, length-replicate, replicate-append-replicate}
+use lib.Seq.{sets}
 use Rattle.lists.specs.Tests.{pick}
 use Rattle.lists.proofs.Bools.{and-false}
 use Rattle.lines.specs.Text.{bytes}
-use Rattle.lines.specs.Answers.{Wrote}
-use Rattle.lines.proofs.Wrote.{wrote_none, wrote_then}
+use Rattle.lines.specs.declared.writing.Writer.{Writer}
+use Rattle.lines.specs.Writing.{HasRoom, Writes}
+use Rattle.lines.proofs.Wrote.{wrote-length}
+use Rattle.lines.proofs.Writes.{copied, writes_then, room_first}
 use Rattle.tables.specs.declared.load.Load.{Load}
 use Rattle.tables.specs.Tables.{no_load}
 use Rattle.tables.specs.Limits.{between}
@@ -102,17 +106,23 @@ rows-blank σ k (suc n) h =
     ∙ replicate-append-replicate (n * row_bytes) row_bytes blank ∙ ap (λ (m : ℕ). replicate m blank) e
 
 -- ---- written piece by piece
-pub blanks-none : (l : List ℕ) (at : ℕ) → Wrote l l at at (replicate (at - at) blank)
-blanks-none l at = let e : at - at ≡ 0 = omega arith in rw e (wrote_none l at)
-
-pub blanks-more : {l m k : List ℕ} {at i j : ℕ} → at ≤ i → Wrote l m at i (replicate (i - at) blank) → Wrote m k i j (blank ∷ []) → Wrote l k at j (replicate (j - at) blank)
-blanks-more {l} {m} {k} {at} {i} {j} h w v =
-    let e : i - at + 1 ≡ j - at = omega (arith, v.end) in
-    rw (sym e, sym (replicate-append-replicate (i - at) 1 blank)) (wrote_then w v)
+pub filled-with : (l new : List ℕ) (at end : ℕ) → at ≤ end → end ≤ length l → new ≡ replicate (length (take (end - at) (drop at l))) blank
+    → put_mid at (end - at) l new ≡ sets l at (replicate (end - at) blank)
+filled-with l new at end h k q =
+    let n : length (take (end - at) (drop at l)) ≡ end - at = omega (arith, length-take (end - at) (drop at l), length-drop at l) in
+    let e : at + length (replicate (end - at) blank) - at ≡ end - at = omega (arith, length-replicate {A = ℕ} (end - at) blank) in
+    rw (q, n) (rw e at (copied l (replicate (end - at) blank) at (omega (arith, length-replicate {A = ℕ} (end - at) blank))))
 
 -- a row's text, and the blanks up to its end
-pub wrote-filled : {l m k : List ℕ} {at i j : ℕ} {s : List ℕ} → length s ≤ row_bytes → Wrote l m at i s → Wrote m k i j (replicate (at + row_bytes - i) blank) → Wrote l k at j (filled s)
+pub text-room : {u : Writer} {s : List ℕ} → HasRoom u (filled s) → HasRoom u s
 unfolding filled
-wrote-filled {l} {m} {k} {at} {i} {j} {s} h w v =
-    let e : at + row_bytes - i ≡ row_bytes - length s = omega (arith, w.end) in
-    wrote_then w (rw e at v)
+text-room h = room_first _ h
+
+pub blanks-room : {u v : Writer} {s : List ℕ} → length s ≤ row_bytes → HasRoom u (filled s) → Writes u v s → (v.at ≤ u.at + row_bytes) × (u.at + row_bytes ≤ length v.out.now)
+blanks-room {u} {v} {s} h r p = (omega (arith, p.wrote.end), omega (arith, r.fits, filled-length s h, wrote-length p.wrote))
+
+pub writes-filled : {u v w : Writer} {s : List ℕ} → length s ≤ row_bytes → Writes u v s → Writes v w (replicate (u.at + row_bytes - v.at) blank) → Writes u w (filled s)
+unfolding filled
+writes-filled {u} {v} {w} {s} h p q =
+    let e : u.at + row_bytes - v.at ≡ row_bytes - length s = omega (arith, p.wrote.end) in
+    writes_then p (rw e at q)

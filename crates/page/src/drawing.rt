@@ -1,61 +1,71 @@
 // Drawing the latest plan of a planner.
-ghost use Rattle.std.specs.Prelude.{◌≡◌, length};
+ghost use Rattle.std.specs.Prelude.{◌≡◌, OnOk, length};
+ghost use Rattle.tables.specs.Refusals.{number_in};
 ghost use Rattle.planner.specs.Planner.{held, state_in};
 ghost use Rattle.page.specs.Drawing.{page_of, refusal_of, drawn_of, drawing, Drawable};
 
 use crate::PAGE_BYTES;
 use crate::rows::{put_blanks, put_loads, put_no_plan, put_plan};
 use engine::figures::figures_of;
+use lines::writing::Writer;
 use planner::Planner;
 use runs::outcome::{NO_SET, NOTHING};
-use tables::refusal::{NO_PLAN, NOT_A_PAGE, OUT_OF_RANGE, UNUSABLE};
+use tables::refusal::Refusal;
 
-// What refuses a drawing, the page first; 0 where nothing does.
-fn refusal(planner: Planner, load: usize, bytes: usize) -> u8
-    ensures number { result ≡ refusal_of (held planner) load bytes }
-    ensures drawn { result ≡ 0 → Drawable planner load bytes }
+// What refuses a drawing, the page first.
+#[tactic(auto, using(crate::proofs::Drawn::refusals))]
+fn refusal(planner: Planner, load: usize, bytes: usize) -> Result<(), Refusal>
+    ensures number { number_in result ≡ refusal_of (held planner) load bytes }
+    ensures drawn { OnOk result (Drawable planner load bytes) }
 {
     if bytes != PAGE_BYTES {
-        return NOT_A_PAGE;
+        return Err(Refusal::NotAPage);
     }
     if !planner.keeps_limits() {
-        return UNUSABLE;
+        return Err(Refusal::Unusable);
     }
-    if (load < 1) | (planner.tables.loads.count < load) {
-        return OUT_OF_RANGE;
+    if load < 1 || planner.tables.loads.count < load {
+        return Err(Refusal::OutOfRange);
     }
     if planner.outcome.status == NOTHING {
-        return NO_PLAN;
+        return Err(Refusal::NoPlan);
     }
-    0
+    Ok(())
 }
 
-// The page of a planner whose plan is current.
-fn draw_rows(planner: Planner, load: usize, page: &mut [u8])
-    requires { Drawable planner load (length page.old) }
-    ensures { page.new ≡ page_of (state_in planner) load }
+// The page of a planner whose plan is current, from the start of the output on.
+fn write_page(w: &mut Writer, planner: Planner, load: usize)
+    requires { Drawable planner load (length w.old.out.now) × (w.old.at ≡ 0) }
+    ensures lent { w.new.out.ghost_name ≡ w.old.out.ghost_name }
+    ensures page { w.new.out.now ≡ page_of (state_in planner) load }
 {
     if planner.outcome.status == NO_SET {
-        let next = put_no_plan(&mut *page, 0);
-        put_blanks(&mut *page, next, PAGE_BYTES);
+        put_no_plan(w);
+        put_blanks(w, PAGE_BYTES);
         return;
     }
     let loads = planner.tables.loads;
     let run = planner.outcome.run;
     let set = run.set;
     let figures = figures_of(loads, set);
-    let next = put_plan(&mut *page, 0, figures.worth, figures.power);
-    put_loads(&mut *page, next, loads, set, load);
+    put_plan(w, figures.worth, figures.power);
+    put_loads(w, loads, set, load);
 }
 
-// Draws the page of a planner from a load on: the number of the refusal, which leaves the page as it was, or 0.
-pub fn draw(planner: Planner, load: usize, page: &mut [u8]) -> u8
-    ensures { drawn_of result page.new ≡ drawing (held planner) load page.old }
+fn draw_rows(planner: Planner, load: usize, page: &mut [u8])
+    requires { Drawable planner load (length page.old) }
+    ensures { page.new ≡ page_of (state_in planner) load }
 {
-    let number = refusal(planner, load, page.len());
-    if number != 0 {
-        return number;
-    }
+    let mut w = Writer { out: page, at: 0 };
+    write_page(&mut w, planner, load);
+}
+
+// Draws the page of a planner from a load on. A refusal leaves the page as it was.
+#[tactic(auto, using(crate::proofs::Drawn::drawings))]
+pub fn draw(planner: Planner, load: usize, page: &mut [u8]) -> Result<(), Refusal>
+    ensures { drawn_of (number_in result) page.new ≡ drawing (held planner) load page.old }
+{
+    refusal(planner, load, page.len())?;
     draw_rows(planner, load, page);
-    number
+    Ok(())
 }

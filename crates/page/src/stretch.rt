@@ -6,7 +6,7 @@ ghost use Rattle.page.specs.Stretch.{row_at, differing, place, stretch, beginnin
 
 use crate::{PAGE_BYTES, ROW_BYTES, ROW_COUNT};
 
-// Rows of a page: the first, the topmost of the page being row 0, and the one after the last.
+// Rows of a page: the first, the topmost of the page being row 0, and the one after the last. Of no rows both are 0, as of an empty range.
 #[derive(Clone, Copy)]
 struct Rows {
     first: usize,
@@ -27,11 +27,8 @@ fn same_row(glass: &[u8], drawn: &[u8], row: usize) -> bool
     ensures { result ≡ same (row_at glass.now row) (row_at drawn.now row) }
 {
     let start = row * ROW_BYTES;
-    let mut same = true;
-    for i in 0..ROW_BYTES {
-        same = same & (glass[start + i] == drawn[start + i]);
-    }
-    same
+    let end = start + ROW_BYTES;
+    glass[start..end] == drawn[start..end]
 }
 
 // The rows from the first in which they differ to the last; none where either is no page.

@@ -8,7 +8,7 @@ use Rattle.changeover.specs.Order.{laid_order}
 use Rattle.changeover.proofs.order.steps.Given as goal
 
 abbrev pub invariant-loop-i : goal.invariant-loop-i
-invariant-loop-i l = (l.i ≤ l.loads) × (l.order ≡ laid_order 0 (off_steps (has_load l.old) (has_load l.new) l.loads ++ on_steps (has_load l.old) (has_load l.new) l.i))
+invariant-loop-i l = (l.i ≤ l.loads) × (l.order ≡ laid_order (off_steps (has_load l.old) (has_load l.new) l.loads ++ on_steps (has_load l.old) (has_load l.new) l.i))
 
 abbrev pub decreases-loop-i : goal.decreases-loop-i
 decreases-loop-i l = l.loads - l.i

@@ -1,20 +1,21 @@
--- `all_fed` meets its contract: what was tested and what is still to come is the whole test. Assumes nothing.
+-- `all_fed` meets its contract. Assumes nothing.
+use Prim.Native.Nat.{◌+◌}
+use mathlib.Core.Path.{◌∙◌}
 use native.Mathlib.Omega.{arith}
-use Rattle.lists.specs.Arrays.{rest}
+use Rattle.std.proofs.Common.{rules, tests}
+use Rattle.std.proofs.lemmas.Iterator.{YieldsList-from_slice, YieldsList-from_take}
+use Rattle.std.proofs.lemmas.Iterator.Consumers.{YieldsList-from_enumerate}
+use Rattle.std.proofs.lemmas.Iterator.Search.{all_from_yields_List}
+use Rattle.lists.proofs.Iterating.{from-list_all}
 use Rattle.marks.specs.Sets.{has_load}
-use Rattle.tables.specs.Tables.{no_load}
+use Rattle.tables.specs.Stored.{loads_of}
 use Rattle.changeover.specs.Sets.{is_fed, all_fed}
-use Rattle.changeover.proofs.Tested.{tested-one, tested-all}
 use Rattle.changeover.proofs.sets.all_fed.Goals as goal
 
-pub loop-i-preserved : goal.loop-i-preserved
-loop-i-preserved c =
-    let l = c.loop-i in
-    let ls = c.args.loads in
-    (omega arith, tested-one no_load (is_fed (has_load c.args.set)) ls.items ls.count l.fed c.is_fed-fed.result l.i (omega arith) (omega arith) c.is_fed-fed.ensures l.invariant.1)
-
 pub returns : goal.returns
-unfolding all_fed rest
+unfolding all_fed
 returns c =
-    let l = c.loop-i in
-    tested-all no_load (is_fed (has_load c.args.set)) c.args.loads.items c.args.loads.count l.fed l.i (omega arith) l.invariant.1
+    let l = c.args.loads in
+    let fed = is_fed (has_load c.args.set) in
+    all_from_yields_List (λ y. fed (y.0 + 1) y.1) _ _ _ c.all.ensures.ran (YieldsList-from_enumerate (YieldsList-from_take l.count (YieldsList-from_slice l.items cc) cc) cc) (λ x b q k. search (rules, tests))
+    ∙ from-list_all fed 0 1 1 (loads_of l) (omega arith)

@@ -14,4 +14,4 @@ all_fed-requires c = held-loads max_loads c.args.tables c.requires
 
 pub returns : goal.returns
 unfolding carries tables_of
-returns c = rw (c.figures_of-figures.ensures, c.all_fed.ensures) refl
+returns c = rw (c.figures_of-figures.ensures, c.from.ensures, c.all_fed.ensures) refl

@@ -1,17 +1,24 @@
 -- `put_digits` meets its contract: the number without its last digit, then that digit. Assumes nothing.
-use Prim.Native.Nat.{◌-◌, ◌/◌}
+use Prim.Native.Nat.{ℕ, ◌<◌}
+use mathlib.Core.Path.{◌≡◌}
 use native.Mathlib.Omega.{arith}
-use Rattle.lines.proofs.Wrote.{wrote_none, wrote_then}
-use Rattle.page.proofs.Digits.{digits-none, digits_more, digits-length}
+use Rattle.lines.proofs.Writes.{writes_none, writes_then, room_first, room_then}
+use Rattle.page.proofs.Digits.{digits-none, digits_more}
 use Rattle.page.proofs.rows.+put_digits.Goals as goal
 
-pub returns-then-count-eq0 : goal.returns-then-count-eq0
-returns-then-count-eq0 t c = rw (c.if-count-eq0.true, digits-none _) (wrote_none _ _)
+some : (k : ℕ) → 0 < k → k ≡ 0 → ⊥
+some k h z = omega arith
+
+pub put_digits-requires : goal.put_digits-requires
+put_digits-requires t c = (omega arith, room_first _ (rw (digits_more c.args.count c.args.n (some _ c.if-count-gt0.true)) at c.requires))
 
 pub put-requires : goal.put-requires
 put-requires t c =
-    omega (arith, c.put_digits-next.ensures.end, digits-length (c.args.count - 1) (c.args.n / 10))
+    rw c.lowest_digit.ensures (room_then c.put_digits.ensures (rw (digits_more c.args.count c.args.n (some _ c.if-count-gt0.true)) at c.requires))
 
-pub returns : goal.returns
-returns t c =
-    rw (digits_more _ _ c.if-count-eq0.false, ← c.lowest_digit.ensures) (wrote_then c.put_digits-next.ensures c.put.ensures)
+pub returns-then-count-gt0 : goal.returns-then-count-gt0
+returns-then-count-gt0 t c =
+    rw (digits_more c.args.count c.args.n (some _ c.if-count-gt0.true), ← c.lowest_digit.ensures) (writes_then c.put_digits.ensures c.put.ensures)
+
+pub returns-else-count-gt0 : goal.returns-else-count-gt0
+returns-else-count-gt0 t c = let z : c.args.count ≡ 0 = omega (arith, c.if-count-gt0.false) in rw (z, digits-none c.args.n) (writes_none _)

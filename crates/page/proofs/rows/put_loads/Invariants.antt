@@ -1,12 +1,12 @@
 -- `put_loads` meets its contract. The invariant: the rows of the first i loads are written. Assumes nothing.
-use Prim.Native.Nat.{ℕ, ◌+◌, ◌-◌, ◌≤◌}
+use Prim.Native.Nat.{ℕ, ◌+◌}
 use mathlib.Core.List.{List}
 use Rattle.marks.specs.Sets.{mark_in}
 use Rattle.marks.specs.declared.LoadSet.{LoadSet}
-use Rattle.lines.specs.Answers.{Wrote}
+use Rattle.lines.specs.Writing.{Writes}
 use Rattle.tables.specs.declared.load.LoadList.{LoadList}
 use Rattle.tables.specs.Stored.{loads_of}
-use Rattle.page.specs.Rows.{load_row_count, row_of, load_rows}
+use Rattle.page.specs.Rows.{row_of, load_rows}
 use Rattle.page.proofs.rows.put_loads.Given as goal
 
 -- the rows of the first i loads, and what the next adds to them
@@ -17,7 +17,4 @@ abbrev pub part : LoadList → LoadSet → (first i : ℕ) → List ℕ
 part ls s k i = row_of (loads_of ls) (mark_in s) (k + i)
 
 abbrev pub invariant-loop-i : goal.invariant-loop-i
-invariant-loop-i l = (l.i ≤ load_row_count) × Wrote l.initial.page l.page l.at l.next (text l.loads l.set l.first l.i)
-
-abbrev pub decreases-loop-i : goal.decreases-loop-i
-decreases-loop-i l = load_row_count - l.i
+invariant-loop-i l = Writes l.initial.w l.w (text l.loads l.set l.first l.i)

@@ -1,23 +1,22 @@
 -- `put_watts` meets its contract: a blank, the digits and the `W`. Assumes nothing.
-use native.Mathlib.Omega.{arith}
-use Rattle.lines.proofs.Wrote.{wrote-length, wrote_then}
-use Rattle.page.specs.Rows.{power_digits, watts}
-use Rattle.page.proofs.Digits.{digits-length}
-use Rattle.page.proofs.RowText.{watts-length}
+use mathlib.Core.List.{◌++◌}
+use Rattle.lines.specs.Text.{bytes}
+use Rattle.lines.proofs.Writes.{writes_then, room_first, room_then}
+use Rattle.page.specs.Rows.{power_digits, digits, watts}
 use Rattle.page.proofs.rows.put_watts.Goals as goal
 
-pub put-a-requires : goal.put-a-requires
-put-a-requires c = omega (arith, c.requires, watts-length c.args.power)
+pub put-requires : goal.put-requires
+unfolding watts
+put-requires c = room_first (digits power_digits c.args.power ++ bytes "W") c.requires
 
-pub put_digits-b-requires : goal.put_digits-b-requires
-put_digits-b-requires c =
-    omega (arith, c.requires, watts-length c.args.power, c.put-a.ensures.end, wrote-length c.put-a.ensures)
+pub put_digits-requires : goal.put_digits-requires
+unfolding watts
+put_digits-requires c = room_first (bytes "W") (room_then {b = digits power_digits c.args.power ++ bytes "W"} c.put.ensures c.requires)
 
 pub put_text-requires : goal.put_text-requires
-put_text-requires c =
-    let w = wrote_then c.put-a.ensures c.put_digits-b.ensures in
-    omega (arith, c.requires, watts-length c.args.power, digits-length power_digits c.args.power, w.end, wrote-length w)
+unfolding watts
+put_text-requires c = room_then c.put_digits.ensures (room_then {b = digits power_digits c.args.power ++ bytes "W"} c.put.ensures c.requires)
 
 pub returns : goal.returns
 unfolding watts
-returns c = wrote_then (wrote_then c.put-a.ensures c.put_digits-b.ensures) c.put_text.ensures
+returns c = writes_then c.put.ensures (writes_then c.put_digits.ensures c.put_text.ensures)
