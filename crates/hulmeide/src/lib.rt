@@ -19,10 +19,10 @@ ghost use Rattle.hulmeide.specs.Version.{version};
 
 use changeover::order::{Step, Switched};
 use changeover::writing::switch_over;
-use judge::Verdict;
 use page::drawing::draw;
 use page::stretch::{Part, beginning, place};
 use planner::Planner;
+use tables::refusal::{Refusal, number_in};
 
 // The version, as HULMEIDE_VERSION of the header has it: major * 10000 + minor * 100 + patch.
 const VERSION: u32 = 11100;
@@ -39,22 +39,27 @@ pub struct Reply {
     pub count: usize,
 }
 
-// A call on a line: the next planner, and what C is told.
+// The planner after a call, and what C is told.
 #[derive(Clone, Copy)]
-struct Handled {
+struct Handled<T> {
     planner: Planner,
-    reply: Reply,
+    told: T,
 }
 
-fn handle(planner: Planner, line: &[u8], out: &mut [u8], place: usize, work: &mut [u32]) -> Handled
-    ensures { done_of result.planner result.reply out.new work.new ≡ called (held planner) (call_of line.now out.old place work.old) }
+fn handle(
+    planner: Planner,
+    line: &[u8],
+    out: &mut [u8],
+    place: usize,
+    work: &mut [u32],
+) -> Handled<Reply>
+    ensures { done_of result.planner result.told out.new work.new ≡ called (held planner) (call_of line.now out.old place work.old) }
 {
     let called = planner.call(line, out, place, work);
-    let next = called.planner;
     Handled {
-        planner: next,
-        reply: Reply {
-            number: called.number as u32,
+        planner: called.planner,
+        told: Reply {
+            number: u32::from(number_in(called.told)),
             count: called.count,
         },
     }
@@ -69,35 +74,34 @@ pub struct Portion {
     pub count: usize,
 }
 
-// A portion of a plan: the next planner, and what C is told.
-#[derive(Clone, Copy)]
-struct Filled {
+fn fill(
     planner: Planner,
-    portion: Portion,
-}
-
-fn fill(planner: Planner, most: usize, out: &mut [u8], place: usize, work: &mut [u32]) -> Filled
-    ensures { Portions (held planner) (portion_of most out.old place work.old) (portion_done result.planner result.portion out.new work.new) }
+    most: usize,
+    out: &mut [u8],
+    place: usize,
+    work: &mut [u32],
+) -> Handled<Portion>
+    ensures { Portions (held planner) (portion_of most out.old place work.old) (portion_done result.planner result.told out.new work.new) }
 {
     let portion = planner.portion(most, out, place, work);
-    let after = portion.planner;
-    Filled {
-        planner: after,
-        portion: Portion {
-            number: portion.number as u32,
+    Handled {
+        planner: portion.planner,
+        told: Portion {
+            number: u32::from(number_in(portion.told)),
             filled: portion.filled,
             count: portion.count,
         },
     }
 }
 
-// The number of the judge's answer.
-fn number_of(verdict: Verdict) -> u32
-    ensures { result ≡ verdict_number verdict }
+// The number of the judge's answer: 0 for yes, one of its own for no, else that of the refusal.
+fn number_of(judged: Result<bool, Refusal>) -> u32
+    ensures { result ≡ verdict_number judged }
 {
-    match verdict {
-        Verdict::No => NOT_A_RUN,
-        _ => verdict.number() as u32,
+    match judged {
+        Ok(true) => 0,
+        Ok(false) => NOT_A_RUN,
+        Err(refusal) => u32::from(refusal),
     }
 }
 
@@ -110,7 +114,7 @@ fn judge_run(planner: Planner, run: &[u32]) -> u32
 fn draw_page(planner: Planner, load: usize, page: &mut [u8]) -> u32
     ensures { drawn_of result page.new ≡ drawing (held planner) load page.old }
 {
-    draw(planner, load, page) as u32
+    u32::from(number_in(draw(planner, load, page)))
 }
 
 fn made_fresh() -> Planner
@@ -156,7 +160,7 @@ pub extern "C" fn hulmeide_call(
 {
     let handled = handle(*planner, line, out, place, work);
     *planner = handled.planner;
-    handled.reply
+    handled.told
 }
 
 // At most so many cells of the next plan are filled in the lent work; when every cell is filled, the answer is written from a place in the output on.
@@ -172,7 +176,7 @@ pub extern "C" fn hulmeide_portion(
 {
     let filled = fill(*planner, most, out, place, work);
     *planner = filled.planner;
-    filled.portion
+    filled.told
 }
 
 // The steps from an old set of loads to a new one, each written as for `check`, go to a lent list: the number, 0 if accepted, and their count.

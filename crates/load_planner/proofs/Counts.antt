@@ -1,13 +1,13 @@
 -- A line that is taken from a chunk takes a byte of it or more, and no more than the chunk has; all of it where the line does not end.
 -- Assumes nothing.
-use Prim.Native.Nat.{ℕ, ◌+◌, ◌-◌, ◌≤◌, ◌<◌}
+use Prim.Native.Nat.{ℕ, ◌+◌, ◌≤◌, ◌<◌}
 use mathlib.Core.Path.{◌≡◌, refl, sym, ap, ◌∙◌}
 use mathlib.Core.Bool.{Bool, true, false}
 use mathlib.Core.List.{List}
 use native.Mathlib.Omega.{arith}
 use borrow.Author.Tests.{ltb-true, ltb-false}
 use lib.Dec.{ltb}
-use lib.ListN.{length, take, drop, length-take, length-drop}
+use lib.ListN.{length}
 use Rattle.lists.specs.Tests.{pick}
 use Rattle.lines.specs.declared.splitting.Taken.{Taken}
 use Rattle.lines.specs.Text.{line_feed, before}
@@ -22,27 +22,17 @@ count-bounds n s h = go (ltb (before line_feed s) (length s)) refl
     go true e = let l = ltb-true (before line_feed s) (length s) e in omega arith
     go false e = let l = ltb-false (before line_feed s) (length s) e in omega (arith, before-most line_feed s)
 
--- the count of a part from the start
-pub part_length : (n : ℕ) (l : List ℕ) → n ≤ length l → n ≡ length (take n l)
-part_length n l h = omega (arith, length-take n l)
-
--- a line taken from place p of a chunk on
-pub took-bounds : (s : List ℕ) (p : ℕ) (l m : List ℕ) (had : ℕ) (r : Taken) → p < length s → Took (take (length s - p) (drop p s)) l m had r
-    → (0 < r.count) × (p + r.count ≤ length s)
-took-bounds s p l m had r h k =
-    let part = take (length s - p) (drop p s) in
-    let len : length part ≡ length s - p = omega (arith, length-take (length s - p) (drop p s), length-drop p s) in
-    let e : r.count ≡ (taken_from had part).count = ap (λ (x : Taken). x.count) k.taken in
-    let b = count-bounds had part (omega arith) in
+-- a line taken from a chunk
+pub took-bounds : (s l m : List ℕ) (had : ℕ) (r : Taken) → 0 < length s → Took s l m had r → (0 < r.count) × (r.count ≤ length s)
+took-bounds s l m had r h k =
+    let e : r.count ≡ (taken_from had s).count = ap (λ (x : Taken). x.count) k.taken in
+    let b = count-bounds had s h in
     omega arith
 
--- one that does not end takes all that is left
-pub took-all : (s : List ℕ) (p : ℕ) (l m : List ℕ) (had : ℕ) (r : Taken) → p < length s → Took (take (length s - p) (drop p s)) l m had r → r.ended ≡ false
-    → p + r.count ≡ length s
+-- one that does not end takes all of it
+pub took-all : (s l m : List ℕ) (had : ℕ) (r : Taken) → 0 < length s → Took s l m had r → r.ended ≡ false → r.count ≡ length s
 unfolding has_end
-took-all s p l m had r h k e =
-    let part = take (length s - p) (drop p s) in
-    let len : length part ≡ length s - p = omega (arith, length-take (length s - p) (drop p s), length-drop p s) in
-    let none : ltb (before line_feed part) (length part) ≡ false = sym (ap (λ (x : Taken). x.ended) k.taken) ∙ e in
-    let count : r.count ≡ before line_feed part + 0 = ap (λ (x : Taken). x.count) k.taken ∙ ap (λ (b : Bool). before line_feed part + pick b 1 0) none in
-    omega (arith, count, len, before-most line_feed part, ltb-false (before line_feed part) (length part) none)
+took-all s l m had r h k e =
+    let none : ltb (before line_feed s) (length s) ≡ false = sym (ap (λ (x : Taken). x.ended) k.taken) ∙ e in
+    let count : r.count ≡ before line_feed s + 0 = ap (λ (x : Taken). x.count) k.taken ∙ ap (λ (b : Bool). before line_feed s + pick b 1 0) none in
+    omega (arith, count, before-most line_feed s, ltb-false (before line_feed s) (length s) none)

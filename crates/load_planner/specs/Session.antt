@@ -1,22 +1,19 @@
 -- What the line program carries from line to line and from chunk to chunk, as the definition of crate `calls` has it. Assumes nothing.
-use Rattle.std.specs.Prelude.{ℕ, ◌≤◌, ◌≡◌, List, length, take, Result, Ok, Err}
-use Rattle.lines.specs.Input.{most_kept}
+use Rattle.std.specs.Prelude.{ℕ, ◌≡◌, List, take, Result, Ok, Err}
 use Rattle.calls.specs.Program.{Left, Carried, after_chunk, after_chunks, started, lent_cells}
 use Rattle.planner.specs.declared.Planner.{Planner}
 use Rattle.planner.specs.Planner.{held}
-use Rattle.load_planner.specs.declared.Session.{Session}
+use Rattle.load_planner.specs.declared.session.Session.{Session}
 
-abbrev pub left_of : Planner → (output work : List ℕ) → Left
-left_of p o w = record { state = held p; output = o; work = w }
+abbrev pub lent : Planner → (output work : List ℕ) → Left
+lent p o w = record { state = held p; output = o; work = w }
+
+abbrev pub left_of : Session → Left
+left_of s = lent s.planner s.out s.work
 
 -- the bytes held are the first of the line's buffer
-abbrev pub carried_of : Session → (line output work : List ℕ) → Carried
-carried_of s l o w = record { left = left_of s.planner o w; begun = take s.held l }
-
--- and the buffer, which has the length of its type, has room for as many as are kept
-pub record Within (held : ℕ) (line : List ℕ) : Type 0 where
-  pub few : held ≤ most_kept
-  pub room : length line ≡ most_kept
+abbrev pub carried_of : Session → Carried
+carried_of s = record { left = left_of s; begun = take s.held s.line }
 
 -- how many bytes a read gave: none where it failed
 abbrev pub count_of : {E : Type 0} → Result ℕ E → ℕ

@@ -2,4 +2,4 @@
 use Rattle.hulmeide.proofs.handle.Goals as goal
 
 pub returns : goal.returns
-returns c = c.call-called.ensures
+returns c = rw (c.from.ensures, c.number_in.ensures) c.call-called.ensures
