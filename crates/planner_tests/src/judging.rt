@@ -1,40 +1,19 @@
-// The judge on a run, and one line of report.
-use crate::printing::{print, print_count};
-use crate::text::numbers;
-use judge::Verdict;
-use planner::Planner;
+// The judge on a run, and one line of report: the step, and yes, no or the number of the refusal.
+use crate::script::Test;
+use crate::text::{MOST_NUMBERS, numbers};
 use std::io;
 use std::io::Write;
 
-// Yes, no, or the number of the refusal.
-fn print_verdict(report: &mut impl Write, verdict: Verdict) -> io::Result<()> {
-    match verdict {
-        Verdict::Yes => print(report, b": yes\n"),
-        Verdict::No => print(report, b": no\n"),
-        _ => {
-            print_count(report, b": ", verdict.number() as usize)?;
-            print(report, b"\n")
+impl<W: Write> Test<'_, W> {
+    // `judge 1 2 0 ..`: a run.
+    pub(crate) fn judge(&mut self, line: &[u8], rest: &[u8]) -> io::Result<()> {
+        let mut room = [0; MOST_NUMBERS];
+        let verdict = self.planner.judge(numbers(rest, &mut room));
+        self.report.write_all(line)?;
+        match verdict {
+            Ok(true) => self.report.write_all(b": yes\n"),
+            Ok(false) => self.report.write_all(b": no\n"),
+            Err(refusal) => writeln!(self.report, ": {}", u8::from(refusal)),
         }
     }
-}
-
-// The verdict on the first of these figures.
-fn judge_first(
-    report: &mut impl Write,
-    p: Planner,
-    figures: &[u32],
-    count: usize,
-) -> io::Result<()> {
-    if count <= figures.len() {
-        print_verdict(report, p.judge(&figures[0..count]))?;
-    }
-    Ok(())
-}
-
-// `judge 1 2 0 ..`: a run.
-pub(crate) fn judged(report: &mut impl Write, p: Planner, line: &[u8]) -> io::Result<()> {
-    print(report, line)?;
-    let run = numbers(line);
-    let figures = run.items;
-    judge_first(report, p, &figures, run.count)
 }

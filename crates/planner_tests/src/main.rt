@@ -6,25 +6,21 @@
 mod call;
 mod glass;
 mod judging;
+mod memory;
 mod portion;
-mod printing;
 mod script;
 mod switching;
 mod text;
 
-ghost use Rattle.std.specs.Prelude.{◌≡◌, ◌≤◌, IfOk, length};
+ghost use Rattle.std.specs.Prelude.{◌≤◌, IfOk, length};
 
 use std::io;
 use std::io::Read;
 
-// 131,072 zeros, for a script. The `ensures` gives only the length, which lending the array as a slice needs.
-fn script_buffer() -> [u8; 131072]
-    ensures { 131072 ≡ length result }
-{
-    [0; 131072]
-}
+// The room for a script.
+const SCRIPT_BYTES: usize = 131072;
 
-// Reads until the buffer is full or the input ends, and returns how many bytes were read.
+// Reads until the buffer is full or the input ends, and returns how many bytes were read. Where the next read begins is what the last one gave.
 fn read_full(input: &mut impl Read, buffer: &mut [u8]) -> io::Result<usize>
     ensures { IfOk result (λ count. count ≤ length buffer.new) }
 {
@@ -32,15 +28,15 @@ fn read_full(input: &mut impl Read, buffer: &mut [u8]) -> io::Result<usize>
     while count < buffer.len() {
         let n = input.read(&mut buffer[count..])?;
         if n == 0 {
-            return Ok(count);
+            break;
         }
-        count = count + n;
+        count += n;
     }
     Ok(count)
 }
 
 fn main(rt: HostRuntime) -> io::Result<()> {
-    let mut input = script_buffer();
+    let mut input = [0; SCRIPT_BYTES];
     let count = read_full(&mut rt.stdin(), &mut input)?;
     script::follow(&mut rt.stdout(), &input[..count])
 }

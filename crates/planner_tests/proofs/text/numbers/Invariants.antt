@@ -1,9 +1,6 @@
--- A word begins inside the text, and the measure is what is left of it.
-use Rattle.std.proofs.Common.{length, ◌-◌, ◌≤◌}
+-- There is a place for each number that was found, and the measure is what is left of the text.
+use Rattle.std.proofs.Common.{length, ◌≤◌}
 use Rattle.planner_tests.proofs.text.numbers.Given as goal
 
-abbrev pub invariant-loop-at : goal.invariant-loop-at
-invariant-loop-at l = l.at ≤ length l.text
-
-abbrev pub decreases-loop-at : goal.decreases-loop-at
-decreases-loop-at l = length l.text - l.at
+abbrev pub invariant-loop-found : goal.invariant-loop-found
+invariant-loop-found l = l.count ≤ length l.room
