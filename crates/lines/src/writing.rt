@@ -42,9 +42,10 @@ impl Writer<'_> {
         requires { HasRoom self.old (decimal n) }
         ensures { Writes self.old self.new (decimal n) }
     {
-        if 10 <= n {
-            self.put_decimal(n / 10);
+        if n < 10 {
+            return self.put(NOUGHT + (n as u8));
         }
+        self.put_decimal(n / 10);
         self.put(NOUGHT + ((n % 10) as u8));
     }
 

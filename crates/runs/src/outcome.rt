@@ -80,8 +80,8 @@ impl RunRange {
 
 impl Run {
     // Are the figures of the first n loads in range?
-    fn figures_keep(self, range: RunRange, n: usize) -> bool
-        ensures { result ≡ figures_keep range self n }
+    fn figures_keep(&self, range: RunRange, n: usize) -> bool
+        ensures { result ≡ figures_keep range self.now n }
     {
         n <= MAX_LOADS && (0..n).all(|i| range.holds(self.entry(i)))
     }

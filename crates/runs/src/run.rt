@@ -43,9 +43,9 @@ impl Run {
     };
 
     // The entry of the load at place i.
-    pub fn entry(self, i: usize) -> Entry
+    pub fn entry(&self, i: usize) -> Entry
         requires { i < max_loads }
-        ensures { result ≡ entry_at self i }
+        ensures { result ≡ entry_at self.now i }
     {
         Entry {
             number: (i + 1) as u8,

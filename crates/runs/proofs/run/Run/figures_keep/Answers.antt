@@ -17,10 +17,10 @@ pub returns-then-n-le-MAX_LOADS : goal.returns-then-n-le-MAX_LOADS
 unfolding figures_keep
 returns-then-n-le-MAX_LOADS c =
     let a = c.args in
-    let kept : ℕ → Bool = λ i. figures_in a.range (entry_at a.self i) in
+    let kept : ℕ → Bool = λ i. figures_in a.range (entry_at a.self.now i) in
     all_from_yields_List kept _ _ _ c.all.ensures.ran (YieldsList-from_range 0 a.n a.n (cc) (omega arith)) (λ x b q k. search (rules, tests)) ∙ below-list_all kept a.n
 
 pub returns-else-n-le-MAX_LOADS : goal.returns-else-n-le-MAX_LOADS
 returns-else-n-le-MAX_LOADS c =
     let a = c.args in
-    lt-leb a.n max_loads c.if-n-le-MAX_LOADS.false ∙ sym (past-places a.range a.self a.n (search rules) c.if-n-le-MAX_LOADS.false)
+    lt-leb a.n max_loads c.if-n-le-MAX_LOADS.false ∙ sym (past-places a.range a.self.now a.n (search rules) c.if-n-le-MAX_LOADS.false)
