@@ -67,7 +67,8 @@ fn lift_step(strip: &mut [u32], from: usize, cells: &[u32], first: usize, c: usi
 // A chain over chunks would have its count made an allowance again.
 fn passed(cells: &[u32], from: usize, last: u32, stride: usize) -> usize
     requires { (from ≤ length cells.now) × (0 < stride) }
-    ensures { Passed (cells_in cells.now) last from (length cells.now) result }
+    ensures over { Passed (cells_in cells.now) last from (length cells.now) result }
+    ensures far { stride ≤ length cells.now - result → cells_in cells.now (result + (stride - 1)) ≡ last → ⊥ }
 {
     let mut c = from;
     while stride <= cells.len() - c {

@@ -10,6 +10,6 @@ pub returns : goal.returns
 returns c =
     let s = c.args in
     let f = cells_in s.cells.now in
-    step-found f s.last _ _ (passed_then c.passed-far.ensures c.passed-near.ensures) c.find.result
+    step-found f s.last _ _ (passed_then c.passed-far.ensures.over c.passed-near.ensures.over) c.find.result
     (first_from_Range _ _ _ c.find.result (λ a. f a ≡ s.last → ⊥) (λ a. f a ≡ s.last) c.find.ensures.ran
     (λ x q k. search (rules, tests)) (λ x q k. search (rules, tests)))
