@@ -1,14 +1,15 @@
 -- Two pages row by row: how rows are compared, and where the stretch lies. Assumes nothing.
 use Prim.Native.Nat.{ℕ, zero, suc, ◌+◌, ◌*◌, ◌-◌, ◌≤◌, ◌<◌, zero-le}
-use mathlib.Core.Path.{◌≡◌, refl, sym, ap, ◌∙◌}
+use mathlib.Core.Path.{◌≡◌, refl, sym, ◌∙◌}
 use mathlib.Core.Bool.{Bool, true, false, ◌&&◌, ◌||◌, not}
 use mathlib.Core.List.{List, [], ◌∷◌}
 use native.Mathlib.Omega.{arith}
 use borrow.Author.Tests.{eqb-true, not-true, not-false}
 use lib.Dec.{eqb}
-use lib.Pointwise.{pointwise}
-use lib.ListN.{length, take, drop, take-append-drop, drop_of_length-le}
-use lib.Seq.{take-add, drop-drop}
+use lib.ListN.{length, take, drop, length-drop, take-append-drop, drop_of_length-le}
+use lib.Seq.{take-add, drop-drop, length-take-le}
+use Rattle.std.specs.List.{fold, zip}
+use Rattle.std.proofs.Math.Bool.{and_assoc, and-true}
 use Rattle.lists.specs.Tests.{pick}
 use Rattle.lists.proofs.Bools.{or_left, or_right}
 use Rattle.lines.specs.Text.{same}
@@ -19,13 +20,20 @@ use Rattle.page.specs.Rows.{row_count, row_bytes, page_bytes}
 use Rattle.page.specs.Stretch.{row_at, differs, passing, no_rows, is_page, differing, place}
 use Rattle.page.proofs.Rowwise.{passing-fits}
 
--- ---- bytes, as the library compares them
-pub same-bytes : (a b : List ℕ) → pointwise eqb a b ≡ same a b
+-- ---- a row, as the code compares it: pair by pair
+pub length-row_at : (s : List ℕ) (r : ℕ) → r * row_bytes + row_bytes ≤ length s → length (row_at s r) ≡ row_bytes
+unfolding row_at
+length-row_at s r h = length-take-le row_bytes (drop (r * row_bytes) s) (omega (arith, length-drop (r * row_bytes) s))
+
+abbrev pub and_same : Bool → ℕ × ℕ → Bool
+and_same t p = t && eqb p.0 p.1
+
+pub pairs_same : (t : Bool) (a b : List ℕ) → length a ≡ length b → fold and_same t (zip a b) ≡ t && same a b
 unfolding same
-same-bytes [] [] = refl
-same-bytes [] (y ∷ b) = refl
-same-bytes (x ∷ a) [] = refl
-same-bytes (x ∷ a) (y ∷ b) = ap (λ t. eqb x y && t) (same-bytes a b)
+pairs_same t [] [] e = sym (and-true t)
+pairs_same t [] (y ∷ b) e = absurd (omega (arith, e))
+pairs_same t (x ∷ a) [] e = absurd (omega (arith, e))
+pairs_same t (x ∷ a) (y ∷ b) e = pairs_same (t && eqb x y) a b (omega (arith, e)) ∙ and_assoc t (eqb x y) (same a b)
 
 -- ---- the rows of two pages that are the same
 module _ (g d : List ℕ) where

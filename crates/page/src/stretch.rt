@@ -28,7 +28,11 @@ fn same_row(glass: &[u8], drawn: &[u8], row: usize) -> bool
 {
     let start = row * ROW_BYTES;
     let end = start + ROW_BYTES;
-    glass[start..end] == drawn[start..end]
+    // With no branch between the bytes this is a few instructions. `==` on the slices would be a call.
+    glass[start..end]
+        .iter()
+        .zip(&drawn[start..end])
+        .fold(true, |same, (g, d)| same & (g == d))
 }
 
 // The rows from the first in which they differ to the last; none where either is no page.
