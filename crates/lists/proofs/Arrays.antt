@@ -1,12 +1,15 @@
 -- A list in an array: its length, and what appending, setting one, reading and taking back do. Assumes nothing.
-use Prim.Native.Nat.{ℕ, zero, suc, ◌+◌, ◌≤◌, ◌<◌, zero-le, suc-le-suc}
+use Prim.Native.Nat.{ℕ, zero, suc, ◌+◌, ◌-◌, ◌≤◌, ◌<◌, min, zero-le, suc-le-suc}
 use mathlib.Core.Path.{◌≡◌, refl, sym, ap, ap₂, ◌∙◌}
 use mathlib.Core.List.{List, [], ◌∷◌, ◌++◌, map}
+use mathlib.Core.Logic.{◌⊎◌, inl, inr}
 use native.Mathlib.Nat.{le_of_suc-le-suc, not-suc-le-zero}
 use native.Mathlib.Numerals.{add-one}
 use native.Mathlib.Omega.{arith}
-use lib.ListN.{length, take, drop, get_or, set, length-map, length-append}
+use lib.ListN.{length, take, drop, get_or, set, length-map, length-append, length-take}
+use Rattle.std.proofs.lemmas.List.{drop-take, take_all, drop_all}
 use Rattle.lists.specs.Arrays.{laid, rest}
+use Rattle.lists.proofs.Bools.{below_or}
 
 -- the length of an array of structs that is a struct's field, from what owning the struct tells: `search (needs, of_map)`
 pub of_map : (X Y : Type 0) (f : X → Y) (l : List X) (n : ℕ) → length (map f l) ≡ n → length l ≡ n
@@ -44,6 +47,25 @@ module _ {A : Type 0} where
 
   pub rest-cons : (d : A) (xs : List A) (n i : ℕ) → i < n → i < length xs → rest xs n i ≡ get_or xs i d ∷ rest xs n (i + 1)
   rest-cons d xs n i h l = rw add-one (rest-suc d xs n i h l)
+
+  -- ---- a part of an array whose ends are held inside it is what is left of a prefix
+  take-held : (xs : List A) (n e : ℕ) → e ≡ min n (length xs) → take e xs ≡ take n xs
+  take-held xs n e h = go (below_or n (length xs))
+    where
+      go : (n < length xs) ⊎ (length xs ≤ n) → take e xs ≡ take n xs
+      go (inl l) = let same : e ≡ n = omega (arith, h) in rw same
+      go (inr l) = take_all e xs (omega (arith, h)) ∙ sym (take_all n xs l)
+
+  pub rest-held : (xs : List A) (n i e s : ℕ) → e ≡ min n (length xs) → s ≡ min i e → take (e - s) (drop s xs) ≡ rest xs n i
+  unfolding rest
+  rest-held xs n i e s h g = sym (drop-take s (e - s) xs) ∙ (ap (λ m. drop s (take m xs)) whole ∙ (ap (drop s) (take-held xs n e h) ∙ go (below_or i e)))
+    where
+      whole : s + (e - s) ≡ e
+      whole = omega (arith, g)
+
+      go : (i < e) ⊎ (e ≤ i) → drop s (take n xs) ≡ drop i (take n xs)
+      go (inl l) = let same : s ≡ i = omega (arith, g) in rw same
+      go (inr l) = drop_all s (take n xs) (omega (arith, g, h, length-take n xs)) ∙ sym (drop_all i (take n xs) (omega (arith, h, length-take n xs)))
 
   -- ---- what holds of each element, and of d, holds at every place
   pub at_every : (P : ℕ → A → Type 0) (d : A) (xs : List A) → ((i : ℕ) → P i d) → ((i : ℕ) → i < length xs → P i (get_or xs i d)) → (i : ℕ) → P i (get_or xs i d)

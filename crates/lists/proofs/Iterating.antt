@@ -2,7 +2,7 @@
 -- lemmas/Iterator, and that the closure computes the test. Assumes nothing.
 use Prim.Native.Nat.{ℕ, zero, suc, ◌+◌, ◌<◌}
 use mathlib.Core.Path.{sym, ap, ap₂, ◌≡◌, refl, ◌∙◌}
-use mathlib.Core.Bool.{Bool, true, false, ◌&&◌, cond}
+use mathlib.Core.Bool.{Bool, true, false, ◌&&◌, ◌||◌, cond}
 use mathlib.Core.List.{List, [], ◌∷◌}
 use native.Mathlib.Numerals.{add-one}
 use lib.ListN.{length, get_or}
@@ -10,10 +10,11 @@ use native.Mathlib.Omega.{arith}
 use denote.Param.Members.{Mut}
 use Rattle.std.specs.Prelude.{Option, Some}
 use Rattle.std.specs.Fn.{Called}
-use Rattle.std.specs.Iterator.{YieldsThen}
+use Rattle.std.specs.Iterator.{YieldsThen, Drains}
 use Rattle.std.specs.Option.{MatchOption, unwrap_or}
-use Rattle.std.specs.List.{FoldsTo, list_any, list_all, range_with_len, enumerate_from, find}
+use Rattle.std.specs.List.{FoldsTo, fold, list_any, list_all, range_with_len, enumerate_from, find}
 use Rattle.std.proofs.lemmas.Iterator.{YieldsList}
+use Rattle.std.proofs.lemmas.Iterator.Consumers.{fold_from_yields_List}
 use Rattle.std.proofs.lemmas.Iterator.Search.{any_from_yields_List, all_from_yields_List}
 use Rattle.lists.specs.Tests.{some, every, every_from, first_from, all_below, pick}
 
@@ -28,6 +29,17 @@ module _ {A : Type 0} where
   every-list_all p [] = refl
   every-list_all p (x ∷ xs) = rw (every-list_all p xs)
 
+  -- a fold that keeps whether some element has passed
+  some-after : (p : A → Bool) (b : Bool) (xs : List A) → fold (λ found x. found || p x) b xs ≡ b || some p xs
+  unfolding some
+  some-after p true [] = refl
+  some-after p false [] = refl
+  some-after p true (x ∷ xs) = some-after p true xs
+  some-after p false (x ∷ xs) = some-after p (p x) xs
+
+  pub some-fold : (p : A → Bool) (xs : List A) → fold (λ found x. found || p x) false xs ≡ some p xs
+  some-fold p xs = some-after p false xs
+
 module _ {S A B F : Type 0} {steps : S → Option A → S → Type 0} {v : A → B} {g : Mut F (A × Unit {0}) Bool} {s : S} {all : List B} (test : B → Bool) (u : S) (f : F) (r : Bool) where
   pub some-from_any : (xs : List A) × (o : Option A) × (j : F) × YieldsThen steps s xs o u × FoldsTo (λ p x q. Called g p (x, tt) false q) f xs j × MatchOption o (r ≡ false) (λ x. (r ≡ true) × ((h : F) × Called g j (x, tt) true h))
       → YieldsList steps v s all → ((x : A) (b : Bool) (q : F) → Called g f (x, tt) b q → (q ≡ f) × (b ≡ test (v x))) → r ≡ some test all
@@ -36,6 +48,11 @@ module _ {S A B F : Type 0} {steps : S → Option A → S → Type 0} {v : A →
   pub every-from_all : (xs : List A) × (o : Option A) × (j : F) × YieldsThen steps s xs o u × FoldsTo (λ p x q. Called g p (x, tt) true q) f xs j × MatchOption o (r ≡ true) (λ x. (r ≡ false) × ((h : F) × Called g j (x, tt) false h))
       → YieldsList steps v s all → ((x : A) (b : Bool) (q : F) → Called g f (x, tt) b q → (q ≡ f) × (b ≡ test (v x))) → r ≡ every test all
   every-from_all ran chain k = all_from_yields_List test u f r ran chain k ∙ every-list_all test all
+
+module _ {S A B F : Type 0} {steps : S → Option A → S → Type 0} {v : A → B} {g : Mut F (Bool × (A × Unit {0})) Bool} {s : S} {all : List B} (test : B → Bool) (f : F) (r : Bool) where
+  pub some-from_fold : (xs : List A) × (q : F) × Drains steps s xs × FoldsTo {P = F × Bool} (λ a x b. Called g a.0 (a.1, (x, tt)) b.1 b.0) (f, false) xs (q, r)
+      → YieldsList steps v s all → ((a : Bool) (x : A) (b : Bool) (q : F) → Called g f (a, (x, tt)) b q → (q ≡ f) × (b ≡ a || test (v x))) → r ≡ some test all
+  some-from_fold ran chain k = fold_from_yields_List g (λ found x. found || test x) false r ran chain k ∙ some-fold test all
 
 -- ---- the numbers below a limit, and elements by their number
 and-assoc : (a b c : Bool) → a && (b && c) ≡ (a && b) && c

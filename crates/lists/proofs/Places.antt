@@ -1,7 +1,7 @@
 -- A test of all places is a test of the list laid out there, and of the places that are not in use. Assumes nothing.
-use Prim.Native.Nat.{ℕ, zero, suc, ◌≤◌, ◌<◌}
-use mathlib.Core.Path.{◌≡◌, refl, ◌∙◌}
-use mathlib.Core.Bool.{Bool, true, false, ◌&&◌}
+use Prim.Native.Nat.{ℕ, zero, suc, ◌+◌, ◌≤◌, ◌<◌}
+use mathlib.Core.Path.{◌≡◌, refl, sym, ap, ap₂, ◌∙◌}
+use mathlib.Core.Bool.{Bool, true, false, ◌&&◌, not}
 use mathlib.Core.List.{List, [], ◌∷◌, ◌++◌}
 use mathlib.Core.Logic.{◌⊎◌, inl, inr}
 use native.Mathlib.Numerals.{add-one}
@@ -9,11 +9,12 @@ use native.Mathlib.Omega.{arith}
 use borrow.Author.Tests.{leb-true, le-leb, lt-ltb, le-ltb, not-true}
 use lib.Dec.{leb}
 use lib.ListN.{length, get_or, take, drop, length-take}
-use lib.Seq.{get_or-take}
+use lib.Seq.{get_or-take, drop-drop}
+use Rattle.std.specs.List.{list_all, enumerate_from}
 use Rattle.lists.specs.Tests.{some, every, every_from, distinct, all_below}
 use Rattle.lists.specs.Arrays.{laid, rest}
 use Rattle.lists.specs.Places.{place, places, rest_free, alone, limited}
-use Rattle.lists.proofs.Bools.{and_left, and_right, and-true, or-false, same_test, below_or}
+use Rattle.lists.proofs.Bools.{and_left, and_right, and-true, and-false, or-false, same_test, below_or}
 use Rattle.lists.proofs.Tests.{every-at, every_drop, drop-every, every-snoc, distinct-at, distinct_from, distinct_snoc, from_each, from_at, below_at, below_all}
 use Rattle.lists.proofs.Arrays.{laid-take, length-snoc}
 
@@ -162,6 +163,50 @@ module _ {A : Type 0} (d : A) (z : A → Bool) (n k : ℕ) (xs : List A) (e : le
           let l = taken-length few in
           let q = and_right (leb (length (take k xs)) n) (every_from fit 1 (take k xs)) h in
           below_all (λ i. fit (suc i) (get_or xs i d)) k (λ i b. rw (← (taken_at few i b)) (from_at d fit 1 (take k xs) q i (omega arith) (suc i) (omega arith)))
+
+-- ---- the same tests one after the other, as code makes them: of the count, of the list in use, of the places not in use
+free-last : (p z : Bool) → z && p ≡ p && z
+free-last true true = refl
+free-last true false = refl
+free-last false z = and-false z
+
+module _ {A : Type 0} (z : A → Bool) (n k : ℕ) (xs : List A) where
+  -- a list in use is as short as its count
+  few-taken : leb k n ≡ true → leb (length (take k xs)) n ≡ true
+  few-taken h = le-leb (length (take k xs)) n (omega (arith, leb-true k n h, length-take k xs))
+
+  pub limited_tested : (fit : A → Bool) (same : A → A → Bool)
+      → rest_free z n k xs && limited fit same n (take k xs) ≡ leb k n && every fit (take k xs) && distinct same (take k xs) && every z (drop k xs)
+  unfolding limited
+  limited_tested fit same = go (leb k n) refl
+    where
+      test : Bool
+      test = every fit (take k xs) && distinct same (take k xs)
+
+      go : (b : Bool) → leb k n ≡ b → rest_free z n k xs && limited fit same n (take k xs) ≡ b && every fit (take k xs) && distinct same (take k xs) && every z (drop k xs)
+      go true e = rw (e, few-taken e) (free-last test (every z (drop k xs)))
+      go false e = rw e
+
+  pub numbered_tested : (fit : ℕ → A → Bool)
+      → rest_free z n k xs && (leb (length (take k xs)) n && every_from fit 1 (take k xs)) ≡ leb k n && every_from fit 1 (take k xs) && every z (drop k xs)
+  numbered_tested fit = go (leb k n) refl
+    where
+      go : (b : Bool) → leb k n ≡ b
+          → rest_free z n k xs && (leb (length (take k xs)) n && every_from fit 1 (take k xs)) ≡ b && every_from fit 1 (take k xs) && every z (drop k xs)
+      go true e = rw (e, few-taken e) (free-last (every_from fit 1 (take k xs)) (every z (drop k xs)))
+      go false e = rw e
+
+-- no element is there twice: none of those further on is the same
+module _ {A : Type 0} (r : A → A → Bool) where
+  later-distinct : (all : List A) (j : ℕ) (xs : List A) → drop j all ≡ xs → list_all (λ y. not (some (r y.1) (drop (y.0 + 1) all))) (enumerate_from j xs) ≡ distinct r xs
+  unfolding distinct
+  later-distinct all j [] h = refl
+  later-distinct all j (x ∷ xs) h =
+      let after : drop (j + 1) all ≡ xs = sym (drop-drop 1 j all) ∙ ap (drop 1) h in
+      ap₂ ◌&&◌ (ap (λ ys. not (some (r x) ys)) after) (later-distinct all (j + 1) xs after)
+
+  pub is-distinct : (xs : List A) → list_all (λ y. not (some (r y.1) (drop (y.0 + 1) xs))) (enumerate_from 0 xs) ≡ distinct r xs
+  is-distinct xs = later-distinct xs 0 xs refl
 
 -- ---- an array is a list laid out exactly if its unused places pass
 module _ {A : Type 0} (d : A) (z : A → Bool) (pass : z d ≡ true) (only : (a : A) → z a ≡ true → a ≡ d) where

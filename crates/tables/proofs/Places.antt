@@ -1,16 +1,13 @@
 -- The test place by place and part by part, as the code goes, is the test of the limits. Assumes nothing.
-use Prim.Native.Nat.{ℕ, zero, suc, ◌+◌, ◌≤◌}
-use mathlib.Core.Path.{◌≡◌, refl, sym, ap, ap₂, ◌∙◌}
-use mathlib.Core.Bool.{Bool, true, false, ◌&&◌, ◌||◌, not}
-use mathlib.Core.List.{List, [], ◌∷◌}
+use Prim.Native.Nat.{ℕ, zero, suc, ◌≤◌}
+use mathlib.Core.Path.{◌≡◌, refl, sym}
+use mathlib.Core.Bool.{Bool, true, false, ◌&&◌, ◌||◌}
+use Rattle.lists.proofs.Places.{limited_tested, numbered_tested}
 use native.Mathlib.Omega.{arith}
 use borrow.Author.Tests.{ne_eqb, leb-true, le-leb, ltb-true, lt-ltb, le-ltb}
 use lib.Dec.{eqb, leb, ltb}
-use lib.ListN.{length, take, drop, length-take}
-use lib.Seq.{drop-drop}
-use Rattle.std.specs.List.{list_all, enumerate_from}
-use Rattle.lists.specs.Tests.{some, every, every_from, distinct}
-use Rattle.lists.specs.Places.{limited}
+use lib.ListN.{drop}
+use Rattle.lists.specs.Tests.{every, every_from, distinct}
 use Rattle.lists.proofs.Bools.{and-false, same_test}
 use Rattle.tables.specs.declared.rule.RuleRange.{RuleRange}
 use Rattle.tables.specs.declared.rule.Sort.TheVariants as sort
@@ -22,10 +19,6 @@ use Rattle.tables.specs.Tables.{Sort, Load}
 use Rattle.tables.specs.Limits.{size_in, marks_in, rule_in, same_rule, rule_range, rules_in, max_rules, sort_in, book_in, parent_in, max_power, max_worth, max_kind, load_in, most_places, loads_in, budget_in, limits}
 use Rattle.tables.specs.Stored.{held_size, held_marks, held_rules, rules_of, loads_of, places_of, book_of, tables_of, zero_rule, zero_load, rules_free, loads_free, keeps_limits}
 use Rattle.tables.specs.Places.{rules_held, loads_held, sort_held, book_held}
-
-and_yes : (a : Bool) → a && true ≡ a
-and_yes true = refl
-and_yes false = refl
 
 -- ---- a load: the root has parent 0, a later load a smaller number
 below_suc : (a n : ℕ) → ltb a (suc n) ≡ leb a n
@@ -46,42 +39,14 @@ unfolding load_in
 load-range k l = rw (parent-in k l.parent)
 
 -- ---- lists
-few-taken : {A : Type 0} (k n : ℕ) (xs : List A) → k ≤ n → leb (length (take k xs)) n ≡ true
-few-taken k n xs h = le-leb _ _ (omega (arith, length-take k xs))
-
--- no rule is there twice: none of those further on is the same
-later-distinct : {A : Type 0} (r : A → A → Bool) (all : List A) (j : ℕ) (xs : List A) → drop j all ≡ xs
-    → list_all (λ y. not (some (r y.1) (drop (y.0 + 1) all))) (enumerate_from j xs) ≡ distinct r xs
-unfolding distinct
-later-distinct r all j [] h = refl
-later-distinct r all j (x ∷ xs) h =
-    let after : drop (j + 1) all ≡ xs = sym (drop-drop 1 j all) ∙ ap (drop 1) h in
-    ap₂ ◌&&◌ (ap (λ ys. not (some (r x) ys)) after) (later-distinct r all (j + 1) xs after)
-
-pub is-distinct : {A : Type 0} (r : A → A → Bool) (xs : List A) → list_all (λ y. not (some (r y.1) (drop (y.0 + 1) xs))) (enumerate_from 0 xs) ≡ distinct r xs
-is-distinct r xs = later-distinct r xs 0 xs refl
-
-free-last : (p z : Bool) → z && p ≡ p && z
-free-last false z = and-false z
-free-last true z = and_yes z
-
 pub rules_tested : (m : RuleRange) (l : TransitionList)
     → rules_held m l ≡ (leb l.count max_rules && every (rule_in m) (rules_of l) && distinct same_rule (rules_of l) && every zero_rule (drop l.count l.items))
-unfolding rules_held limited
-rules_tested m l = go (leb l.count max_rules) refl
-  where
-    go : (b : Bool) → leb l.count max_rules ≡ b
-        → rules_held m l ≡ (b && every (rule_in m) (rules_of l) && distinct same_rule (rules_of l) && every zero_rule (drop l.count l.items))
-    go true e = rw (e, few-taken l.count max_rules l.items (leb-true l.count max_rules e)) (free-last (every (rule_in m) (rules_of l) && distinct same_rule (rules_of l)) _)
-    go false e = rw e
+unfolding rules_held
+rules_tested m l = limited_tested zero_rule max_rules l.count l.items (rule_in m) same_rule
 
 pub loads_tested : (l : LoadList) → loads_held l ≡ (leb l.count (places_of l) && every_from load_in 1 (loads_of l) && every zero_load (drop l.count l.items))
 unfolding loads_held loads_in
-loads_tested l = go (leb l.count (places_of l)) refl
-  where
-    go : (b : Bool) → leb l.count (places_of l) ≡ b → loads_held l ≡ (b && every_from load_in 1 (loads_of l) && every zero_load (drop l.count l.items))
-    go true e = rw (e, few-taken l.count (places_of l) l.items (leb-true l.count (places_of l) e)) (free-last (every_from load_in 1 (loads_of l)) _)
-    go false e = rw e
+loads_tested l = numbered_tested zero_load (places_of l) l.count l.items load_in
 
 -- ---- the book, and the tables
 sort-order : (a r x : Bool) → a && (r && x) ≡ r && (a && x)

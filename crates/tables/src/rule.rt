@@ -58,6 +58,14 @@ impl Transition {
         to: 0,
         kind: 0,
     };
+
+    // Is it the rule u? Without branches, so that many are compared at once.
+    #[tactic(auto, unfolding(crate::specs::Limits::same_rule))]
+    fn same(self, u: Transition) -> bool
+        ensures { result ≡ same_rule self u }
+    {
+        (self.from == u.from) & (self.label == u.label) & (self.to == u.to) & (self.kind == u.kind)
+    }
 }
 
 impl RuleRange {
@@ -101,15 +109,14 @@ impl TransitionList {
         count: 0,
     };
 
-    // Is the rule t in the list, from place `start` on?
+    // Is the rule t in the list, from place `start` on? It looks at each place to the end: without branches that is quicker than to stop where it is.
     pub(crate) fn found_from(&self, t: Transition, start: usize) -> bool
         ensures { result ≡ some (same_rule t) (rest self.now.items self.now.count start) }
     {
-        self.items
+        let end = self.count.min(MAX_RULES);
+        self.items[start.min(end)..end]
             .iter()
-            .take(self.count)
-            .skip(start)
-            .any(|u| t == *u)
+            .fold(false, |found, u| found | t.same(*u))
     }
 
     // Has some rule a kind other than 0?

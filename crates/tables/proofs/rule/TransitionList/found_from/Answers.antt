@@ -1,14 +1,17 @@
 -- `TransitionList::found_from` meets its contract. Assumes nothing.
+use mathlib.Core.Path.{◌≡◌, ◌∙◌}
+use lib.ListN.{length}
 use Rattle.std.proofs.Common.{rules, tests}
-use Rattle.std.proofs.lemmas.Iterator.{YieldsList-from_slice, YieldsList-from_take}
-use Rattle.std.proofs.lemmas.Iterator.Adapters.{YieldsList-from_skip}
-use Rattle.lists.specs.Arrays.{rest}
-use Rattle.lists.proofs.Iterating.{some-from_any}
-use Rattle.tables.specs.Limits.{same_rule}
+use Rattle.std.proofs.lemmas.Iterator.{YieldsList-from_slice}
+use Rattle.lists.proofs.Arrays.{rest-held, of_map}
+use Rattle.lists.proofs.Iterating.{some-from_fold}
+use Rattle.tables.specs.Limits.{same_rule, max_rules}
 use Rattle.tables.proofs.rule.TransitionList.found_from.Goals as goal
 
 pub returns : goal.returns
-unfolding rest same_rule
 returns c =
     let a = c.args in
-    some-from_any (same_rule a.t) _ _ _ c.any.ensures.ran (YieldsList-from_skip a.start (YieldsList-from_take a.self.now.count (YieldsList-from_slice a.self.now.items cc) cc) cc) (λ x b q k. search (rules, tests))
+    let l = a.self.now in
+    let long : length l.items ≡ max_rules = search (rules, of_map) in
+    let part = rest-held l.items l.count a.start c.min-end.result c.min.result (rw long c.min-end.ensures) c.min.ensures in
+    some-from_fold (same_rule a.t) _ c.fold.result c.fold.ensures.ran (YieldsList-from_slice _ (c.iter.ensures.rest ∙ part)) (λ b x r q k. search (rules, tests))

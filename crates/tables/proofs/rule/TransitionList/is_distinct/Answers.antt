@@ -9,9 +9,9 @@ use Rattle.std.proofs.lemmas.Iterator.Consumers.{YieldsList-from_enumerate}
 use Rattle.std.proofs.lemmas.Iterator.Search.{all_from_yields_List}
 use Rattle.lists.specs.Tests.{some}
 use Rattle.lists.specs.Arrays.{rest}
+use Rattle.lists.proofs.Places.{is-distinct}
 use Rattle.tables.specs.Limits.{same_rule}
 use Rattle.tables.specs.Stored.{rules_of}
-use Rattle.tables.proofs.Places.{is-distinct}
 use Rattle.tables.proofs.rule.TransitionList.is_distinct.Goals as goal
 
 pub returns : goal.returns
