@@ -1,20 +1,16 @@
 -- A writer's texts: one after another, and a loop that writes a text. Assumes nothing.
-use Prim.Native.Nat.{ℕ, zero, suc, ◌+◌, ◌-◌, ◌≤◌, ◌<◌}
-use mathlib.Core.Path.{◌≡◌, refl, sym, ap, ◌∙◌}
-use mathlib.Core.Bool.{Bool, true, false}
+use Prim.Native.Nat.{ℕ, ◌+◌, ◌-◌, ◌≤◌, ◌<◌}
+use mathlib.Core.Path.{◌≡◌, refl, sym, ◌∙◌}
 use mathlib.Core.List.{List, [], ◌++◌, append_assoc}
-use native.Mathlib.Numerals.{add-one}
 use native.Mathlib.Omega.{arith}
-use borrow.Author.Tests.{eqb-true, eqb-false}
 use borrow.Rule.Slice.PartMut.{put_mid}
-use lib.Dec.{eqb}
 use lib.ListN.{length, take, drop, length-append}
 use lib.Seq.{sets}
 use Rattle.std.proofs.lemmas.List.{drop-drop}
 use Rattle.std.proofs.lemmas.List.Edits.{sets-eq}
 use Rattle.lines.specs.declared.writing.Writer.{Writer}
 use Rattle.lines.specs.Writing.{HasRoom, Writes}
-use Rattle.lines.proofs.Wrote.{wrote_none, wrote_then, wrote-length}
+use Rattle.lines.proofs.Wrote.{wrote_none, wrote_then, wrote-length, part_room}
 
 -- what `copy_from_slice` leaves
 pub copied : (l t : List ℕ) (at : ℕ) → at + length t ≤ length l → put_mid at (at + length t - at) l t ≡ sets l at t
@@ -38,20 +34,9 @@ room_then {v} {w} {a} {b} p h = record { fits = omega (arith, h.fits, length-app
 
 -- ---- a loop that writes a text, a part p i a turn: T i is written before turn i
 module _ (T p : ℕ → List ℕ) (n : ℕ) (next : (i : ℕ) → i < n → T (i + 1) ≡ T i ++ p i) where
-  upto : (m : ℕ) → m ≤ n → (i : ℕ) → i < m → length (T i) + length (p i) ≤ length (T m)
-  upto zero h i l = absurd (omega arith)
-  upto (suc m) h i l = go (eqb i m) refl (upto m (omega arith) i)
-    where
-      more : length (T (suc m)) ≡ length (T m) + length (p m)
-      more = rw add-one at (ap length (next m (omega arith)) ∙ length-append (T m) (p m))
-
-      go : (b : Bool) → eqb i m ≡ b → (i < m → length (T i) + length (p i) ≤ length (T m)) → length (T i) + length (p i) ≤ length (T (suc m))
-      go true e ih = rw (eqb-true i m e) (omega (arith, more))
-      go false e ih = omega (arith, more, ih (omega (arith, eqb-false i m e)))
-
   -- there is room for the part of a turn where there is room for the whole
   pub turn_room : {v w : Writer} (i : ℕ) → i < n → Writes v w (T i) → HasRoom v (T n) → HasRoom w (p i)
-  turn_room i h q room = record { fits = omega (arith, room.fits, upto n (omega arith) i h, q.wrote.end, wrote-length q.wrote) }
+  turn_room i h q room = record { fits = part_room T p n next i h q.wrote room.fits }
 
   pub turn_more : {u v w : Writer} (i : ℕ) → i < n → Writes u v (T i) → Writes v w (p i) → Writes u w (T (i + 1))
   turn_more i h q r = rw (next i h) (writes_then q r)

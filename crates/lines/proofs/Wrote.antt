@@ -1,9 +1,13 @@
--- Runs of writes: one after another, and the free part lent on. Assumes nothing.
-use Prim.Native.Nat.{ℕ, zero, suc, ◌+◌, ◌-◌, ◌≤◌}
+-- Runs of writes: one after another, a loop that writes a text, and the free part lent on. Assumes nothing.
+use Prim.Native.Nat.{ℕ, zero, suc, ◌+◌, ◌-◌, ◌≤◌, ◌<◌}
 use mathlib.Core.Path.{◌≡◌, refl, sym, ap, ◌∙◌}
+use mathlib.Core.Bool.{Bool, true, false}
 use mathlib.Core.List.{List, [], ◌∷◌, ◌++◌, append-nil}
 use native.Mathlib.Nat.{add-zero, add-suc, suc-add}
+use native.Mathlib.Numerals.{add-one}
 use native.Mathlib.Omega.{arith}
+use borrow.Author.Tests.{eqb-true, eqb-false}
+use lib.Dec.{eqb}
 use lib.ListN.{length, set, take, drop, length-append, length-drop, drop_of_length-le}
 use lib.Seq.{sets, take_all, length-sets}
 use borrow.Rule.Slice.PartMut.{put_mid}
@@ -25,6 +29,30 @@ wrote_then {l} {m} {k} {at} {i} {j} {a} {b} p q = record {
 
 pub wrote-length : {l m : List ℕ} {at i : ℕ} {bytes : List ℕ} → Wrote l m at i bytes → length m ≡ length l
 wrote-length {l} {m} {at} {i} {bytes} w = ap length w.list ∙ length-sets l at bytes
+
+-- ---- a loop that writes a text, a part p i a turn: T i is written before turn i
+module _ (T p : ℕ → List ℕ) (n : ℕ) (next : (i : ℕ) → i < n → T (i + 1) ≡ T i ++ p i) where
+  part-fits : (m : ℕ) → m ≤ n → (i : ℕ) → i < m → length (T i) + length (p i) ≤ length (T m)
+  part-fits zero h i l = absurd (omega arith)
+  part-fits (suc m) h i l = go (eqb i m) refl (part-fits m (omega arith) i)
+    where
+      more : length (T (suc m)) ≡ length (T m) + length (p m)
+      more = rw add-one at (ap length (next m (omega arith)) ∙ length-append (T m) (p m))
+
+      go : (b : Bool) → eqb i m ≡ b → (i < m → length (T i) + length (p i) ≤ length (T m)) → length (T i) + length (p i) ≤ length (T (suc m))
+      go true e ih = rw (eqb-true i m e) (omega (arith, more))
+      go false e ih = omega (arith, more, ih (omega (arith, eqb-false i m e)))
+
+  -- there is room for the part of a turn where there is room for the whole
+  pub part_room : {l m : List ℕ} {at j : ℕ} (i : ℕ) → i < n → Wrote l m at j (T i) → at + length (T n) ≤ length l → j + length (p i) ≤ length m
+  part_room i h w room = omega (arith, part-fits n (omega arith) i h, w.end, wrote-length w)
+
+  pub part-more : {l m k : List ℕ} {at j j' : ℕ} (i : ℕ) → i < n → Wrote l m at j (T i) → Wrote m k j j' (p i) → Wrote l k at j' (T (i + 1))
+  part-more i h w v = rw (next i h) (wrote_then w v)
+
+  -- after the last turn the whole is written
+  pub part-all : {l m : List ℕ} {at j : ℕ} (i : ℕ) → i ≤ n → n ≤ i → Wrote l m at j (T i) → Wrote l m at j (T n)
+  part-all {l} {m} {at} {j} i a b w = let e : i ≡ n = omega arith in rw e at w
 
 -- ---- the free part of the output, lent on as `&mut out[p..]`
 sets-cons : (x : ℕ) (l : List ℕ) (k : ℕ) (vs : List ℕ) → sets (x ∷ l) (suc k) vs ≡ x ∷ sets l k vs
