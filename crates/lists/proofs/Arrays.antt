@@ -67,6 +67,13 @@ module _ {A : Type 0} where
       go (inl l) = let same : s ≡ i = omega (arith, g) in rw same
       go (inr l) = drop_all s (take n xs) (omega (arith, g, h, length-take n xs)) ∙ sym (drop_all i (take n xs) (omega (arith, h, length-take n xs)))
 
+  pub drop-held : (xs : List A) (n s : ℕ) → s ≡ min n (length xs) → drop s xs ≡ drop n xs
+  drop-held xs n s h = go (below_or n (length xs))
+    where
+      go : (n < length xs) ⊎ (length xs ≤ n) → drop s xs ≡ drop n xs
+      go (inl l) = let same : s ≡ n = omega (arith, h) in rw same
+      go (inr l) = drop_all s xs (omega (arith, h)) ∙ sym (drop_all n xs l)
+
   -- ---- what holds of each element, and of d, holds at every place
   pub at_every : (P : ℕ → A → Type 0) (d : A) (xs : List A) → ((i : ℕ) → P i d) → ((i : ℕ) → i < length xs → P i (get_or xs i d)) → (i : ℕ) → P i (get_or xs i d)
   at_every P d [] z h i = z i

@@ -40,6 +40,17 @@ module _ {A : Type 0} where
   pub some-fold : (p : A → Bool) (xs : List A) → fold (λ found x. found || p x) false xs ≡ some p xs
   some-fold p xs = some-after p false xs
 
+  -- and one that keeps whether all have
+  every-after : (p : A → Bool) (b : Bool) (xs : List A) → fold (λ kept x. kept && p x) b xs ≡ b && every p xs
+  unfolding every
+  every-after p true [] = refl
+  every-after p false [] = refl
+  every-after p true (x ∷ xs) = every-after p (p x) xs
+  every-after p false (x ∷ xs) = every-after p false xs
+
+  pub every-fold : (p : A → Bool) (xs : List A) → fold (λ kept x. kept && p x) true xs ≡ every p xs
+  every-fold p xs = every-after p true xs
+
 module _ {S A B F : Type 0} {steps : S → Option A → S → Type 0} {v : A → B} {g : Mut F (A × Unit {0}) Bool} {s : S} {all : List B} (test : B → Bool) (u : S) (f : F) (r : Bool) where
   pub some-from_any : (xs : List A) × (o : Option A) × (j : F) × YieldsThen steps s xs o u × FoldsTo (λ p x q. Called g p (x, tt) false q) f xs j × MatchOption o (r ≡ false) (λ x. (r ≡ true) × ((h : F) × Called g j (x, tt) true h))
       → YieldsList steps v s all → ((x : A) (b : Bool) (q : F) → Called g f (x, tt) b q → (q ≡ f) × (b ≡ test (v x))) → r ≡ some test all
@@ -53,6 +64,10 @@ module _ {S A B F : Type 0} {steps : S → Option A → S → Type 0} {v : A →
   pub some-from_fold : (xs : List A) × (q : F) × Drains steps s xs × FoldsTo {P = F × Bool} (λ a x b. Called g a.0 (a.1, (x, tt)) b.1 b.0) (f, false) xs (q, r)
       → YieldsList steps v s all → ((a : Bool) (x : A) (b : Bool) (q : F) → Called g f (a, (x, tt)) b q → (q ≡ f) × (b ≡ a || test (v x))) → r ≡ some test all
   some-from_fold ran chain k = fold_from_yields_List g (λ found x. found || test x) false r ran chain k ∙ some-fold test all
+
+  pub every-from_fold : (xs : List A) × (q : F) × Drains steps s xs × FoldsTo {P = F × Bool} (λ a x b. Called g a.0 (a.1, (x, tt)) b.1 b.0) (f, true) xs (q, r)
+      → YieldsList steps v s all → ((a : Bool) (x : A) (b : Bool) (q : F) → Called g f (a, (x, tt)) b q → (q ≡ f) × (b ≡ a && test (v x))) → r ≡ every test all
+  every-from_fold ran chain k = fold_from_yields_List g (λ kept x. kept && test x) true r ran chain k ∙ every-fold test all
 
 -- ---- the numbers below a limit, and elements by their number
 and-assoc : (a b c : Bool) → a && (b && c) ≡ (a && b) && c

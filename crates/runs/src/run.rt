@@ -27,11 +27,13 @@ fn mark_in(set: LoadSet, number: usize) -> u8
     u8::from(set.has(number))
 }
 
-// Do all places of a column from place n on hold 0?
+// Do all places of a column from place n on hold 0? Without branches many of them are looked at at once.
 fn zero_from(column: &[u8; MAX_LOADS], n: usize) -> bool
     ensures { result ≡ zero_from n column.now }
 {
-    column.iter().skip(n).all(|number| *number == 0)
+    column[n.min(MAX_LOADS)..]
+        .iter()
+        .fold(true, |zero, number| zero & (*number == 0))
 }
 
 impl Run {
