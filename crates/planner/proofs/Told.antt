@@ -1,4 +1,4 @@
--- What `map` leaves of a result: its refusal. Assumes nothing.
+-- What is told of a result. Assumes nothing.
 use Rattle.std.specs.Prelude.{Result, Ok, Err, MatchResult, IsOkAnd}
 use mathlib.Core.Path.{◌≡◌, refl, ap}
 use Prim.Native.Nat.{ℕ}
@@ -9,12 +9,10 @@ use Rattle.tables.specs.declared.refusal.Refusal.{Refusal}
 use Rattle.tables.specs.Refusals.{number_in}
 use Rattle.planner.specs.Decided.{need_answer}
 
--- its number stays
-pub told-number : {A B : Type 0} (r : Result A Refusal) (t : Result B Refusal) (P : A → B → Type 0) → MatchResult r (λ x. IsOkAnd t (P x)) (λ e. t ≡ Err e)
-    → number_in t ≡ number_of (numbered r)
-told-number (Ok x) (Ok y) P h = refl
-told-number (Ok x) (Err e) P h = absurd h
-told-number (Err e) t P h = ap number_in h
+-- the number told of a result is that of its answer
+pub numbers : (r : Result Answer Refusal) → number_in r ≡ number_of (numbered r)
+numbers (Ok x) = refl
+numbers (Err e) = refl
 
 -- a budget becomes the answer that names it
 pub needed_is : (r : Result ℕ Refusal) (a : Result Answer Refusal) (P : ℕ → Answer → Type 0) → MatchResult r (λ b. IsOkAnd a (P b)) (λ e. a ≡ Err e)

@@ -1,6 +1,7 @@
 // A call on a line.
 ghost use Rattle.std.specs.Prelude.{◌≡◌};
 ghost use Rattle.lines.specs.Saved.{loses};
+ghost use Rattle.tables.specs.Refusals.{number_in};
 ghost use Rattle.calls.specs.Rows.{row};
 ghost use Rattle.calls.specs.Calls.{called};
 ghost use Rattle.calls.specs.Demand1.{bytes_for};
@@ -64,6 +65,13 @@ fn save_answer(form: SaveForm, in_use: bool) -> Result<Answer, Refusal>
     Ok(Answer::Saved { form })
 }
 
+// Was a line accepted? What it was answered besides does not count.
+pub(crate) fn told(answer: Result<Answer, Refusal>) -> Result<(), Refusal>
+    ensures { number_in result ≡ number_in answer }
+{
+    answer.map(|_| ())
+}
+
 // A change shows no run.
 fn changed(c: Changed) -> Decided
     ensures { result ≡ unshown c.answer c.planner }
@@ -119,7 +127,7 @@ impl Planner {
         let count = write_answer(&mut out[place..], d.answer, d.run, self.tables);
         Called {
             planner: d.planner,
-            told: d.answer.map(|_| ()),
+            told: told(d.answer),
             count,
         }
     }

@@ -11,7 +11,7 @@ ghost use Rattle.planner.specs.Portions.{portion_of, portion_done, with_filled, 
 
 use crate::Planner;
 use crate::answers::write_answer;
-use crate::call::RUN_BYTES;
+use crate::call::{RUN_BYTES, told};
 use crate::changes::between;
 use crate::search::{cells_of, plan_answer};
 use tables::refusal::Refusal;
@@ -93,7 +93,7 @@ impl Planner {
         let count = write_answer(&mut out[place..], answer, found, tables);
         Portion {
             planner: self.with_filled(0),
-            told: answer.map(|_| ()),
+            told: told(answer),
             filled: 0,
             count,
         }

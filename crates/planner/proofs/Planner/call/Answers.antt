@@ -11,7 +11,7 @@ use Rattle.planner.specs.Decided.{Decides}
 use Rattle.planner.specs.Calls.{call_of, done_of}
 use Rattle.planner.proofs.Deciding.{line-bytes, line-decides}
 use Rattle.planner.proofs.Calling.{broken, turned, text-few, written}
-use Rattle.planner.proofs.Told.{told-number}
+use Rattle.planner.proofs.Told.{numbers}
 use Rattle.planner.proofs.Planner.call.Goals as goal
 
 pub returns-then-not-keeps_limits : goal.returns-then-not-keeps_limits
@@ -58,4 +58,4 @@ returns c =
     line-decides (state_in a.self) a.line.now c.read-command.ensures c.decide-d.ensures in
     let free : a.place + bytes_of (line_row (state_in a.self) a.line.now) ≤ length a.out.now = omega (arith, needed, c.if-out-place-2.false, c.if-out-place.false) in
     written a.self h made c.decide-d.result answered.answer free
-    _ _ _ _ (told-number _ _ _ c.map.ensures.cases) c.write_answer-count.ensures answered.work
+    _ _ _ _ (c.told.ensures ∙ numbers c.decide-d.result.answer) c.write_answer-count.ensures answered.work

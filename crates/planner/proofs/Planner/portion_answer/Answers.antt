@@ -20,7 +20,7 @@ use Rattle.planner.specs.Portions.{portion_of}
 use Rattle.planner.proofs.Commands.{load-count, few}
 use Rattle.planner.proofs.Searching.{kept}
 use Rattle.planner.proofs.Portioning.{Read, read_from, text-few, answered}
-use Rattle.planner.proofs.Told.{told-number}
+use Rattle.planner.proofs.Told.{numbers}
 use Rattle.planner.proofs.Planner.portion_answer.Goals as goal
 
 -- the call on `plan` that it answers
@@ -62,5 +62,5 @@ returns c =
       planner = c.with_filled.ensures;
       filled = refl;
       answers = answered p h found read (plan_call made) (plan-made p h c.requires.lawful.1 made c.requires.run_bytes_in_bounds.0 c.requires.run_bytes_in_bounds.1)
-          c.read_all-found.ensures.read.right _ _ _ _ (told-number _ _ _ c.map.ensures.cases ∙ answer) (rw c.plan_answer-answer.ensures at c.write_answer-count.ensures) c.read_all-found.ensures.cleared;
+          c.read_all-found.ensures.read.right _ _ _ _ (c.told.ensures ∙ numbers _ ∙ answer) (rw c.plan_answer-answer.ensures at c.write_answer-count.ensures) c.read_all-found.ensures.cleared;
     }
