@@ -52,8 +52,8 @@ impl TransitionList {
     }
 
     #[tactic(auto, using(crate::proofs::Places::rules_tested))]
-    pub(crate) fn keeps_limits(self, range: RuleRange) -> bool
-        ensures { result ≡ rules_held range self }
+    pub(crate) fn keeps_limits(&self, range: RuleRange) -> bool
+        ensures { result ≡ rules_held range self.now }
     {
         self.count <= MAX_RULES && self.all_in(range) && self.is_distinct() && self.rest_is_free()
     }
@@ -82,8 +82,8 @@ impl LoadList {
     }
 
     #[tactic(auto, using(crate::proofs::Places::loads_tested))]
-    pub(crate) fn keeps_limits(self) -> bool
-        ensures { result ≡ loads_held self }
+    pub(crate) fn keeps_limits(&self) -> bool
+        ensures { result ≡ loads_held self.now }
     {
         self.count <= MAX_LOADS && self.all_in_range() && self.rest_is_free()
     }
@@ -92,8 +92,8 @@ impl LoadList {
 impl StoredBook {
     // Do the marks and the rules of this sort keep the limits?
     #[tactic(auto, using(crate::proofs::Places::sort_placed))]
-    fn sort_keeps(self, sort: Sort) -> bool
-        ensures { result ≡ sort_held sort self }
+    fn sort_keeps(&self, sort: Sort) -> bool
+        ensures { result ≡ sort_held sort self.now }
     {
         let range = RuleRange::of(sort, self.states, self.stages);
         let rules = self.rules(sort);
@@ -101,8 +101,8 @@ impl StoredBook {
     }
 
     #[tactic(auto, using(crate::proofs::Places::book_placed))]
-    pub(crate) fn keeps_limits(self) -> bool
-        ensures { result ≡ book_held self }
+    pub(crate) fn keeps_limits(&self) -> bool
+        ensures { result ≡ book_held self.now }
     {
         size_in(self.states, self.stages)
             && self.sort_keeps(Sort::Load)

@@ -58,8 +58,8 @@ impl StoredBook {
     }
 
     // The start states, or the end stages.
-    pub(crate) fn marks(self, sort: Sort) -> Marks
-        ensures { result ≡ held_marks self sort }
+    pub(crate) fn marks(&self, sort: Sort) -> Marks
+        ensures { result ≡ held_marks self.now sort }
     {
         match sort {
             Sort::Load => self.starts,
@@ -68,12 +68,12 @@ impl StoredBook {
     }
 
     // The load rules, or the row rules.
-    pub(crate) fn rules(self, sort: Sort) -> TransitionList
-        ensures { result ≡ held_rules self sort }
+    pub(crate) fn rules(&self, sort: Sort) -> &TransitionList
+        ensures { result.now ≡ held_rules self.now sort }
     {
         match sort {
-            Sort::Load => self.load_rules,
-            Sort::Row => self.row_rules,
+            Sort::Load => &self.load_rules,
+            Sort::Row => &self.row_rules,
         }
     }
 
@@ -162,7 +162,7 @@ impl StoredTables {
     pub fn add_rule(self, sort: Sort, t: Transition) -> Result<StoredTables, Refusal>
         ensures { result ≡ rule_added self sort t }
     {
-        let rules = self.book.rules(sort).append(t)?;
+        let rules = (*self.book.rules(sort)).append(t)?;
         Ok(self.with_book(self.book.with_rules(sort, rules)))
     }
 
