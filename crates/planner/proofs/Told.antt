@@ -1,4 +1,4 @@
--- What is told of a result. Assumes nothing.
+-- What is told of a result, and what `map` leaves of it: its refusal. Assumes nothing.
 use Rattle.std.specs.Prelude.{Result, Ok, Err, MatchResult, IsOkAnd}
 use mathlib.Core.Path.{◌≡◌, refl, ap}
 use Prim.Native.Nat.{ℕ}
@@ -13,6 +13,13 @@ use Rattle.planner.specs.Decided.{need_answer}
 pub numbers : (r : Result Answer Refusal) → number_in r ≡ number_of (numbered r)
 numbers (Ok x) = refl
 numbers (Err e) = refl
+
+-- `map` keeps the number, whatever it makes of the value
+pub told-number : {A B : Type 0} (r : Result A Refusal) (t : Result B Refusal) (P : A → B → Type 0) → MatchResult r (λ x. IsOkAnd t (P x)) (λ e. t ≡ Err e)
+    → number_in t ≡ number_of (numbered r)
+told-number (Ok x) (Ok y) P h = refl
+told-number (Ok x) (Err e) P h = absurd h
+told-number (Err e) t P h = ap number_in h
 
 -- a budget becomes the answer that names it
 pub needed_is : (r : Result ℕ Refusal) (a : Result Answer Refusal) (P : ℕ → Answer → Type 0) → MatchResult r (λ b. IsOkAnd a (P b)) (λ e. a ≡ Err e)
